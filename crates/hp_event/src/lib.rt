@@ -1,0 +1,19 @@
+//! Events, and the journal that they stand in.
+//!
+//! A journal is a head, which says the processors and the subsystems, and a list of events, one for
+//! each atomic step of the machine. This crate has the types of both, small lists that contracts
+//! see as lists, and `Journal`: a list that grows by `push`, with places that were promised, so
+//! that a push into a promised place takes no memory.
+#![tactic(auto)]
+
+mod event;
+mod head;
+mod journal;
+mod lists;
+#[cfg(test)]
+mod tests;
+
+pub use event::{Answer, Event, File, Form, How, Key, Op, Role};
+pub use head::{Head, Sub, Subs};
+pub use journal::{Journal, JournalError};
+pub use lists::{Keys, Name, NoMemory, Numbers};

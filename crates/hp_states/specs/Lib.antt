@@ -1,0 +1,4 @@
+pub mod Sections
+pub mod Rules
+pub mod Plans
+pub mod PlanFields

@@ -1,0 +1,27 @@
+//! States, their sections and the rules of a callback's plan.
+//!
+//! A state is a number from 0 to 200. This crate says which section a state lies in, which states
+//! are built in, where a walk may stop and where a callback may fail; and what a plan of rules
+//! answers to a call. Every limit of the project has its name here.
+//!
+//! Its contract is a set of tables, each a definition of `specs/` that a clause cites:
+//! `specs/Sections.antt` for the states, `specs/Rules.antt` for plans. No function takes memory,
+//! and none refuses anything but a ninth rule.
+#![tactic(auto)]
+
+mod limits;
+mod plan;
+mod section;
+#[cfg(test)]
+mod tests;
+
+pub use limits::{
+    AP_ONLINE, BRINGUP_CPU, EAGAIN, EBUSY, EDEADLK, EINVAL, ENOSPC, EPERM, MAX_ACTORS, MAX_CODE,
+    MAX_CPUS, MAX_EVENTS, MAX_INSTANCE, MAX_INSTANCES, MAX_JOURNAL_BYTES, MAX_NAME_LEN,
+    MAX_OPERATIONS, MAX_RULES, MAX_SCRIPT_BYTES, MAX_SEATS, MAX_SUBS, MAX_TABLE_INSTANCES, OFFLINE,
+    ONLINE, ONLINE_DYN, ONLINE_DYN_END, PREPARE_DYN, PREPARE_DYN_END, TEARDOWN_CPU,
+};
+pub use plan::{HookPlan, Rule};
+pub use section::{
+    Dir, Place, Range, Section, builtin_name, can_stop, is_ap, is_atomic, may_fail, section_of,
+};
