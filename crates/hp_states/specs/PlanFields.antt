@@ -10,7 +10,7 @@ abbrev pub from_list : List Rule → Inside
 from_list rules = record { rules = padded rules; len = length rules }
 
 len_back : (places : List Rule) (len : ℕ) → IsPadded places len → length (take len places) ≡ len
-len_back places len h = length-take-le len places (omega (arith, h.fits, h.eight))
+len_back places len h = length-take-le len places (omega (arith, h.fits, h.all))
 
 places_back : (places : List Rule) (len : ℕ) → IsPadded places len → padded (take len places) ≡ places
 places_back places len h = rw (len_back places len h, ← h.rest) (take-append-drop len places)

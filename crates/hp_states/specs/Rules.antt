@@ -10,6 +10,9 @@ pub record Site : Type 0 where
   pub inst : ℕ
   pub dir : Dir
 
+abbrev pub site_at : (cpu : ℕ) → (inst : ℕ) → Dir → Site
+site_at c i d = record { cpu = c; inst = i; dir = d }
+
 abbrev pub same_dir : Dir → Dir → Bool
 same_dir Up Up = true
 same_dir Up Down = false
@@ -21,6 +24,7 @@ abbrev pub allows : Option ℕ → ℕ → Bool
 allows None n = true
 allows (Some m) n = m == n
 
+-- a rule matches a site that has its direction and the numbers that it asks for
 abbrev pub matches : Rule → Site → Bool
 matches rule site = same_dir rule.dir site.dir && (allows rule.cpu site.cpu && allows rule.inst site.inst)
 

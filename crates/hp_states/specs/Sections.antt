@@ -1,7 +1,8 @@
 -- The sections of the state table, its built-in names, and where a callback may fail. The order of the
 -- anchors is that of `cpuhotplug.h`; the numbers, the names, the states that a walk can't stop at and
 -- where a callback may fail are this project's own.
-use Rattle.std.specs.Prelude.{ℕ, Bool, true, false, not, ◌&&◌, ◌==◌, nat_lt, nat_le, if◌then◌else◌, Option, Some, None, List, [], ◌∷◌, codes}
+use Rattle.std.specs.Prelude.{ℕ, Bool, true, false, not, ◌&&◌, ◌+◌, ◌==◌, nat_lt, nat_le, if◌then◌else◌, Option, Some, None, List, [], ◌∷◌, codes}
+use Rattle.hp_states.specs.declared.limits.TheConstants.{OFFLINE, PREPARE_DYN, PREPARE_DYN_END, BRINGUP_CPU, AP_ONLINE, TEARDOWN_CPU, ONLINE_DYN, ONLINE_DYN_END, ONLINE}
 use Rattle.hp_states.specs.declared.section.Section.{Section}
 use Rattle.hp_states.specs.declared.section.Section.TheVariants.{Prepare, Starting, Online}
 use Rattle.hp_states.specs.declared.section.Dir.{Dir}
@@ -11,35 +12,35 @@ use Rattle.hp_states.specs.declared.section.Place.TheVariants.{Forward, Back, Pa
 
 -- PREPARE is 0 to 62, STARTING is 63 to 100, ONLINE is 101 to 200
 abbrev pub section_at : (state : ℕ) → Section
-section_at s = if nat_le s 62 then Prepare else (if nat_le s 100 then Starting else Online)
+section_at s = if nat_le s BRINGUP_CPU then Prepare else (if nat_le s AP_ONLINE then Starting else Online)
 
 -- an entry at an AP state is made by the processor's own seat
 abbrev pub is_ap_state : (state : ℕ) → Bool
-is_ap_state s = nat_lt 62 s && not (s == 101)
+is_ap_state s = nat_lt BRINGUP_CPU s && not (s == TEARDOWN_CPU)
 
 abbrev pub is_atomic_state : (state : ℕ) → Bool
-is_atomic_state s = nat_lt 62 s && nat_lt s 100
+is_atomic_state s = nat_lt BRINGUP_CPU s && nat_lt s AP_ONLINE
 
 -- a processor is online at the states from 101 on
 abbrev pub is_online_state : (state : ℕ) → Bool
-is_online_state s = nat_lt 100 s
+is_online_state s = nat_lt AP_ONLINE s
 
 -- a walk can be aimed at all states but 62 to 102
 abbrev pub is_stop : (state : ℕ) → Bool
-is_stop s = not (nat_le 62 s && nat_le s 102)
+is_stop s = not (nat_le BRINGUP_CPU s && nat_le s (TEARDOWN_CPU + 1))
 
 -- the states that are named from the start
 abbrev pub builtins : List (ℕ × List ℕ)
 builtins =
-    (0, codes "offline")
-    ∷ (62, codes "cpu:bringup")
+    (OFFLINE, codes "offline")
+    ∷ (BRINGUP_CPU, codes "cpu:bringup")
     ∷ (63, codes "idle:dead")
     ∷ (64, codes "ap:offline")
-    ∷ (100, codes "ap:online")
-    ∷ (101, codes "cpu:teardown")
+    ∷ (AP_ONLINE, codes "ap:online")
+    ∷ (TEARDOWN_CPU, codes "cpu:teardown")
     ∷ (102, codes "online:idle")
     ∷ (199, codes "sched:active")
-    ∷ (200, codes "online") ∷ []
+    ∷ (ONLINE, codes "online") ∷ []
 
 -- the name that a list of numbers with names gives a number
 abbrev pub name_in : List (ℕ × List ℕ) → ℕ → Option (List ℕ)
@@ -49,12 +50,13 @@ name_in (named ∷ others) s = if s == named.0 then Some named.1 else name_in ot
 abbrev pub name_of_builtin : (state : ℕ) → Option (List ℕ)
 name_of_builtin s = name_in builtins s
 
--- a dynamic range is asked for by its first number
+-- a dynamic range is asked for by the number of its first state
 abbrev pub is_dynamic : (state : ℕ) → Bool
-is_dynamic s = if s == 41 then true else s == 141
+is_dynamic s = if s == PREPARE_DYN then true else s == ONLINE_DYN
 
+-- the last state of the range that is asked for
 abbrev pub end_of_range : (asked : ℕ) → ℕ
-end_of_range asked = if asked == 41 then 61 else 171
+end_of_range asked = if asked == PREPARE_DYN then PREPARE_DYN_END else ONLINE_DYN_END
 
 abbrev pub is_up : Dir → Bool
 is_up Up = true

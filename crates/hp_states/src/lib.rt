@@ -5,8 +5,9 @@
 //! answers to a call. Every limit of the project has its name here.
 //!
 //! Its contract is a set of tables, each a definition of `specs/` that a clause cites:
-//! `specs/Sections.antt` for the states, `specs/Rules.antt` for plans. No function takes memory,
-//! and none refuses anything but a ninth rule.
+//! `specs/Sections.antt` for the states, `specs/Rules.antt` for plans. `answer_by_counts` is the law
+//! that a plan's answers can be had from counts, one for each rule. No function takes memory, and
+//! none refuses anything but a ninth rule.
 #![tactic(auto)]
 
 mod limits;
@@ -21,7 +22,7 @@ pub use limits::{
     MAX_OPERATIONS, MAX_RULES, MAX_SCRIPT_BYTES, MAX_SEATS, MAX_SUBS, MAX_TABLE_INSTANCES, OFFLINE,
     ONLINE, ONLINE_DYN, ONLINE_DYN_END, PREPARE_DYN, PREPARE_DYN_END, TEARDOWN_CPU,
 };
-pub use plan::{HookPlan, Rule};
+pub use plan::{HookPlan, Rule, answer_by_counts};
 pub use section::{
     Dir, Place, Range, Section, builtin_name, can_stop, is_ap, is_atomic, may_fail, section_of,
 };

@@ -20,7 +20,7 @@ pub const ONLINE_DYN_END: u32 = 171;
 /// The highest state: the processor is up.
 pub const ONLINE: u32 = 200;
 
-/// Operation not permitted.
+/// Operation not permitted. The error numbers are those of Linux.
 pub const EPERM: u32 = 1;
 /// Try again.
 pub const EAGAIN: u32 = 11;

@@ -1,12 +1,14 @@
 //! The plan of a callback: the rules by which it answers.
 
-ghost use Rattle.std.specs.Prelude.{◌≡◌, ◌<◌, ◌≤◌, ◌++◌, ◌∷◌, [], length, IsTrue, ◌↔◌, if◌then◌else◌};
+ghost use Rattle.std.specs.Prelude.{◌≡◌, ◌<◌, ◌≤◌, ◌++◌, ◌∷◌, [], length, IsTrue, ◌↔◌, if◌then◌else◌, List};
+ghost use Rattle.hp_states.specs.Rules.{Site, answer_of, counted_answer, counts_of, raised};
 
 use crate::limits::MAX_RULES;
 use crate::section::Dir;
 use std::marker::Model;
 
-/// One rule of a plan: at which calls the callback answers which code. An absent field matches all.
+/// One rule of a plan: at which calls the callback answers which code. An absent field matches every
+/// call. This project's own.
 #[derive(Clone, Copy, Debug, PartialEq, Eq)]
 pub struct Rule {
     /// The direction of the call.
@@ -21,6 +23,9 @@ pub struct Rule {
     pub code: u32,
 }
 
+/// The places of a plan.
+const PLACES: usize = MAX_RULES as usize;
+
 /// The rule that stands in the places past a plan's end.
 const BLANK: Rule = Rule {
     dir: Dir::Up,
@@ -30,10 +35,12 @@ const BLANK: Rule = Rule {
     code: 0,
 };
 
-/// The rules of a callback, at most 8, in the order in which they are tried. Contracts see the list.
-#[derive(Clone, Copy, Debug)]
+/// The rules of a callback, at most 8, in the order in which they are tried. This project's own.
+///
+/// Contracts see the list. Two plans are equal where their lists are.
+#[derive(Clone, Copy, Debug, PartialEq, Eq)]
 pub struct HookPlan {
-    rules: [Rule; 8],
+    rules: [Rule; PLACES],
     len: usize,
 }
 
@@ -56,24 +63,35 @@ impl Model for HookPlan {
     ghost inverse_ok = { had_back };
 }
 
+impl Default for HookPlan {
+    ghost is_default = { λ p. p ≡ [] };
+
+    /// The plan without rules.
+    fn default() -> HookPlan {
+        HookPlan::none()
+    }
+}
+
 impl HookPlan {
-    /// The plan without rules: every call answers 0. Takes no memory.
+    /// The plan without rules: every call answers 0. Takes no memory. This project's own.
     pub fn none() -> HookPlan
         ensures { result ≡ [] }
     {
         HookPlan {
-            rules: [BLANK; 8],
+            rules: [BLANK; PLACES],
             len: 0,
         }
     }
 
-    /// Adds a rule behind the others: true. Where 8 rules are there already: false, and the plan is
-    /// as before. Takes no memory.
+    /// Adds a rule behind the others, and answers true. Where 8 rules are there already it answers
+    /// false, and the plan is as before.
+    ///
+    /// Any rule may be added, also one that no call reaches. Takes no memory. This project's own.
     pub fn add(&mut self, rule: Rule) -> bool
         ensures added { IsTrue result ↔ (length self.old < MAX_RULES) }
         ensures rules { self.new ≡ (if result then self.old ++ rule ∷ [] else self.old) }
     {
-        if self.len >= MAX_RULES as usize {
+        if self.len >= PLACES {
             return false;
         }
         self.rules[self.len] = rule;
@@ -81,7 +99,7 @@ impl HookPlan {
         true
     }
 
-    /// The rules in their order. Takes no memory.
+    /// The rules in their order, at most 8. Takes no memory. This project's own.
     pub fn rules(&self) -> &[Rule]
         ensures all { result.now ≡ self.now }
         ensures few { length self.now ≤ MAX_RULES }
@@ -89,3 +107,22 @@ impl HookPlan {
         &self.rules[..self.len]
     }
 }
+
+/// The law of counted answers: to answer a call it is enough to keep a count for each rule, raised
+/// call by call.
+///
+/// Where the counts are those of the sites of all earlier calls, the counts raised at a site are
+/// those with this site (`counts`), and what they answer is what the sites themselves determine: the
+/// code of the first rule that matches the site and whose `nth` is absent or is the number of sites
+/// that it matched, the earlier ones and this one, and 0 where there is none (`answer`).
+///
+/// The law holds of every list of rules. The function does nothing, and takes no memory. This
+/// project's own.
+#[tactic(auto, using(crate::proofs::RuleCounts::raised_counts, crate::proofs::RuleCounts::answer_of_raised))]
+pub fn answer_by_counts(plan: &[Rule])
+    ensures counts { (earlier : List Site) (site : Site) →
+        raised plan.now (counts_of plan.now earlier) site ≡ counts_of plan.now (earlier ++ site ∷ []) }
+    ensures answer { (earlier : List Site) (site : Site) →
+        counted_answer plan.now (raised plan.now (counts_of plan.now earlier) site) site
+        ≡ answer_of plan.now earlier site }
+{}

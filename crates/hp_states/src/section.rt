@@ -4,7 +4,7 @@ ghost use Rattle.std.specs.Prelude.{◌≡◌, ◌≤◌};
 ghost use Rattle.std.specs.Option.{option_copied};
 ghost use Rattle.hp_states.specs.Sections.{section_at, is_ap_state, is_atomic_state, is_stop, name_of_builtin, can_fail};
 
-use crate::limits::{AP_ONLINE, BRINGUP_CPU, ONLINE, TEARDOWN_CPU};
+use crate::limits::{AP_ONLINE, BRINGUP_CPU, OFFLINE, ONLINE, TEARDOWN_CPU};
 
 /// The three sections of the state table, lowest first, after `cpuhotplug.h`.
 #[derive(Clone, Copy, Debug, PartialEq, Eq)]
@@ -107,15 +107,15 @@ pub fn builtin_name(s: u32) -> Option<&'static str>
     ensures { option_copied result ≡ name_of_builtin s }
 {
     match s {
-        0 => Some("offline"),
-        62 => Some("cpu:bringup"),
+        OFFLINE => Some("offline"),
+        BRINGUP_CPU => Some("cpu:bringup"),
         63 => Some("idle:dead"),
         64 => Some("ap:offline"),
-        100 => Some("ap:online"),
-        101 => Some("cpu:teardown"),
+        AP_ONLINE => Some("ap:online"),
+        TEARDOWN_CPU => Some("cpu:teardown"),
         102 => Some("online:idle"),
         199 => Some("sched:active"),
-        200 => Some("online"),
+        ONLINE => Some("online"),
         _ => None,
     }
 }
