@@ -1,0 +1,185 @@
+use super::*;
+use std::io;
+use std::io::{ErrorKind, Read, Write};
+use std::test::*;
+
+#[test]
+fn a_source_is_read_to_its_end(rt: HostRuntime) -> Result<(), Fail> {
+    let alloc = rt.alloc();
+    let mut source = MemSource::new(alloc, b"cpus 2\n".to_vec(alloc)?);
+    let bytes = read_up_to(alloc, &mut source, 7)?;
+    assert_eq!(rt; bytes.as_slice(), b"cpus 2\n".as_slice());
+    assert_eq!(rt; source.at, 7);
+    assert_eq!(rt; source.faults, 0);
+    Ok(())
+}
+
+#[test]
+fn one_byte_past_the_limit_is_read_and_no_more(rt: HostRuntime) -> Result<(), Fail> {
+    let alloc = rt.alloc();
+    let mut source = MemSource::new(alloc, b"cpus 2\n".to_vec(alloc)?);
+    let bytes = read_up_to(alloc, &mut source, 3)?;
+    assert_eq!(rt; bytes.as_slice(), b"cpus".as_slice());
+    assert_eq!(rt; source.at, 4);
+    Ok(())
+}
+
+// A text of more than one chunk.
+#[test]
+fn a_long_source_is_read_in_chunks(rt: HostRuntime) -> Result<(), Fail> {
+    let alloc = rt.alloc();
+    let mut source = MemSource::new(alloc, vec![in alloc; 120u8; 100_000]?);
+    let bytes = read_up_to(alloc, &mut source, 1_000_000)?;
+    assert_eq!(rt; bytes.len(), 100_000);
+    assert_eq!(rt; source.calls, 3);
+    Ok(())
+}
+
+#[test]
+fn a_read_fails_in_mid_stream(rt: HostRuntime) -> Result<(), Fail> {
+    let alloc = rt.alloc();
+    let mut source = MemSource::new(alloc, b"cpus 2\n".to_vec(alloc)?);
+    source.step = 1;
+    source.fails.push(3)?;
+    assert_eq!(rt;
+        read_up_to(alloc, &mut source, 100).err(),
+        Some(ReadError::Failed)
+    );
+    assert_eq!(rt; (source.at, source.calls, source.faults), (2, 3, 1));
+    let rest = read_up_to(alloc, &mut source, 100)?;
+    assert_eq!(rt; rest.as_slice(), b"us 2\n".as_slice());
+    assert_eq!(rt; source.faults, 1);
+    Ok(())
+}
+
+#[test]
+fn a_write_is_whole(rt: HostRuntime) -> Result<(), Fail> {
+    let alloc = rt.alloc();
+    let mut sink = MemSink::new(alloc);
+    write_all(&mut sink, b"cpus 2\n")?;
+    write_all(&mut sink, b"")?;
+    write_all(&mut sink, b"up 1\n")?;
+    assert_eq!(rt; sink.bytes.as_slice(), b"cpus 2\nup 1\n".as_slice());
+    assert_eq!(rt; (sink.calls, sink.faults), (2, 0));
+    Ok(())
+}
+
+#[test]
+fn a_write_fails_in_mid_stream(rt: HostRuntime) -> Result<(), Fail> {
+    let alloc = rt.alloc();
+    let mut sink = MemSink::new(alloc);
+    sink.step = 1;
+    sink.fails.push(2)?;
+    assert_eq!(rt; write_all(&mut sink, b"cpus 2\n"), Err(Failed));
+    assert_eq!(rt; sink.bytes.as_slice(), b"c".as_slice());
+    assert_eq!(rt; (sink.calls, sink.faults), (2, 1));
+    write_all(&mut sink, b"up")?;
+    assert_eq!(rt; sink.bytes.as_slice(), b"cup".as_slice());
+    Ok(())
+}
+
+// The call of number 2^64 - 1 is the last that can be told to fail.
+#[test]
+fn the_number_of_calls_stands_at_its_end(rt: HostRuntime) -> Result<(), Fail> {
+    let alloc = rt.alloc();
+    let mut sink = MemSink::new(alloc);
+    sink.calls = u64::MAX - 1;
+    sink.fails.push(u64::MAX)?;
+    assert_eq!(rt; sink.write(b"up"), Err(Failed));
+    assert_eq!(rt; (sink.calls, sink.faults), (u64::MAX, 1));
+    assert_eq!(rt; sink.write(b"up"), Ok(2));
+    assert_eq!(rt; (sink.calls, sink.faults), (u64::MAX, 1));
+    Ok(())
+}
+
+// A reader of std whose second read fails.
+#[derive(Drop)]
+struct Torn {
+    calls: u8,
+}
+
+impl Read for Torn {
+    fn read(&mut self, buf: &mut [u8]) -> io::Result<usize> {
+        self.calls = self.calls.saturating_add(1);
+        match buf {
+            [first, ..] if self.calls == 1 => {
+                *first = b'c';
+                Ok(1)
+            }
+            _ if self.calls == 2 => Err(io::Error::from(ErrorKind::BrokenPipe)),
+            _ => Ok(0),
+        }
+    }
+}
+
+#[test]
+fn an_error_of_a_reader_is_a_fault(rt: HostRuntime) -> Result<(), Fail> {
+    let alloc = rt.alloc();
+    let mut source = RealSource::new(Torn { calls: 0 });
+    assert_eq!(rt;
+        read_up_to(alloc, &mut source, 100).err(),
+        Some(ReadError::Failed)
+    );
+    assert_eq!(rt; source.faults, 1);
+    let bytes = read_up_to(alloc, &mut source, 100)?;
+    assert!(rt; bytes.is_empty());
+    assert_eq!(rt; source.faults, 1);
+    Ok(())
+}
+
+// A writer of std that takes one byte, then none, and then fails.
+#[derive(Drop)]
+struct Full {
+    bytes: Vec<u8>,
+    calls: u8,
+}
+
+impl Write for Full {
+    fn write(&mut self, buf: &[u8]) -> io::Result<usize> {
+        self.calls = self.calls.saturating_add(1);
+        match buf {
+            [first, ..] if self.calls == 1 => {
+                self.bytes.push(*first)?;
+                Ok(1)
+            }
+            _ if self.calls == 2 => Ok(0),
+            _ => Err(io::Error::from(ErrorKind::BrokenPipe)),
+        }
+    }
+
+    fn flush(&mut self) -> io::Result<()> {
+        Ok(())
+    }
+}
+
+#[test]
+fn a_writer_that_takes_nothing_is_a_fault(rt: HostRuntime) -> Result<(), Fail> {
+    let writer = Full {
+        bytes: Vec::new(rt.alloc()),
+        calls: 0,
+    };
+    let mut sink = RealSink::new(writer);
+    assert_eq!(rt; write_all(&mut sink, b"cpus"), Err(Failed));
+    assert_eq!(rt; sink.faults, 1);
+    assert_eq!(rt; write_all(&mut sink, b"cpus"), Err(Failed));
+    assert_eq!(rt; sink.faults, 2);
+    assert_eq!(rt; sink.writer.bytes.as_slice(), b"c".as_slice());
+    Ok(())
+}
+
+#[test]
+fn standard_output_takes_bytes(rt: HostRuntime) -> Result<(), Fail> {
+    let mut sink = RealSink::new(rt.stdout());
+    write_all(&mut sink, b"up 1\n")?;
+    assert_eq!(rt; sink.faults, 0);
+    Ok(())
+}
+
+#[test]
+fn standard_input_is_read_to_its_end(rt: HostRuntime) -> Result<(), Fail> {
+    let mut source = RealSource::new(rt.stdin());
+    let bytes = read_up_to(rt.alloc(), &mut source, 100)?;
+    assert!(rt; bytes.is_empty());
+    assert_eq!(rt; source.faults, 0);
+    Ok(())
+}
