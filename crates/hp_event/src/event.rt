@@ -1,8 +1,13 @@
 //! The fifteen kinds of event, and what they speak of.
+//!
+//! All of it is this project's own; the operations and their files are named after those of
+//! `core-api/cpu_hotplug.rst`, walks and callbacks after those of `kernel/cpu.c`.
 
 use hp_states::Dir;
+use std::mem::size_of;
 
-/// How a registration is asked for.
+/// How a registration is asked for. Which calls of `cpuhp_setup_state` and its kin of
+/// `cpu_hotplug.rst` a form stands for: those without calls, and those that hold the read lock.
 #[derive(Clone, Copy, Debug, PartialEq, Eq)]
 pub struct Form {
     /// No callback is called: the entries are presumed.
@@ -12,29 +17,35 @@ pub struct Form {
 }
 
 /// An operation of a client.
+///
+/// Processors are numbers below `MAX_CPUS`, states 0 to 200, subsystems the numbers of the head's
+/// list from 1, instances 1 to `MAX_INSTANCE`. An operation may hold other numbers: then the
+/// machine refuses it.
 #[derive(Clone, Copy, Debug, PartialEq, Eq)]
 pub enum Op {
-    /// Brings a processor up.
+    /// Brings this processor up.
     Up(u32),
-    /// Takes a processor down.
+    /// Takes this processor down.
     Down(u32),
-    /// Writes the `target` file of a processor.
+    /// Writes the `target` file of this processor: the state to walk to.
     Target(u32, i32),
-    /// Writes the `fail` file of a processor.
+    /// Writes the `fail` file of this processor: the state whose next callback is to fail, or -1
+    /// for none.
     Arm(u32, i32),
-    /// Shows the `state` file of a processor.
+    /// Shows the `state` file of this processor.
     ShowState(u32),
-    /// Shows the `target` file of a processor.
+    /// Shows the `target` file of this processor.
     ShowTarget(u32),
-    /// Shows the `fail` file of a processor.
+    /// Shows the `fail` file of this processor.
     ShowFail(u32),
     /// Shows the `states` file.
     ShowStates,
-    /// Registers a subsystem, by its number from 1, at a state.
+    /// Registers the subsystem of number `sub` at a state; 41 and 141 ask for a free state of that
+    /// range.
     Setup { state: u32, sub: u32, form: Form },
     /// Takes a state's registration away.
     Remove { state: u32, form: Form },
-    /// Adds an instance to a state.
+    /// Adds an instance, 1 to `MAX_INSTANCE`, to a state.
     Add { state: u32, inst: u32, form: Form },
     /// Takes an instance from a state.
     Del { state: u32, inst: u32, form: Form },
@@ -42,13 +53,13 @@ pub enum Op {
     Lock,
     /// Leaves it.
     Unlock,
-    /// Brings processors up until so many are online.
+    /// Brings processors up, in rising number, until so many are online.
     Boot(u32),
     /// Disables hotplug once more.
     Disable,
     /// Enables it once more.
     Enable,
-    /// Takes all processors down but one.
+    /// Takes all processors down but one: this one, or the lowest that is online where it is not.
     Freeze(i32),
     /// Brings up again what a freeze took down.
     Thaw,
@@ -56,7 +67,7 @@ pub enum Op {
     Wakeup,
 }
 
-/// How an entry was made.
+/// How an entry was made. Codes are 1 to `MAX_CODE`.
 #[derive(Clone, Copy, Debug, PartialEq, Eq)]
 pub enum How {
     /// The callback was called and answered 0.
@@ -73,16 +84,17 @@ pub enum How {
     Overruled(u32),
 }
 
-/// The answer of an operation, a walk or a registration.
+/// The answer of an operation, a walk or a registration. Codes are 1 to `MAX_CODE`.
 #[derive(Clone, Copy, Debug, PartialEq, Eq)]
 pub enum Answer {
     /// It was done; the number is 0, a file's value, a dynamic setup's state or a count.
     Ok(i32),
-    /// It was refused, with this error number.
+    /// It was refused, with this error number of `hp_states`.
     Refused(u32),
     /// A callback's fault stopped it, with this code, and what was done was undone.
     Fault(u32),
-    /// A second fault stopped the way back, and the processor stays at a state between.
+    /// The code `first` stopped it and the code `second` the way back, and the processor stays at
+    /// the state `at`.
     Stuck { first: u32, second: u32, at: u32 },
     /// The journal had no room for it.
     LogFull,
@@ -93,7 +105,7 @@ pub enum Answer {
 pub enum Role {
     /// A client, which has operations.
     Client,
-    /// The hotplug thread of this processor.
+    /// The hotplug thread of this processor, which makes the entries of AP states.
     Ap(u32),
 }
 
@@ -110,39 +122,43 @@ pub enum File {
     States,
 }
 
-/// A callback: a state and an instance, 0 at a state without instances.
+/// What a callback is registered for: a state and an instance.
 #[derive(Clone, Copy, Debug, PartialEq, Eq)]
 pub struct Key {
     /// The state, 0 to 200.
     pub state: u32,
-    /// The instance.
+    /// The instance, 1 to `MAX_INSTANCE`, or 0 at a state without instances.
     pub inst: u32,
 }
 
 /// One atomic step of the machine.
+///
+/// In each event `seat` is the seat that made it, below `MAX_SEATS`; `cpu` a processor, below
+/// `MAX_CPUS`; `state`, `from` and `to` are states, 0 to 200; `inst` is an instance, or 0 at a state
+/// without instances; `errno` is an error number of `hp_states`. An event takes 32 bytes.
 #[derive(Clone, Copy, Debug, PartialEq, Eq)]
 pub enum Event {
-    /// A seat comes in.
+    /// A seat comes in, with the next number that no seat had.
     Admit {
         seat: u32,
         role: Role,
     },
-    /// A seat ends.
+    /// A seat ends. Its number is not used again.
     Leave {
         seat: u32,
     },
-    /// An operation of the map lock begins.
+    /// An operation of the map lock begins: up, down, target, boot, disable, enable, freeze, thaw.
     Enter {
         seat: u32,
         op: Op,
     },
-    /// An operation is refused.
+    /// An operation is refused, before anything was done.
     Refused {
         seat: u32,
         errno: u32,
         op: Op,
     },
-    /// A walk of a processor begins.
+    /// A walk of a processor between two states begins.
     WalkBegin {
         seat: u32,
         cpu: u32,
@@ -169,13 +185,13 @@ pub enum Event {
         seat: u32,
         answer: Answer,
     },
-    /// A registration begins, at its resolved state.
+    /// A setup, remove, add or del begins, at its resolved state.
     RegBegin {
         seat: u32,
         state: u32,
         op: Op,
     },
-    /// A registration ends; Ok changes what is registered.
+    /// A setup, remove, add or del ends; Ok changes what is registered.
     RegEnd {
         seat: u32,
         answer: Answer,
@@ -188,13 +204,13 @@ pub enum Event {
     ReadUnlock {
         seat: u32,
     },
-    /// The `fail` file of a processor was written.
+    /// The `fail` file of a processor was written: a state, or -1 for none.
     Armed {
         seat: u32,
         cpu: u32,
         value: i32,
     },
-    /// A file was shown; the processor is 0 for `states`.
+    /// A file was shown; for `states`, `cpu` is 0 and `value` the number of named states.
     Shown {
         seat: u32,
         file: File,
@@ -206,3 +222,8 @@ pub enum Event {
         seat: u32,
     },
 }
+
+/// The most bytes that an event may take: a journal of `MAX_EVENTS` events stays below 48 MiB.
+const MAX_EVENT_BYTES: usize = 48;
+
+const _: () = prove!(size_of::<Event>() <= MAX_EVENT_BYTES);

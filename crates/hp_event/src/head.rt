@@ -1,7 +1,13 @@
 //! The head of a journal: the processors and the subsystems.
+//!
+//! It stands before the first event, and no event changes it. What a head is, is this project's
+//! own.
 
-use crate::lists::{Name, Numbers};
+ghost use Rattle.std.specs.Prelude.{◌≡◌, ◌++◌, ◌∷◌, [], IfOk, OnOk, OnErr};
+
+use crate::lists::{Name, NoMemory, Numbers};
 use hp_states::HookPlan;
+use std::alloc::Global;
 use std::marker::Model;
 
 /// A subsystem, which registers its callbacks at states.
@@ -19,6 +25,22 @@ pub struct Sub {
     pub plan: HookPlan,
 }
 
+impl Sub {
+    /// A subsystem equal to this one. Takes memory for its name; where there is none: `NoMemory`.
+    pub fn copy(&self) -> Result<Sub, NoMemory>
+        ensures { IfOk result (λ s. s ≡ self.now) }
+    {
+        let name = self.name.copy()?;
+        Ok(Sub {
+            name,
+            up: self.up,
+            down: self.down,
+            multi: self.multi,
+            plan: self.plan,
+        })
+    }
+}
+
 /// A list of subsystems, which are numbered from 1.
 #[derive(Debug, Drop)]
 pub struct Subs {
@@ -34,6 +56,71 @@ impl Model for Subs {
     ghost view = { λ s. s.items.items };
 }
 
+impl Subs {
+    /// The empty list. Takes no memory.
+    pub fn new(alloc: Global) -> Subs
+        ensures { result ≡ [] }
+    {
+        Subs {
+            items: Vec::new(alloc),
+        }
+    }
+
+    /// The subsystems of a `Vec`. Takes no memory: the list keeps the `Vec`.
+    pub fn from_vec(items: Vec<Sub>) -> Subs
+        ensures { result ≡ items.items }
+    {
+        Subs { items }
+    }
+
+    /// The subsystems, as the `Vec` that the list kept. Takes no memory.
+    pub fn into_vec(self) -> Vec<Sub>
+        ensures { result.items ≡ self }
+    {
+        let Subs { items } = self;
+        items
+    }
+
+    /// Appends a subsystem.
+    ///
+    /// Takes memory where the list has no spare place; where there is none: `NoMemory`, the list is
+    /// as before, and the subsystem is dropped.
+    pub fn push(&mut self, item: Sub) -> Result<(), NoMemory>
+        ensures ok { OnOk result (self.new ≡ self.old ++ item ∷ []) }
+        ensures err { OnErr result (self.new ≡ self.old) }
+    {
+        self.items.push(item)?;
+        Ok(())
+    }
+
+    /// The subsystems, in their order: the first is number 1. Takes no memory.
+    pub fn as_slice(&self) -> &[Sub]
+        ensures { result.now ≡ self.now }
+    {
+        self.items.as_slice()
+    }
+
+    /// A list equal to this one. Takes memory for its subsystems and their names; where there is
+    /// none: `NoMemory`.
+    pub fn copy(&self) -> Result<Subs, NoMemory>
+        ensures { IfOk result (λ s. s ≡ self.now) }
+    {
+        let mut items = Vec::with_capacity(*self.items.allocator(), self.items.len())?;
+        for sub in self.items.as_slice() {
+            items.push(sub.copy()?)?;
+        }
+        Ok(Subs { items })
+    }
+}
+
+impl From<Vec<Sub>> for Subs {
+    ghost from_gives = { λ v s. s ≡ v.items };
+
+    fn from(items: Vec<Sub>) -> Subs {
+        Subs::from_vec(items)
+    }
+}
+
 /// What decides whether a journal is lawful, beside its events.
 #[derive(Debug, Drop)]
 pub struct Head {
@@ -43,4 +130,22 @@ pub struct Head {
     pub absent: Numbers,
     /// The subsystems, numbered from 1.
     pub subs: Subs,
+}
+
+impl Head {
+    /// A head equal to this one.
+    ///
+    /// Takes memory for the absent processors, the subsystems and their names; where there is none:
+    /// `NoMemory`.
+    pub fn copy(&self) -> Result<Head, NoMemory>
+        ensures { IfOk result (λ h. h ≡ self.now) }
+    {
+        let absent = self.absent.copy()?;
+        let subs = self.subs.copy()?;
+        Ok(Head {
+            possible: self.possible,
+            absent,
+            subs,
+        })
+    }
 }

@@ -1,0 +1,193 @@
+//! What no clause says: that memory suffices where it is ample, how a journal grows, and the texts.
+
+use crate::{
+    Event, Head, Journal, JournalError, Key, Keys, Name, NoMemory, Numbers, Role, Sub, Subs,
+};
+use hp_states::{Dir, HookPlan, MAX_EVENTS, Rule};
+use std::alloc::Global;
+use std::mem::size_of;
+use std::test::Fail;
+
+fn name_of(alloc: Global, bytes: &[u8]) -> Result<Name, Fail> {
+    Ok(Name::from_vec(Vec::from_slice(alloc, bytes)?))
+}
+
+fn sub_of(alloc: Global, bytes: &[u8], multi: bool) -> Result<Sub, Fail> {
+    let mut plan = HookPlan::none();
+    let _ = plan.add(Rule {
+        dir: Dir::Up,
+        cpu: None,
+        inst: Some(3),
+        nth: Some(2),
+        code: 12,
+    });
+    Ok(Sub {
+        name: name_of(alloc, bytes)?,
+        up: true,
+        down: false,
+        multi,
+        plan,
+    })
+}
+
+fn empty_head(alloc: Global) -> Head {
+    Head {
+        possible: 2,
+        absent: Numbers::new(alloc),
+        subs: Subs::new(alloc),
+    }
+}
+
+fn push_all(journal: &mut Journal) {
+    for _ in 0..journal.promised() {
+        if journal.promised() > 0 {
+            journal.push(Event::Wakeup { seat: 1 });
+        }
+    }
+}
+
+#[test]
+fn a_name_keeps_its_bytes(rt: HostRuntime) -> Result<(), Fail> {
+    let mut name = Name::new(rt.alloc());
+    assert!(rt; name.as_slice().is_empty());
+    for byte in b"net:a" {
+        name.push(*byte)?;
+    }
+    assert_eq!(rt; name.as_slice(), b"net:a".as_slice());
+    let copy = name.copy()?;
+    assert_eq!(rt; copy.as_slice(), b"net:a".as_slice());
+    assert_eq!(rt; copy.into_vec().as_slice(), b"net:a".as_slice());
+    let made = Name::from(name.into_vec());
+    assert_eq!(rt; made.as_slice(), b"net:a".as_slice());
+    Ok(())
+}
+
+#[test]
+fn numbers_and_keys_keep_their_order(rt: HostRuntime) -> Result<(), Fail> {
+    let mut numbers = Numbers::new(rt.alloc());
+    numbers.push(5)?;
+    numbers.push(3)?;
+    assert_eq!(rt; numbers.as_slice(), [5, 3].as_slice());
+    assert_eq!(rt; numbers.copy()?.as_slice(), [5, 3].as_slice());
+    let made = Numbers::from(numbers.into_vec());
+    assert_eq!(rt; made.as_slice(), [5, 3].as_slice());
+
+    let first = Key {
+        state: 120,
+        inst: 2,
+    };
+    let second = Key {
+        state: 120,
+        inst: 1,
+    };
+    let mut keys = Keys::new(rt.alloc());
+    keys.push(first)?;
+    keys.push(second)?;
+    assert_eq!(rt; keys.as_slice(), [first, second].as_slice());
+    assert_eq!(rt; keys.copy()?.as_slice(), [first, second].as_slice());
+    let made = Keys::from(keys.into_vec());
+    assert_eq!(rt; made.as_slice(), [first, second].as_slice());
+    Ok(())
+}
+
+#[test]
+fn a_copied_head_is_equal(rt: HostRuntime) -> Result<(), Fail> {
+    let mut subs = Subs::new(rt.alloc());
+    subs.push(sub_of(rt.alloc(), b"net:a", false)?)?;
+    subs.push(sub_of(rt.alloc(), b"net:b", true)?)?;
+    let head = Head {
+        possible: 4,
+        absent: Numbers::from_vec(Vec::from_slice(rt.alloc(), &[2, 3])?),
+        subs: Subs::from(subs.into_vec()),
+    };
+    let copy = head.copy()?;
+    assert_eq!(rt; copy.possible, 4);
+    assert_eq!(rt; copy.absent.as_slice(), [2, 3].as_slice());
+    let copies = copy.subs.copy()?;
+    let copied = copies.as_slice();
+    assert_eq!(rt; copied.len(), 2);
+    assert_eq!(rt; copied[0].name.as_slice(), b"net:a".as_slice());
+    let second = copied[1].copy()?;
+    assert_eq!(rt; second.name.as_slice(), b"net:b".as_slice());
+    assert_eq!(rt; (second.up, second.down, second.multi), (true, false, true));
+    assert_eq!(rt; second.plan.rules().len(), 1);
+    assert_eq!(rt; head.subs.as_slice()[1].plan.rules(), second.plan.rules());
+    Ok(())
+}
+
+#[test]
+fn a_journal_appends_what_was_promised(rt: HostRuntime) -> Result<(), Fail> {
+    let mut journal = Journal::new(rt.alloc(), empty_head(rt.alloc()));
+    assert_eq!(rt; journal.head().possible, 2);
+    assert_eq!(rt; (journal.len(), journal.promised()), (0, 0));
+    assert!(rt; journal.is_empty());
+    journal.reserve(3)?;
+    assert_eq!(rt; journal.promised(), 3);
+    assert!(rt; journal.spare() >= 3);
+    let admit = Event::Admit {
+        seat: 0,
+        role: Role::Ap(1),
+    };
+    let leave = Event::Leave { seat: 0 };
+    journal.push(admit);
+    journal.push(leave);
+    assert_eq!(rt; (journal.len(), journal.promised()), (2, 1));
+    journal.give_back(1);
+    assert_eq!(rt; (journal.len(), journal.promised()), (2, 0));
+    assert_eq!(rt; *journal.get(0), admit);
+    assert_eq!(rt; *journal.get(1), leave);
+    assert_eq!(rt; journal.events(), [admit, leave].as_slice());
+    assert!(rt; !journal.is_empty());
+    Ok(())
+}
+
+#[test]
+fn the_last_places_are_promised_and_no_more(rt: HostRuntime) -> Result<(), Fail> {
+    let mut journal = Journal::new(rt.alloc(), empty_head(rt.alloc()));
+    journal.reserve(MAX_EVENTS - 3)?;
+    push_all(&mut journal);
+    assert_eq!(rt; journal.len(), 1_048_573);
+    assert_eq!(rt; journal.reserve(4), Err(JournalError::Full));
+    assert_eq!(rt; journal.reserve(u32::MAX), Err(JournalError::Full));
+    assert_eq!(rt; journal.promised(), 0);
+    assert_eq!(rt; journal.reserve(3), Ok(()));
+    assert_eq!(rt; journal.reserve(1), Err(JournalError::Full));
+    assert_eq!(rt; journal.reserve(0), Ok(()));
+    assert_eq!(rt; (journal.promised(), journal.spare()), (3, 3));
+    Ok(())
+}
+
+#[test]
+fn a_million_single_promises_are_cheap(rt: HostRuntime) -> Result<(), Fail> {
+    let mut journal = Journal::new(rt.alloc(), empty_head(rt.alloc()));
+    let mut growths = 0u32;
+    let mut spare = journal.spare();
+    for _ in 0..1_000_000u32 {
+        journal.reserve(1)?;
+        if journal.spare() > spare {
+            growths = growths.wrapping_add(1);
+        }
+        spare = journal.spare();
+    }
+    assert!(rt; growths <= 21, "it grew {growths} times");
+    push_all(&mut journal);
+    assert_eq!(rt; journal.len(), 1_000_000);
+    Ok(())
+}
+
+#[test]
+fn events_are_small_and_errors_have_texts(rt: HostRuntime) -> Result<(), Fail> {
+    assert_eq!(rt; size_of::<Event>(), 32);
+    assert_eq!(rt;
+        (JournalError::Full as u32, JournalError::NoMemory as u32),
+        (1, 2)
+    );
+    let full = JournalError::Full;
+    let none = JournalError::NoMemory;
+    let texts = format!(in rt.alloc(); "{full} {none} {NoMemory}")?;
+    assert_eq!(rt;
+        texts.as_str(),
+        "the journal is full out of memory out of memory"
+    );
+    Ok(())
+}
