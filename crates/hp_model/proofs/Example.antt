@@ -1,0 +1,233 @@
+-- A lawful journal, step by step: a state is set up, and a walk up of processor 1 is turned back by a
+-- fault. It shows that the conditions can be met, and how each is shown on a journal that is given.
+use Rattle.std.proofs.Common.{◌≡◌, true, false, Some, None, List, [], ◌∷◌, ◌++◌, refl, arith, inl, inr}
+use Rattle.std.specs.Prelude.{pos, slice_get}
+use Rattle.hp_states.specs.declared.section.Dir.TheVariants.{Up}
+use Rattle.hp_states.specs.declared.section.Place.{Place}
+use Rattle.hp_states.specs.declared.section.Place.TheVariants.{Forward}
+use Rattle.hp_states.specs.declared.plan.Rule.{Rule}
+use Rattle.hp_event.specs.declared.event.How.TheVariants.{RanOk, RanFault}
+use Rattle.hp_event.specs.declared.event.Op.{Op}
+use Rattle.hp_event.specs.declared.event.Op.TheVariants.{Setup, Target}
+use Rattle.hp_event.specs.declared.event.Role.TheVariants.{Client}
+use Rattle.hp_event.specs.declared.event.Answer.TheVariants.{Ok, Fault}
+use Rattle.hp_event.specs.declared.event.Form.{Form}
+use Rattle.hp_event.specs.declared.head.Sub.{Sub}
+use Rattle.hp_event.specs.declared.head.Head.{Head}
+use Rattle.hp_event.specs.declared.event.Event.{Event}
+use Rattle.hp_event.specs.declared.event.Event.TheVariants.{Admit, Enter, WalkBegin, Call, WalkEnd, OpEnd, RegBegin, RegEnd}
+use Rattle.hp_model.specs.Crossing.{Crossing, failed}
+use Rattle.hp_model.specs.Plan.{plan}
+use Rattle.hp_model.specs.WalkShape.{returned, IsBack}
+use Rattle.hp_model.specs.Walks.{Walk, walk, walk_entries, walking}
+use Rattle.hp_model.specs.Registrations.{Registration, registration, registration_entries}
+use Rattle.hp_model.specs.Registered.{registered, keys}
+use Rattle.hp_model.specs.Settled.{settled}
+use Rattle.hp_model.specs.Readers.{reading_since, readers}
+use Rattle.hp_model.specs.Seats.{admits, role_of}
+use Rattle.hp_model.specs.Armed.{armed}
+use Rattle.hp_model.specs.Calls.{sites}
+use Rattle.hp_model.specs.MapLock.{Operation, operation}
+use Rattle.hp_model.specs.Sequence.{answers}
+use Rattle.hp_model.specs.Suspend.{disabled}
+use Rattle.hp_model.specs.Processors.{is_present, processors}
+use Rattle.hp_model.specs.RegistrationShape.{key_of, each, IsRegistrationShape, made}
+use Rattle.hp_model.specs.StandsSeats.{Admits}
+use Rattle.hp_model.specs.StandsOperations.{Enters, OpEnds, WalkBegins, WalkEnds}
+use Rattle.hp_model.specs.StandsCalls.{InWalk, InRegistration}
+use Rattle.hp_model.specs.StandsRegistrations.{RegBegins, RegEnds}
+use Rattle.hp_model.specs.Lawful.{IsLawful}
+use Rattle.hp_model.specs.Heads.{IsHead}
+use Rattle.hp_model.specs.Lists.{is_empty}
+
+abbrev form : Form
+form = record { nocalls = false; locked = false }
+
+abbrev setup : Op
+setup = Setup 10 1 form
+
+-- the hook faults on processor 1
+abbrev rule : Rule
+rule = record { dir = Up; cpu = Some 1; inst = None; nth = None; code = 5 }
+
+-- what the head says: two processors are there, and subsystem 1 has both callbacks and that rule
+pub record Fitting (head : Head) : Type 0 where
+  pub sub : Sub
+  pub is_head : IsHead head
+  pub first_sub : slice_get head.subs 0 ≡ Some sub
+  pub named : is_empty sub.name ≡ false
+  pub single : sub.multi ≡ false
+  pub up : sub.up ≡ true
+  pub rules : sub.plan ≡ rule ∷ []
+  pub possible : head.possible ≡ 2
+  pub present : is_present head 0 ≡ true
+  pub other : is_present head 1 ≡ true
+  pub alone : processors head 10 (Admit 0 Client ∷ []) ≡ 0 ∷ []
+
+abbrev j1 : List Event
+j1 = Admit 0 Client ∷ []
+
+abbrev j2 : List Event
+j2 = j1 ++ RegBegin 0 10 setup ∷ []
+
+abbrev j3 : List Event
+j3 = j2 ++ Call 0 0 10 0 Up RanOk ∷ []
+
+abbrev j4 : List Event
+j4 = j3 ++ RegEnd 0 (Ok (pos 0)) ∷ []
+
+abbrev j5 : List Event
+j5 = j4 ++ Enter 0 (Target 1 (pos 10)) ∷ []
+
+abbrev j6 : List Event
+j6 = j5 ++ WalkBegin 0 1 0 10 ∷ []
+
+abbrev j7 : List Event
+j7 = j6 ++ Call 0 1 10 0 Up (RanFault 5) ∷ []
+
+abbrev j8 : List Event
+j8 = j7 ++ WalkEnd 0 1 (Fault 5) ∷ []
+
+abbrev asked : Registration
+asked = record { seat = 0; state = 10; op = setup; before = j1 }
+
+abbrev held : Operation
+held = record { seat = 0; op = Target 1 (pos 10); before = j4 }
+
+abbrev way : Walk
+way = record { seat = 0; from = 0; to = 10; before = j5 }
+
+none_some : {A : Type 0} {a : A} → None ≡ Some a → ⊥
+none_some h = cc
+
+s1 : (head : Head) → Admits head [] 0 Client
+unfolding admits
+s1 head = record { seat_is = refl; below = omega arith; can_sit = tt }
+
+s2 : (head : Head) → Fitting head → RegBegins head j1 0 10 setup
+unfolding walking registration registered role_of operation reading_since
+s2 head f = record {
+  free = record { client = refl; idle = refl };
+  has_sub = rw f.first_sub refl;
+  passes = record { not_refused = rw (f.first_sub, f.named) refl; not_waiting = refl };
+  state_is = refl;
+}
+
+setup_shape : (head : Head) → Fitting head →
+    IsRegistrationShape true 10 (key_of head asked) (processors head 10 j1) (each Place.Add Up 10 0 (0 ∷ [])) made
+setup_shape head f = rw (f.first_sub, f.single, f.alone) refl
+
+s3 : (head : Head) → Fitting head → InRegistration head j2 0 0 10 0 Up RanOk
+unfolding registration registration_entries registered sites
+s3 head f = record {
+  of = asked;
+  in_flight = refl;
+  outcome = made;
+  slots = each Place.Add Up 10 0 (0 ∷ []);
+  shape = setup_shape head f;
+  slot = record { cpu = 0; state = 10; inst = 0; dir = Up; place = Place.Add; first = false; fails = false };
+  is_next = record { front = []; rest = []; slots_are = refl; filled = tt };
+  fits = (refl, refl, refl, refl, refl);
+  how_is = rw (f.first_sub, f.up, f.rules) refl;
+  caller_is = refl;
+}
+
+s4 : (head : Head) → Fitting head → RegEnds head j3 0 (Ok (pos 0))
+unfolding registration registration_entries
+s4 head f = record {
+  of = asked;
+  in_flight = refl;
+  seat_is = refl;
+  whole = record {
+    outcome = made;
+    slots = each Place.Add Up 10 0 (0 ∷ []);
+    shape = setup_shape head f;
+    filled = ((refl, refl, refl, refl, refl), tt);
+    answered = refl;
+  };
+}
+
+s5 : (head : Head) → Fitting head → Enters head j4 0 (Target 1 (pos 10))
+unfolding registration registered settled disabled operation reading_since role_of
+s5 head f = record {
+  free = record { client = refl; idle = refl };
+  takes_map = refl;
+  passes = record { not_refused = rw (f.other, f.possible) refl; not_waiting = refl };
+}
+
+s6 : (head : Head) → WalkBegins head j5 0 1 0 10
+unfolding walking registration settled operation answers readers
+s6 head = record {
+  of = held;
+  held = refl;
+  seat_is = refl;
+  no_walk = refl;
+  gives = refl;
+  from_is = refl;
+  no_reader = refl;
+  no_registration = refl;
+}
+
+plan_is : (head : Head) → Fitting head → plan (keys head j5) 0 10 ≡ 10 ∷ []
+unfolding registered registration
+plan_is head f = rw (f.first_sub, f.single) refl
+
+keys_are : (head : Head) → Fitting head → keys head j5 10 ≡ 0 ∷ []
+unfolding registered registration
+keys_are head f = rw (f.first_sub, f.single) refl
+
+abbrev turned : List Crossing
+turned = failed Forward Up 10 [] 0 ∷ []
+
+turned_shape : (head : Head) → Fitting head → IsBack (keys head j5) Up (plan (keys head j5) 0 10) turned
+turned_shape head f = record {
+  before = [];
+  state = 10;
+  after = [];
+  earlier = [];
+  inst = 0;
+  later = [];
+  plan_is = plan_is head f;
+  keys_are = keys_are head f;
+  crossings_are = refl;
+}
+
+s7 : (head : Head) → Fitting head → InWalk head j6 0 1 10 0 Up (RanFault 5)
+unfolding walk walk_entries registration registered armed sites
+s7 head f = record {
+  of = way;
+  in_flight = refl;
+  outcome = returned;
+  crossings = turned;
+  shape = turned_shape head f;
+  slot = record { cpu = 1; state = 10; inst = 0; dir = Up; place = Forward; first = true; fails = true };
+  is_next = record { front = []; rest = []; slots_are = refl; filled = tt };
+  fits = (refl, refl, refl, refl, refl);
+  how_is = rw (f.first_sub, f.up, f.rules) refl;
+  caller_is = refl;
+}
+
+s8 : (head : Head) → Fitting head → WalkEnds head j7 0 1 (Fault 5)
+unfolding walk walk_entries
+s8 head f = record {
+  of = way;
+  in_flight = refl;
+  seat_is = refl;
+  whole = record {
+    outcome = returned;
+    crossings = turned;
+    shape = turned_shape head f;
+    filled = ((refl, refl, refl, refl, refl), tt);
+    answered = (5, refl, refl);
+  };
+}
+
+s9 : (head : Head) → OpEnds head j8 0 (Fault 5)
+unfolding walking operation answers
+s9 head = record { of = held; held = refl; seat_is = refl; no_walk = refl; gives = refl }
+
+pub lawful : (head : Head) → Fitting head → IsLawful head (j8 ++ OpEnd 0 (Fault 5) ∷ [])
+lawful head f = (
+  f.is_head,
+  (s1 head, (s2 head f, (inr (s3 head f), (s4 head f, (s5 head f, (s6 head, (inl (s7 head f), (s8 head f, (s9 head, tt))))))))),
+)

@@ -1,0 +1,98 @@
+-- Every lawful journal keeps what Kept says.
+use Rattle.std.proofs.Common.{◌≡◌, ℕ, Bool, true, false, cond, eqb, leb, List, [], ◌∷◌, ◌++◌, refl, sym, ◌∙◌, arith, inl, inr, ◌⊎◌, append_assoc}
+use Rattle.std.proofs.lemmas.List.{append-nil}
+use Rattle.std.proofs.lemmas.Bool.{true≢false, eqb-true}
+use Rattle.hp_states.specs.declared.section.Dir.TheVariants.{Up, Down}
+use Rattle.hp_event.specs.declared.head.Head.{Head}
+use Rattle.hp_event.specs.declared.event.Event.{Event}
+use Rattle.hp_event.specs.declared.event.Event.TheVariants.{WalkBegin, Call, WalkEnd, RegBegin, RegEnd}
+use Rattle.hp_model.specs.Journal.{EachAfter}
+use Rattle.hp_model.specs.Walks.{walk}
+use Rattle.hp_model.specs.Registrations.{registration}
+use Rattle.hp_model.specs.Registered.{registered}
+use Rattle.hp_model.specs.Settled.{settled}
+use Rattle.hp_model.specs.Processors.{is_present}
+use Rattle.hp_model.specs.StandsCalls.{InWalk, InRegistration}
+use Rattle.hp_model.specs.Lawful.{Stands, IsLawful}
+use Rattle.hp_model.specs.Heads.{IsHead}
+use Rattle.hp_model.proofs.Counts.{done_entries-none, cond_same}
+use Rattle.hp_model.proofs.Kept.{Balanced, Kept}
+use Rattle.hp_model.proofs.Operations.{Operations, operations_none, operations_step, walk_present}
+use Rattle.hp_model.proofs.WalkSteps.{quiet_event, begin_step, call_step, end_step}
+use Rattle.hp_model.proofs.RegistrationSteps.{registration_begin_step, registration_call_step, registration_end_step}
+
+-- nothing has happened
+pub balanced_none : (head : Head) (c : ℕ) → Balanced head c []
+unfolding registered
+balanced_none head c = record {
+  at = λ s i.
+      rw (done_entries-none c s i Up, done_entries-none c s i Down, cond_same (leb s (settled c [])) 0) (omega arith);
+}
+
+pub away_none : (head : Head) (c : ℕ) → IsHead head → is_present head c ≡ false → settled c [] ≡ 0
+unfolding settled
+away_none head c h away = go (eqb c 0) refl
+  where
+    go : (b : Bool) → eqb c 0 ≡ b → ◌≡◌ {A = ℕ} (cond b 200 0) 0
+    go true e =
+        let f : c ≡ 0 = eqb-true c 0 e in
+        absurd (true≢false (sym h.first_present ∙ (rw f at away)))
+    go false e = refl
+
+pub kept_none : (head : Head) → IsHead head → Kept head []
+unfolding walk registration registered
+kept_none head h = record {
+  at = λ c. record { kept = balanced_none head c; away = away_none head c h };
+  registration_kept = tt;
+  once = λ s i. omega arith;
+  none_at_0 = refl;
+}
+
+pub kept_step : (head : Head) (xs : List Event) (e : Event) → Stands head xs e → Operations head xs → Kept head xs → Kept head (xs ++ e ∷ [])
+kept_step head xs (WalkBegin seat cpu from to) h o k =
+    begin_step head xs seat cpu from to h (walk_present head xs seat cpu from to h o k) k
+kept_step head xs (Call seat cpu state inst dir how) h o k = go h
+  where
+    go : InWalk head xs seat cpu state inst dir how ⊎ InRegistration head xs seat cpu state inst dir how →
+        Kept head (xs ++ Call seat cpu state inst dir how ∷ [])
+    go (inl b) = call_step head xs seat cpu state inst dir how b k
+    go (inr b) = registration_call_step head xs seat cpu state inst dir how b k
+kept_step head xs (WalkEnd seat cpu answer) h o k = end_step head xs seat cpu answer h k
+kept_step head xs (RegBegin seat state op) h o k = registration_begin_step head xs seat state op h k
+kept_step head xs (RegEnd seat answer) h o k = registration_end_step head xs seat answer h k
+kept_step head xs e h o k =
+    quiet_event head xs e
+    (record {
+      walks = λ c w. refl;
+      entries = λ c es. refl;
+      registrations = λ r. refl;
+      registration_entries = λ es. refl;
+      settles = λ c n. refl;
+      registers = λ s f. refl;
+      counts = λ c s i d. refl;
+    })
+    k
+
+-- both together
+pub record Held (head : Head) (events : List Event) : Type 0 where
+  pub kept : Kept head events
+  pub operations : Operations head events
+
+pub held_none : (head : Head) → IsHead head → Held head []
+held_none head h = record { kept = kept_none head h; operations = operations_none head }
+
+pub held_step : (head : Head) (xs : List Event) (e : Event) → Stands head xs e → Held head xs → Held head (xs ++ e ∷ [])
+held_step head xs e h k = record {
+  kept = kept_step head xs e h k.operations k.kept;
+  operations = operations_step head xs e h k.kept k.operations;
+}
+
+pub held_from : (head : Head) (before es : List Event) → Held head before → EachAfter (Stands head) before es →
+    Held head (before ++ es)
+held_from head before [] k h = rw append-nil k
+held_from head before (e ∷ es) k h =
+    let r = held_from head (before ++ e ∷ []) es (held_step head before e h.0 k) h.1 in
+    rw (append_assoc before (e ∷ []) es) at r
+
+pub kept : (head : Head) (events : List Event) → IsLawful head events → Kept head events
+kept head events h = (held_from head [] events (held_none head h.0) h.1).kept

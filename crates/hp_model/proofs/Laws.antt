@@ -1,0 +1,107 @@
+-- One event more: what each notion is after the events and one more.
+use Rattle.std.proofs.Common.{◌≡◌, ℕ, false, cond, eqb, None, List, [], ◌∷◌, ◌++◌, refl, ap, ◌∙◌, append_assoc}
+use Rattle.std.proofs.lemmas.List.{append-nil}
+use Rattle.hp_event.specs.declared.head.Head.{Head}
+use Rattle.hp_event.specs.declared.event.Event.{Event}
+use Rattle.hp_model.specs.Journal.{over_from, EachAfter}
+use Rattle.hp_model.specs.Walks.{walk_step, walk, entries_step, walk_entries, touched_step, touched, walking, walking_step}
+use Rattle.hp_model.specs.Registrations.{registration_step, registration, registration_entries_step, registration_entries}
+use Rattle.hp_model.specs.Registered.{registered_step, registered}
+use Rattle.hp_model.specs.Readers.{reading_since_step, reading_since, readers, readers_step}
+use Rattle.hp_model.specs.MapLock.{operation_step, operation}
+use Rattle.hp_model.specs.Suspend.{frozen_step, frozen}
+use Rattle.hp_model.specs.Settled.{settled_step, settled}
+use Rattle.hp_model.specs.Seats.{admits, admits_step, role_of, role_step, ap_seat, ap_step}
+
+pub over_from_push : {S : Type 0} (step : S → List Event → Event → S) (value : S) (before xs : List Event) (e : Event) →
+    over_from step value before (xs ++ e ∷ []) ≡ step (over_from step value before xs) (before ++ xs) e
+over_from_push step value before [] e = rw append-nil refl
+over_from_push step value before (x ∷ xs) e =
+    over_from_push step (step value before x) (before ++ x ∷ []) xs e
+    ∙ ap (λ z. step (over_from step (step value before x) (before ++ x ∷ []) xs) z e) (append_assoc before (x ∷ []) xs)
+
+pub walk_push : (c : ℕ) (xs : List Event) (e : Event) → walk c (xs ++ e ∷ []) ≡ walk_step c (walk c xs) xs e
+unfolding walk
+walk_push c xs e = over_from_push (walk_step c) None [] xs e
+
+pub walk_entries_push : (c : ℕ) (xs : List Event) (e : Event) →
+    walk_entries c (xs ++ e ∷ []) ≡ entries_step c (walk_entries c xs) xs e
+unfolding walk_entries
+walk_entries_push c xs e = over_from_push (entries_step c) [] [] xs e
+
+pub registration_push : (xs : List Event) (e : Event) → registration (xs ++ e ∷ []) ≡ registration_step (registration xs) xs e
+unfolding registration
+registration_push xs e = over_from_push registration_step None [] xs e
+
+pub registration_entries_push : (xs : List Event) (e : Event) →
+    registration_entries (xs ++ e ∷ []) ≡ registration_entries_step (registration_entries xs) xs e
+unfolding registration_entries
+registration_entries_push xs e = over_from_push registration_entries_step [] [] xs e
+
+pub registered_push : (head : Head) (s : ℕ) (xs : List Event) (e : Event) →
+    registered head s (xs ++ e ∷ []) ≡ registered_step head s (registered head s xs) xs e
+unfolding registered
+registered_push head s xs e = over_from_push (registered_step head s) None [] xs e
+
+pub settled_push : (c : ℕ) (xs : List Event) (e : Event) →
+    settled c (xs ++ e ∷ []) ≡ settled_step c (settled c xs) xs e
+unfolding settled
+settled_push c xs e = over_from_push (settled_step c) (cond (eqb c 0) 200 0) [] xs e
+
+pub touched_push : (c o : ℕ) (xs : List Event) (e : Event) →
+    touched c o (xs ++ e ∷ []) ≡ touched_step c o (touched c o xs) xs e
+unfolding touched
+touched_push c o xs e = over_from_push (touched_step c o) false [] xs e
+
+-- each event stood when it came
+pub EachAfter_push : (Rule : List Event → Event → Type 0) (before xs : List Event) (e : Event) →
+    EachAfter Rule before (xs ++ e ∷ []) → EachAfter Rule before xs × Rule (before ++ xs) e
+EachAfter_push Rule before [] e h = (tt, rw append-nil h.0)
+EachAfter_push Rule before (x ∷ xs) e h =
+    let r = EachAfter_push Rule (before ++ x ∷ []) xs e h.1 in
+    ((h.0, r.0), rw (append_assoc before (x ∷ []) xs) at r.1)
+
+pub reading_since_push : (k : ℕ) (xs : List Event) (e : Event) →
+    reading_since k (xs ++ e ∷ []) ≡ reading_since_step k (reading_since k xs) xs e
+unfolding reading_since
+reading_since_push k xs e = over_from_push (reading_since_step k) None [] xs e
+
+pub operation_push : (xs : List Event) (e : Event) → operation (xs ++ e ∷ []) ≡ operation_step (operation xs) xs e
+unfolding operation
+operation_push xs e = over_from_push operation_step None [] xs e
+
+pub frozen_push : (xs : List Event) (e : Event) → frozen (xs ++ e ∷ []) ≡ frozen_step (frozen xs) xs e
+unfolding frozen
+frozen_push xs e = over_from_push frozen_step [] [] xs e
+
+-- one event more, and the front of what was kept
+pub EachAfter_more : (Rule : List Event → Event → Type 0) (before xs : List Event) (e : Event) →
+    EachAfter Rule before xs → Rule (before ++ xs) e → EachAfter Rule before (xs ++ e ∷ [])
+EachAfter_more Rule before [] e h r = (rw append-nil at r, tt)
+EachAfter_more Rule before (x ∷ xs) e h r =
+    (h.0, EachAfter_more Rule (before ++ x ∷ []) xs e h.1 (rw (append_assoc before (x ∷ []) xs) r))
+
+pub EachAfter_front : (Rule : List Event → Event → Type 0) (before xs ys : List Event) →
+    EachAfter Rule before (xs ++ ys) → EachAfter Rule before xs
+EachAfter_front Rule before [] ys h = tt
+EachAfter_front Rule before (x ∷ xs) ys h = (h.0, EachAfter_front Rule (before ++ x ∷ []) xs ys h.1)
+
+pub walking_push : (xs : List Event) (e : Event) → walking (xs ++ e ∷ []) ≡ walking_step (walking xs) xs e
+unfolding walking
+walking_push xs e = over_from_push walking_step [] [] xs e
+
+pub readers_push : (xs : List Event) (e : Event) → readers (xs ++ e ∷ []) ≡ readers_step (readers xs) xs e
+unfolding readers
+readers_push xs e = over_from_push readers_step [] [] xs e
+
+pub admits_push : (xs : List Event) (e : Event) → admits (xs ++ e ∷ []) ≡ admits_step (admits xs) xs e
+unfolding admits
+admits_push xs e = over_from_push admits_step 0 [] xs e
+
+pub role_push : (k : ℕ) (xs : List Event) (e : Event) → role_of k (xs ++ e ∷ []) ≡ role_step k (role_of k xs) xs e
+unfolding role_of
+role_push k xs e = over_from_push (role_step k) None [] xs e
+
+pub ap_push : (c : ℕ) (xs : List Event) (e : Event) → ap_seat c (xs ++ e ∷ []) ≡ ap_step c (ap_seat c xs) xs e
+unfolding ap_seat
+ap_push c xs e = over_from_push (ap_step c) None [] xs e

@@ -1,0 +1,67 @@
+-- How often a number is in the lists of numbers that the definitions make.
+use Rattle.std.proofs.Common.{◌≡◌, ℕ, zero, suc, ◌+◌, ◌<◌, Bool, true, false, cond, not, ◌&&◌, eqb, ltb, leb, List, [], ◌∷◌, refl, ap, sym, ◌∙◌, arith}
+use Rattle.std.specs.List.{filter}
+use Rattle.std.proofs.lemmas.Bool.Decides.{nat_tests}
+use Rattle.std.proofs.lemmas.Bool.{and_parts, lt-leb, true≢false, false≢true, eqb-true}
+use Rattle.hp_event.specs.declared.head.Head.{Head}
+use Rattle.hp_event.specs.declared.event.Event.{Event}
+use Rattle.hp_model.specs.Lists.{occurs, without, numbers}
+use Rattle.hp_model.specs.Settled.{settled}
+use Rattle.hp_model.specs.Processors.{is_present, processors}
+use Rattle.hp_model.proofs.Counts.{cond_same, occurs-append}
+
+-- on how many of the processors of a registration one is
+pub occurs-numbers : (c n : ℕ) → occurs c (numbers n) ≡ cond (ltb c n) 1 0
+occurs-numbers c zero = grind (arith, nat_tests)
+occurs-numbers c (suc n) =
+    rw (occurs-append c (numbers n) (n ∷ []), occurs-numbers c n) (one_more c n)
+  where
+    one_more : (c n : ℕ) → cond (ltb c n) 1 0 + (cond (eqb n c) 1 0 + 0) ≡ cond (ltb c (suc n)) 1 0
+    one_more c n = grind (arith, nat_tests)
+
+pub kept_step : (e q : Bool) (n : ℕ) → (e ≡ true → q ≡ true) → cond e 1 0 + cond q n 0 ≡ cond q (cond e 1 0 + n) 0
+kept_step true true n h = refl
+kept_step true false n h = absurd (false≢true (h refl))
+kept_step false true n h = refl
+kept_step false false n h = refl
+
+pub left_step : (e q : Bool) (n : ℕ) → (e ≡ true → q ≡ false) → cond q n 0 ≡ cond q (cond e 1 0 + n) 0
+left_step true true n h = absurd (true≢false (h refl))
+left_step true false n h = refl
+left_step false true n h = omega arith
+left_step false false n h = refl
+
+pub occurs-filter : (p : ℕ → Bool) (c : ℕ) (xs : List ℕ) → occurs c (filter p xs) ≡ cond (p c) (occurs c xs) 0
+occurs-filter p c [] = sym (cond_same (p c) 0)
+occurs-filter p c (x ∷ xs) = go (p x) refl (occurs-filter p c xs)
+  where
+    go : (q : Bool) → p x ≡ q → occurs c (filter p xs) ≡ cond (p c) (occurs c xs) 0 →
+        occurs c (cond q (x ∷ filter p xs) (filter p xs)) ≡ cond (p c) (cond (eqb x c) 1 0 + occurs c xs) 0
+    go true e ih = rw ih (kept_step (eqb x c) (p c) (occurs c xs) (λ f. ap p (sym (eqb-true x c f)) ∙ e))
+    go false e ih = ih ∙ left_step (eqb x c) (p c) (occurs c xs) (λ f. ap p (sym (eqb-true x c f)) ∙ e)
+
+-- A processor that is away stands at 0, so a registration touches exactly those at its state or above it.
+pub occurs-processors : (head : Head) (c s : ℕ) (events : List Event) → 0 < s →
+    (is_present head c ≡ false → settled c events ≡ 0) →
+    occurs c (processors head s events) ≡ cond (leb s (settled c events)) 1 0
+occurs-processors head c s events pos away =
+    occurs-filter (λ x. is_present head x && leb s (settled x events)) c (numbers head.possible)
+    ∙ rw (occurs-numbers c head.possible) (go (is_present head c) refl)
+  where
+    go : (b : Bool) → is_present head c ≡ b →
+        ◌≡◌ {A = ℕ} (cond (b && leb s (settled c events)) (cond (ltb c head.possible) 1 0) 0)
+        (cond (leb s (settled c events)) 1 0)
+    go true e =
+        let f : ltb c head.possible ≡ true =
+        (and_parts (ltb c head.possible) (not (ltb 0 (occurs c head.absent))) e).0
+        in
+        rw f refl
+    go false e = rw (away e, lt-leb s 0 pos) refl
+
+-- what the end of a registration does to the keys of its state
+pub not_cond : (b : Bool) (n : ℕ) → cond (not b) n 0 ≡ cond b 0 n
+not_cond true n = refl
+not_cond false n = refl
+
+pub occurs-without : (i j : ℕ) (xs : List ℕ) → occurs j (without i xs) ≡ cond (eqb j i) 0 (occurs j xs)
+occurs-without i j xs = occurs-filter (λ x. not (eqb x i)) j xs ∙ not_cond (eqb j i) (occurs j xs)

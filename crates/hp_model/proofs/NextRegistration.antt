@@ -1,0 +1,61 @@
+-- After some entries of a registration the next slot is determined, but for whether it fails.
+use Rattle.std.proofs.Common.{◌≡◌, ℕ, Bool, true, false, Option, Some, None, List, [], ◌∷◌, ◌++◌, refl, append_assoc}
+use Rattle.std.proofs.lemmas.List.{append-nil}
+use Rattle.hp_states.specs.declared.section.Dir.TheVariants.{Up, Down}
+use Rattle.hp_states.specs.declared.section.Place.{Place}
+use Rattle.hp_event.specs.declared.event.Event.{Event}
+use Rattle.hp_model.specs.Crossing.{Slot}
+use Rattle.hp_model.specs.RegistrationShape.{each, Registering, made, undone, IsRegistrationShape}
+use Rattle.hp_model.specs.StandsCalls.{IsNext}
+use Rattle.hp_model.proofs.NextSlot.{with_fails, Tree, stop, dead, step, Follow, next_same}
+
+abbrev pub down_tree : Place → (state inst : ℕ) → (cpus : List ℕ) → Tree
+down_tree p s i [] = stop
+down_tree p s i (c ∷ cs) =
+    step (record { cpu = c; state = s; inst = i; dir = Down; place = p; first = false; fails = false }) (down_tree p s i cs) dead
+
+abbrev pub add_tree : (state inst : ℕ) → (seen cpus : List ℕ) → Tree
+add_tree s i seen [] = stop
+add_tree s i seen (c ∷ cs) =
+    step (record { cpu = c; state = s; inst = i; dir = Up; place = Place.Add; first = false; fails = false })
+    (add_tree s i (seen ++ c ∷ []) cs) (down_tree Place.Undo s i seen)
+
+abbrev pub registration_tree : (adding : Bool) → (state : ℕ) → Option ℕ → (cpus : List ℕ) → Tree
+registration_tree adding s None cs = stop
+registration_tree true s (Some i) cs = add_tree s i [] cs
+registration_tree false s (Some i) cs = down_tree Place.Remove s i cs
+
+pub down_follows : (p : Place) (s i : ℕ) (cs : List ℕ) → Follow (down_tree p s i cs) (each p Down s i cs)
+down_follows p s i [] = tt
+down_follows p s i (c ∷ cs) = (refl, down_follows p s i cs)
+
+pub add_follows : (s i : ℕ) (seen cs : List ℕ) → Follow (add_tree s i seen cs) (each Place.Add Up s i cs)
+add_follows s i seen [] = tt
+add_follows s i seen (c ∷ cs) = (refl, add_follows s i (seen ++ c ∷ []) cs)
+
+pub undone_follows : (s i : ℕ) (seen before : List ℕ) (cpu : ℕ) (after : List ℕ) →
+    Follow (add_tree s i seen (before ++ cpu ∷ after))
+    (each Place.Add Up s i before
+    ++ (record { cpu = cpu; state = s; inst = i; dir = Up; place = Place.Add; first = false; fails = true }
+    ∷ each Place.Undo Down s i (seen ++ before)))
+undone_follows s i seen [] cpu after = (refl, rw (append-nil seen) (down_follows Place.Undo s i seen))
+undone_follows s i seen (c ∷ before) cpu after =
+    (refl, rw (append_assoc seen (c ∷ []) before) at (undone_follows s i (seen ++ c ∷ []) before cpu after))
+
+pub registration_follows : (adding : Bool) (s : ℕ) (key : Option ℕ) (cs : List ℕ) (xs : List Slot) (o : Registering) →
+    IsRegistrationShape adding s key cs xs o → Follow (registration_tree adding s key cs) xs
+registration_follows adding s None cs xs made h = rw h tt
+registration_follows adding s None cs xs undone h = elim h [ ]
+registration_follows true s (Some i) cs xs made h = rw h (add_follows s i [] cs)
+registration_follows true s (Some i) cs xs undone h =
+    rw (h.cpus_are, h.slots_are) (undone_follows s i [] h.before h.cpu h.after)
+registration_follows false s (Some i) cs xs made h = rw h (down_follows Place.Remove s i cs)
+registration_follows false s (Some i) cs xs undone h = elim h [ ]
+
+pub next_registration_same : (adding : Bool) (s : ℕ) (key : Option ℕ) (cs : List ℕ) (xs ys : List Slot) (o p : Registering)
+    (es : List Event) (x y : Slot) → IsRegistrationShape adding s key cs xs o → IsRegistrationShape adding s key cs ys p →
+    IsNext xs es x → IsNext ys es y → with_fails x false ≡ with_fails y false
+next_registration_same adding s key cs xs ys o p es x y h k u v =
+    let hx = rw u.slots_are at (registration_follows adding s key cs xs o h) in
+    let hy = rw v.slots_are at (registration_follows adding s key cs ys p k) in
+    next_same (registration_tree adding s key cs) u.front v.front x y u.rest v.rest es hx hy u.filled v.filled

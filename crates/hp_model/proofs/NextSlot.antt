@@ -1,0 +1,255 @@
+-- After some entries of a walk the next slot is determined, but for whether it fails: all shapes of one
+-- plan are ways through one tree, which branches at a fault alone.
+use Rattle.std.proofs.Common.{◌≡◌, ℕ, Bool, true, false, cond, not, List, [], ◌∷◌, ◌++◌, reverse, refl, ap, sym, ◌∙◌, append_assoc}
+use Rattle.std.proofs.lemmas.List.{append-nil, reverse-append}
+use Rattle.std.proofs.lemmas.Bool.{true≢false, false≢true}
+use Rattle.hp_states.specs.declared.section.Dir.{Dir}
+use Rattle.hp_states.specs.declared.section.Place.{Place}
+use Rattle.hp_states.specs.declared.section.Place.TheVariants.{Forward, Back, Part}
+use Rattle.hp_states.specs.Sections.{opposite}
+use Rattle.hp_event.specs.declared.event.Event.{Event}
+use Rattle.hp_event.specs.declared.event.Event.TheVariants.{Call}
+use Rattle.hp_model.specs.Crossing.{Slot, Fits, Fill, visit, Crossing, done, failed, slots_of, slots}
+use Rattle.hp_model.specs.Lists.{is_empty}
+use Rattle.hp_model.specs.WalkShape.{Outcome, went, returned, stopped, crossed, IsWalkShape}
+use Rattle.hp_model.specs.StandsCalls.{IsNext}
+
+abbrev pub with_fails : Slot → Bool → Slot
+with_fails x b =
+    record { cpu = x.cpu; state = x.state; inst = x.inst; dir = x.dir; place = x.place; first = x.first; fails = b }
+
+-- what can follow: nothing, no shape at all, or one slot and what follows where it is done and where it fails
+pub data Tree : Type 0 where
+  stop : Tree
+  dead : Tree
+  step : Slot → Tree → Tree → Tree
+
+abbrev pub Follow : Tree → List Slot → Type 0
+Follow stop [] = Unit {0}
+Follow stop (x ∷ xs) = ⊥
+Follow dead xs = ⊥
+Follow (step s a b) [] = ⊥
+Follow (step s a b) (x ∷ xs) = (x ≡ with_fails s x.fails) × Follow (cond x.fails b a) xs
+
+-- the keys of a state in list order; a fault goes on by the keys before it
+abbrev pub visit_tree : (cpu : ℕ) → Place → Dir → (state : ℕ) → (first : Bool) → (earlier : List ℕ) → List ℕ → Tree →
+    (List ℕ → Tree) → Tree
+visit_tree c p d s b earlier [] then else = then
+visit_tree c p d s b earlier (i ∷ is) then else =
+    step (record { cpu = c; state = s; inst = i; dir = d; place = p; first = b; fails = false })
+    (visit_tree c p d s false (earlier ++ i ∷ []) is then else) (else earlier)
+
+-- undoing part of a state never fails
+abbrev pub part_tree : (cpu : ℕ) → Dir → (state : ℕ) → List ℕ → Tree → Tree
+part_tree c d s [] then = then
+part_tree c d s (i ∷ is) then =
+    step (record { cpu = c; state = s; inst = i; dir = d; place = Part; first = false; fails = false })
+    (part_tree c d s is then) dead
+
+abbrev pub back_tree : (cpu : ℕ) → (keys : ℕ → List ℕ) → Dir → List ℕ → Tree
+back_tree c keys d [] = stop
+back_tree c keys d (t ∷ ts) =
+    visit_tree c Back d t true [] (keys t) (back_tree c keys d ts) (λ earlier. part_tree c (opposite d) t earlier stop)
+
+-- the walk of a plan, with the states that are crossed already, last first
+abbrev pub walk_tree : (cpu : ℕ) → (keys : ℕ → List ℕ) → Dir → (crossed : List ℕ) → (plan : List ℕ) → Tree
+walk_tree c keys d stack [] = stop
+walk_tree c keys d stack (s ∷ ss) =
+    visit_tree c Forward d s true [] (keys s) (walk_tree c keys d (s ∷ stack) ss)
+    (λ earlier. part_tree c (opposite d) s earlier (back_tree c keys (opposite d) stack))
+
+pub visit_done : (c : ℕ) (p : Place) (d : Dir) (s : ℕ) (b : Bool) (earlier is : List ℕ) (t : Tree) (f : List ℕ → Tree) (xs : List Slot) →
+    Follow t xs → Follow (visit_tree c p d s b earlier is t f) (visit c p d s b is ++ xs)
+visit_done c p d s b earlier [] t f xs h = h
+visit_done c p d s b earlier (i ∷ is) t f xs h = (refl, visit_done c p d s false (earlier ++ i ∷ []) is t f xs h)
+
+pub both_false : (b : Bool) → cond b false false ≡ false
+both_false true = refl
+both_false false = refl
+
+pub visit_failed : (c : ℕ) (p : Place) (d : Dir) (s : ℕ) (b : Bool) (before earlier : List ℕ) (i : ℕ) (later : List ℕ) (t : Tree)
+    (f : List ℕ → Tree) (q : Bool) (xs : List Slot) → q ≡ cond (is_empty earlier) b false →
+    Follow (f (before ++ earlier)) xs →
+    Follow (visit_tree c p d s b before (earlier ++ i ∷ later) t f)
+    (visit c p d s b earlier
+    ++ (record { cpu = c; state = s; inst = i; dir = d; place = p; first = q; fails = true } ∷ xs))
+visit_failed c p d s b before [] i later t f q xs e h = (rw e refl, rw append-nil at h)
+visit_failed c p d s b before (k ∷ earlier) i later t f q xs e h = (
+  refl,
+  visit_failed c p d s false (before ++ k ∷ []) earlier i later t f q xs (e ∙ sym (both_false (is_empty earlier)))
+      (rw (append_assoc before (k ∷ []) earlier) h),
+)
+
+pub first_is : (earlier : List ℕ) → is_empty earlier ≡ cond (is_empty earlier) true false
+first_is [] = refl
+first_is (x ∷ xs) = refl
+
+pub part_done : (c : ℕ) (d : Dir) (s : ℕ) (is : List ℕ) (t : Tree) (xs : List Slot) → Follow t xs →
+    Follow (part_tree c d s is t) (visit c Part d s false is ++ xs)
+part_done c d s [] t xs h = h
+part_done c d s (i ∷ is) t xs h = (refl, part_done c d s is t xs h)
+
+-- done crossings, forward and back
+pub slots-append : (c : ℕ) (keys : ℕ → List ℕ) (xs ys : List Crossing) → slots c keys (xs ++ ys) ≡ slots c keys xs ++ slots c keys ys
+slots-append c keys [] ys = refl
+slots-append c keys (x ∷ xs) ys =
+    ap (λ z. slots_of c keys x ++ z) (slots-append c keys xs ys) ∙ sym (append_assoc (slots_of c keys x) (slots c keys xs) (slots c keys ys))
+
+pub back_done : (c : ℕ) (keys : ℕ → List ℕ) (d : Dir) (ts us : List ℕ) (xs : List Slot) → Follow (back_tree c keys d us) xs →
+    Follow (back_tree c keys d (ts ++ us)) (slots c keys (crossed Back d ts) ++ xs)
+back_done c keys d [] us xs h = h
+back_done c keys d (t ∷ ts) us xs h =
+    rw (append_assoc (visit c Back d t true (keys t)) (slots c keys (crossed Back d ts)) xs)
+    (visit_done c Back d t true [] (keys t) (back_tree c keys d (ts ++ us)) (λ earlier. part_tree c (opposite d) t earlier stop) _
+    (back_done c keys d ts us xs h))
+
+pub forward_done : (c : ℕ) (keys : ℕ → List ℕ) (d : Dir) (stack ss rest : List ℕ) (xs : List Slot) →
+    Follow (walk_tree c keys d (reverse ss ++ stack) rest) xs →
+    Follow (walk_tree c keys d stack (ss ++ rest)) (slots c keys (crossed Forward d ss) ++ xs)
+forward_done c keys d stack [] rest xs h = h
+forward_done c keys d stack (s ∷ ss) rest xs h =
+    let h1 = rw (reverse-append (s ∷ []) ss) at h in
+    let h2 = rw (append_assoc (reverse ss) (s ∷ []) stack) at h1 in
+    rw (append_assoc (visit c Forward d s true (keys s)) (slots c keys (crossed Forward d ss)) xs)
+    (visit_done c Forward d s true [] (keys s) (walk_tree c keys d (s ∷ stack) (ss ++ rest))
+    (λ earlier. part_tree c (opposite d) s earlier (back_tree c keys (opposite d) stack)) _
+    (forward_done c keys d (s ∷ stack) ss rest xs h2))
+
+pub failed_follows : (c : ℕ) (keys : ℕ → List ℕ) (p : Place) (d : Dir) (s : ℕ) (earlier : List ℕ) (i : ℕ) (later : List ℕ)
+    (t : Tree) (f : List ℕ → Tree) (xs : List Slot) → keys s ≡ earlier ++ i ∷ later →
+    Follow (f earlier) (visit c Part (opposite d) s false earlier ++ xs) →
+    Follow (visit_tree c p d s true [] (keys s) t f) (slots_of c keys (failed p d s earlier i) ++ xs)
+failed_follows c keys p d s earlier i later t f xs e h =
+    let x : Slot = record { cpu = c; state = s; inst = i; dir = d; place = p; first = is_empty earlier; fails = true } in
+    rw (e, append_assoc (visit c p d s true earlier) (x ∷ visit c Part (opposite d) s false earlier) xs)
+    (visit_failed c p d s true [] earlier i later t f (is_empty earlier) (visit c Part (opposite d) s false earlier ++ xs)
+    (first_is earlier) h)
+
+pub back_all : (c : ℕ) (keys : ℕ → List ℕ) (d : Dir) (ts : List ℕ) → Follow (back_tree c keys d ts) (slots c keys (crossed Back d ts))
+back_all c keys d ts =
+    let r = back_done c keys d ts [] [] tt in
+    rw (append-nil ts, append-nil (slots c keys (crossed Back d ts))) at r
+
+pub back_follows : (c : ℕ) (keys : ℕ → List ℕ) (d : Dir) (before : List ℕ) (s : ℕ) (after earlier : List ℕ) (i : ℕ) (later : List ℕ) →
+    keys s ≡ earlier ++ i ∷ later →
+    Follow (walk_tree c keys d [] (before ++ s ∷ after))
+    (slots c keys (crossed Forward d before ++ (failed Forward d s earlier i ∷ crossed Back (opposite d) (reverse before))))
+back_follows c keys d before s after earlier i later e =
+    rw (slots-append c keys (crossed Forward d before)
+    (failed Forward d s earlier i ∷ crossed Back (opposite d) (reverse before)))
+    (forward_done c keys d [] before (s ∷ after) _
+    (failed_follows c keys Forward d s earlier i later (walk_tree c keys d (s ∷ (reverse before ++ [])) after)
+    (λ earlier. part_tree c (opposite d) s earlier (back_tree c keys (opposite d) (reverse before ++ []))) _ e
+    (part_done c (opposite d) s earlier (back_tree c keys (opposite d) (reverse before ++ [])) _
+    (rw (append-nil (reverse before)) (back_all c keys (opposite d) (reverse before))))))
+
+pub stuck_follows : (c : ℕ) (keys : ℕ → List ℕ) (d : Dir) (before : List ℕ) (t : ℕ) (between : List ℕ) (s : ℕ)
+    (after earlier : List ℕ) (i : ℕ) (later earlier' : List ℕ) (i' : ℕ) (later' : List ℕ) →
+    keys s ≡ earlier ++ i ∷ later → keys t ≡ earlier' ++ i' ∷ later' →
+    Follow (walk_tree c keys d [] (before ++ (t ∷ (between ++ s ∷ after))))
+    (slots c keys
+    (crossed Forward d before
+    ++ (done Forward d t
+    ∷ (crossed Forward d between
+    ++ (failed Forward d s earlier i
+    ∷ (crossed Back (opposite d) (reverse between) ++ failed Back (opposite d) t earlier' i' ∷ []))))))
+stuck_follows c keys d before t between s after earlier i later earlier' i' later' e e' =
+    rw (
+      slots-append c keys (crossed Forward d before)
+          (done Forward d t
+          ∷ (crossed Forward d between
+          ++ (failed Forward d s earlier i
+          ∷ (crossed Back (opposite d) (reverse between) ++ failed Back (opposite d) t earlier' i' ∷ [])))),
+      slots-append c keys (crossed Forward d between)
+          (failed Forward d s earlier i
+          ∷ (crossed Back (opposite d) (reverse between) ++ failed Back (opposite d) t earlier' i' ∷ [])),
+      slots-append c keys (crossed Back (opposite d) (reverse between)) (failed Back (opposite d) t earlier' i' ∷ []),
+    )
+    (forward_done c keys d [] before (t ∷ (between ++ s ∷ after)) _
+    (visit_done c Forward d t true [] (keys t) (walk_tree c keys d (t ∷ (reverse before ++ [])) (between ++ s ∷ after))
+    (λ earlier. part_tree c (opposite d) t earlier (back_tree c keys (opposite d) (reverse before ++ []))) _
+    (forward_done c keys d (t ∷ (reverse before ++ [])) between (s ∷ after) _
+    (failed_follows c keys Forward d s earlier i later
+    (walk_tree c keys d (s ∷ (reverse between ++ (t ∷ (reverse before ++ [])))) after)
+    (λ earlier. part_tree c (opposite d) s earlier
+    (back_tree c keys (opposite d) (reverse between ++ (t ∷ (reverse before ++ []))))) _ e
+    (part_done c (opposite d) s earlier
+    (back_tree c keys (opposite d) (reverse between ++ (t ∷ (reverse before ++ [])))) _
+    (back_done c keys (opposite d) (reverse between) (t ∷ (reverse before ++ [])) _
+    (failed_follows c keys Back (opposite d) t earlier' i' later'
+    (back_tree c keys (opposite d) (reverse before ++ []))
+    (λ earlier. part_tree c (opposite (opposite d)) t earlier stop) [] e'
+    (part_done c (opposite (opposite d)) t earlier' stop [] tt))))))))
+
+-- each shape follows the tree of its plan
+pub shape_follows : (c : ℕ) (keys : ℕ → List ℕ) (d : Dir) (plan : List ℕ) (xs : List Crossing) (o : Outcome) →
+    IsWalkShape keys d plan xs o → Follow (walk_tree c keys d [] plan) (slots c keys xs)
+shape_follows c keys d plan xs went h =
+    let r = forward_done c keys d [] plan [] [] tt in
+    rw h (rw (append-nil plan, append-nil (slots c keys (crossed Forward d plan))) at r)
+shape_follows c keys d plan xs returned h =
+    rw (h.plan_is, h.crossings_are)
+    (back_follows c keys d h.before h.state h.after h.earlier h.inst h.later h.keys_are)
+shape_follows c keys d plan xs (stopped at) h =
+    rw (h.plan_is, h.crossings_are)
+    (stuck_follows c keys d h.before h.stuck_state h.between h.state h.after h.earlier h.inst h.later h.stuck_earlier
+    h.stuck_inst h.stuck_later h.keys_are h.stuck_keys_are)
+
+-- what follows one tree has the same next slot
+pub not_same : (a b : Bool) → not a ≡ not b → a ≡ b
+not_same true true h = refl
+not_same true false h = absurd (false≢true h)
+not_same false true h = absurd (true≢false h)
+not_same false false h = refl
+
+pub fails_same : (x y : Slot) (e : Event) → Fits x e → Fits y e → x.fails ≡ y.fails
+fails_same x y (Call seat cpu state inst dir how) h k = not_same x.fails y.fails (sym h.4 ∙ k.4)
+fails_same x y e h k = elim h [ ]
+
+pub first_same : (t : Tree) (x y : Slot) (r q : List Slot) → Follow t (x ∷ r) → Follow t (y ∷ q) →
+    with_fails x false ≡ with_fails y false
+first_same stop x y r q h k = elim h [ ]
+first_same dead x y r q h k = elim h [ ]
+first_same (step s a b) x y r q h k =
+    ap (λ z. with_fails z false) h.0 ∙ sym (ap (λ z. with_fails z false) k.0)
+
+-- both go on below the same branch
+pub below_same : (t : Tree) (x y : Slot) (r q : List Slot) → x.fails ≡ y.fails → Follow t (x ∷ r) → Follow t (y ∷ q) →
+    (u : Tree) × Follow u r × Follow u q
+below_same stop x y r q e h k = elim h [ ]
+below_same dead x y r q e h k = elim h [ ]
+below_same (step s a b) x y r q e h k = (cond x.fails b a, h.1, rw e k.1)
+
+pub next_same : (t : Tree) (f g : List Slot) (x y : Slot) (r q : List Slot) (es : List Event) →
+    Follow t (f ++ x ∷ r) → Follow t (g ++ y ∷ q) → Fill f es → Fill g es → with_fails x false ≡ with_fails y false
+next_same t [] [] x y r q [] h k u v = first_same t x y r q h k
+next_same t (z ∷ f) g x y r q [] h k u v = elim u [ ]
+next_same t [] (z ∷ g) x y r q [] h k u v = elim v [ ]
+next_same t [] g x y r q (e ∷ es) h k u v = elim u [ ]
+next_same t (w ∷ f) [] x y r q (e ∷ es) h k u v = elim v [ ]
+next_same t (w ∷ f) (z ∷ g) x y r q (e ∷ es) h k u v =
+    let b = below_same t w z (f ++ x ∷ r) (g ++ y ∷ q) (fails_same w z e u.0 v.0) h k in
+    next_same b.0 f g x y r q es b.1 b.2 u.1 v.1
+
+-- After some entries of a walk the next slot is the same in every shape, but for whether it fails.
+pub next_slot_same : (c : ℕ) (keys : ℕ → List ℕ) (d : Dir) (plan : List ℕ) (xs ys : List Crossing) (o p : Outcome)
+    (es : List Event) (x y : Slot) → IsWalkShape keys d plan xs o → IsWalkShape keys d plan ys p →
+    IsNext (slots c keys xs) es x → IsNext (slots c keys ys) es y → with_fails x false ≡ with_fails y false
+next_slot_same c keys d plan xs ys o p es x y h k u v =
+    let hx = rw u.slots_are at (shape_follows c keys d plan xs o h) in
+    let hy = rw v.slots_are at (shape_follows c keys d plan ys p k) in
+    next_same (walk_tree c keys d [] plan) u.front v.front x y u.rest v.rest es hx hy u.filled v.filled
+
+-- a walk that can end can't go on
+pub ended_same : (t : Tree) (xs g : List Slot) (y : Slot) (q : List Slot) (es : List Event) →
+    Follow t xs → Follow t (g ++ y ∷ q) → Fill xs es → Fill g es → ⊥
+ended_same stop [] [] y q [] h k u v = k
+ended_same dead [] [] y q [] h k u v = h
+ended_same (step s a b) [] [] y q [] h k u v = h
+ended_same t (x ∷ xs) g y q [] h k u v = elim u [ ]
+ended_same t [] (z ∷ g) y q [] h k u v = elim v [ ]
+ended_same t [] g y q (e ∷ es) h k u v = elim u [ ]
+ended_same t (x ∷ xs) [] y q (e ∷ es) h k u v = elim v [ ]
+ended_same t (x ∷ xs) (z ∷ g) y q (e ∷ es) h k u v =
+    let b = below_same t x z xs (g ++ y ∷ q) (fails_same x z e u.0 v.0) h k in
+    ended_same b.0 xs g y q es b.1 b.2 u.1 v.1

@@ -1,0 +1,266 @@
+-- Whose everything in flight is: an operation and a registration are of clients that are in, an AP seat is of its
+-- processor, and a walk is of the operation that holds the map lock, alone.
+use Rattle.std.proofs.Common.{◌≡◌, ℕ, ◌+◌, ◌<◌, Bool, true, false, cond, eqb, Option, Some, None, List, [], ◌∷◌, ◌++◌, refl, ap, sym, ◌∙◌, arith}
+use Rattle.std.proofs.lemmas.Bool.{true≢false, eqb-true, eq-eqb, or_parts}
+use Rattle.std.proofs.lemmas.Bool.Decides.{nat_tests}
+use Rattle.hp_event.specs.declared.event.Op.{Op}
+use Rattle.hp_event.specs.declared.event.Role.{Role}
+use Rattle.hp_event.specs.declared.event.Role.TheVariants.{Client, Ap}
+use Rattle.hp_event.specs.declared.head.Head.{Head}
+use Rattle.hp_event.specs.declared.event.Event.{Event}
+use Rattle.hp_event.specs.declared.event.Event.TheVariants.{Admit, Leave, Enter, WalkBegin, WalkEnd, OpEnd, RegBegin, RegEnd}
+use Rattle.hp_model.specs.Walks.{Walk, walk}
+use Rattle.hp_model.specs.Registrations.{Registration, registration}
+use Rattle.hp_model.specs.MapLock.{Operation, operation, is_map_op, is_map_held}
+use Rattle.hp_model.specs.Seats.{admits, role_of, ap_seat, unseated, holds_map, registers, is_busy}
+use Rattle.hp_model.specs.Waits.{is_waiting}
+use Rattle.hp_model.specs.StandsSeats.{Admits}
+use Rattle.hp_model.specs.Lawful.{Stands}
+use Rattle.hp_model.proofs.Laws.{walk_push, registration_push, operation_push, role_push, admits_push, ap_push}
+use Rattle.hp_model.proofs.InFlight.{none_of, walk_none}
+
+pub record Owners (xs : List Event) : Type 0 where
+  pub seats_below : (k : ℕ) (role : Role) → role_of k xs ≡ Some role → k < admits xs
+  pub ap_role : (c k : ℕ) → ap_seat c xs ≡ Some k → role_of k xs ≡ Some (Ap c)
+  pub op_client : (o : Operation) → operation xs ≡ Some o → role_of o.seat xs ≡ Some Client
+  pub reg_client : (r : Registration) → registration xs ≡ Some r → role_of r.seat xs ≡ Some Client
+  pub apart : (o : Operation) (r : Registration) → operation xs ≡ Some o → registration xs ≡ Some r → o.seat ≡ r.seat → ⊥
+  pub walk_op : (c : ℕ) (w : Walk) → walk c xs ≡ Some w → (o : Operation) × (operation xs ≡ Some o) × (o.seat ≡ w.seat)
+  pub one_walk : (c d : ℕ) (w v : Walk) → walk c xs ≡ Some w → walk d xs ≡ Some v → c ≡ d
+
+pub same_some : {A : Type 0} (x y : A) → Some x ≡ Some y → x ≡ y
+same_some x y h = cc
+
+pub none_some : {A : Type 0} (x : A) → None ≡ Some x → ⊥
+none_some x h = cc
+
+flip : (a b : ℕ) → eqb a b ≡ false → eqb b a ≡ false
+flip a b h = grind (arith, nat_tests)
+
+-- a seat that isn't busy holds nothing
+pub idle_op : (xs : List Event) (k : ℕ) (o : Operation) → is_busy k xs ≡ false → operation xs ≡ Some o → eqb o.seat k ≡ false
+idle_op xs k o h e =
+    let p = (or_parts (holds_map k (operation xs)) (registers k (registration xs)) h).0 in rw e at p
+
+pub idle_reg : (xs : List Event) (k : ℕ) (r : Registration) → is_busy k xs ≡ false → registration xs ≡ Some r →
+    eqb r.seat k ≡ false
+idle_reg xs k r h e =
+    let p = (or_parts (holds_map k (operation xs)) (registers k (registration xs)) h).1 in rw e at p
+
+pub not_self : (a k : ℕ) → eqb a k ≡ false → a ≡ k → ⊥
+not_self a k h e = true≢false (sym (eq-eqb a k e) ∙ h)
+
+-- an operation of the map lock that waits for nothing finds it free
+pub map_free : (xs : List Event) (op : Op) → is_map_op op ≡ true → is_waiting xs op ≡ false → operation xs ≡ None
+map_free xs (Op.Up c) m h = none_of (operation xs) h
+map_free xs (Op.Down c) m h = none_of (operation xs) h
+map_free xs (Op.Target c v) m h = none_of (operation xs) (or_parts (is_map_held xs) _ h).0
+map_free xs (Op.Boot n) m h = none_of (operation xs) h
+map_free xs Op.Disable m h = none_of (operation xs) h
+map_free xs Op.Enable m h = none_of (operation xs) h
+map_free xs (Op.Freeze p) m h = none_of (operation xs) h
+map_free xs Op.Thaw m h = none_of (operation xs) h
+map_free xs op m h = absurd (true≢false (sym m))
+
+-- the roles of those that were in stay
+admitted : (head : Head) (xs : List Event) (seat : ℕ) (role : Role) → Admits head xs seat role → (k : ℕ) (r : Role) →
+    k < admits xs → role_of k xs ≡ Some r → role_of k (xs ++ Admit seat role ∷ []) ≡ Some r
+admitted head xs seat role h k r below q = rw (role_push k xs (Admit seat role)) (go (eqb seat k) refl)
+  where
+    go : (b : Bool) → eqb seat k ≡ b → cond b (Some role) (role_of k xs) ≡ Some r
+    go true e = let s = eqb-true seat k e in let a = h.seat_is in absurd (omega arith)
+    go false e = q
+
+left : (xs : List Event) (seat k : ℕ) (r : Role) → eqb seat k ≡ false → role_of k xs ≡ Some r →
+    role_of k (xs ++ Leave seat ∷ []) ≡ Some r
+left xs seat k r e q = rw (role_push k xs (Leave seat), e) q
+
+seats_below_step : (head : Head) (xs : List Event) (e : Event) → Stands head xs e → Owners xs →
+    (k : ℕ) (role : Role) → role_of k (xs ++ e ∷ []) ≡ Some role → k < admits (xs ++ e ∷ [])
+seats_below_step head xs (Admit seat role) h o =
+    λ k r q. rw (admits_push xs (Admit seat role)) (go k r (eqb seat k) refl (rw (role_push k xs (Admit seat role)) at q))
+  where
+    go : (k : ℕ) (r : Role) (b : Bool) → eqb seat k ≡ b → cond b (Some role) (role_of k xs) ≡ Some r → k < admits xs + 1
+    go k r true e q = let s = eqb-true seat k e in let a = h.seat_is in omega arith
+    go k r false e q = let b = o.seats_below k r q in omega arith
+seats_below_step head xs (Leave seat) h o =
+    λ k r q. rw (admits_push xs (Leave seat)) (go k r (eqb seat k) (rw (role_push k xs (Leave seat)) at q))
+  where
+    go : (k : ℕ) (r : Role) (b : Bool) → cond b None (role_of k xs) ≡ Some r → k < admits xs
+    go k r true q = absurd (none_some r q)
+    go k r false q = o.seats_below k r q
+seats_below_step head xs e h o =
+    λ k r q. rw (admits_push xs e) (o.seats_below k r (rw (role_push k xs e) at q))
+
+unseated_some : (seat : ℕ) (o : Option ℕ) (k : ℕ) → unseated seat o ≡ Some k → (o ≡ Some k) × (eqb k seat ≡ false)
+unseated_some seat None k h = absurd (none_some k h)
+unseated_some seat (Some j) k h = go (eqb j seat) refl h
+  where
+    go : (b : Bool) → eqb j seat ≡ b → cond b None (Some j) ≡ Some k → (Some j ≡ Some k) × (eqb k seat ≡ false)
+    go true e h = absurd (none_some k h)
+    go false e h = (h, rw (same_some j k h) at e)
+
+ap_role_step : (head : Head) (xs : List Event) (e : Event) → Stands head xs e → Owners xs →
+    (c k : ℕ) → ap_seat c (xs ++ e ∷ []) ≡ Some k → role_of k (xs ++ e ∷ []) ≡ Some (Ap c)
+ap_role_step head xs (Admit seat Client) h o =
+    λ c k q.
+    let r = o.ap_role c k (rw (ap_push c xs (Admit seat Client)) at q) in
+    admitted head xs seat Client h k (Ap c) (o.seats_below k (Ap c) r) r
+ap_role_step head xs (Admit seat (Ap cpu)) h o =
+    λ c k q. go c k (eqb cpu c) refl (rw (ap_push c xs (Admit seat (Ap cpu))) at q)
+  where
+    go : (c k : ℕ) (b : Bool) → eqb cpu c ≡ b → cond b (Some seat) (ap_seat c xs) ≡ Some k →
+        role_of k (xs ++ Admit seat (Ap cpu) ∷ []) ≡ Some (Ap c)
+    go c k true e q =
+        let self = eq-eqb seat k (same_some seat k q) in
+        rw (role_push k xs (Admit seat (Ap cpu)), self, eqb-true cpu c e) refl
+    go c k false e q =
+        let r = o.ap_role c k q in admitted head xs seat (Ap cpu) h k (Ap c) (o.seats_below k (Ap c) r) r
+ap_role_step head xs (Leave seat) h o =
+    λ c k q.
+    let u = unseated_some seat (ap_seat c xs) k (rw (ap_push c xs (Leave seat)) at q) in
+    left xs seat k (Ap c) (flip k seat u.1) (o.ap_role c k u.0)
+ap_role_step head xs e h o =
+    λ c k q. rw (role_push k xs e) (o.ap_role c k (rw (ap_push c xs e) at q))
+
+op_client_step : (head : Head) (xs : List Event) (e : Event) → Stands head xs e → Owners xs →
+    (a : Operation) → operation (xs ++ e ∷ []) ≡ Some a → role_of a.seat (xs ++ e ∷ []) ≡ Some Client
+op_client_step head xs (Admit seat role) h o =
+    λ a q.
+    let r = o.op_client a (rw (operation_push xs (Admit seat role)) at q) in
+    admitted head xs seat role h a.seat Client (o.seats_below a.seat Client r) r
+op_client_step head xs (Leave seat) h o =
+    λ a q.
+    let q1 = rw (operation_push xs (Leave seat)) at q in
+    left xs seat a.seat Client (flip a.seat seat (idle_op xs seat a h.idle q1)) (o.op_client a q1)
+op_client_step head xs (Enter seat op) h o =
+    λ a q.
+    let n : Operation = record { seat = seat; op = op; before = xs } in
+    let s : n ≡ a = same_some n a (rw (operation_push xs (Enter seat op)) at q) in
+    rw (← s, role_push seat xs (Enter seat op)) h.free.client
+op_client_step head xs (OpEnd seat answer) h o =
+    λ a q. absurd (none_some a (rw (operation_push xs (OpEnd seat answer)) at q))
+op_client_step head xs e h o =
+    λ a q. rw (role_push a.seat xs e) (o.op_client a (rw (operation_push xs e) at q))
+
+reg_client_step : (head : Head) (xs : List Event) (e : Event) → Stands head xs e → Owners xs →
+    (r : Registration) → registration (xs ++ e ∷ []) ≡ Some r → role_of r.seat (xs ++ e ∷ []) ≡ Some Client
+reg_client_step head xs (Admit seat role) h o =
+    λ a q.
+    let r = o.reg_client a (rw (registration_push xs (Admit seat role)) at q) in
+    admitted head xs seat role h a.seat Client (o.seats_below a.seat Client r) r
+reg_client_step head xs (Leave seat) h o =
+    λ a q.
+    let q1 = rw (registration_push xs (Leave seat)) at q in
+    left xs seat a.seat Client (flip a.seat seat (idle_reg xs seat a h.idle q1)) (o.reg_client a q1)
+reg_client_step head xs (RegBegin seat state op) h o =
+    λ a q.
+    let n : Registration = record { seat = seat; state = state; op = op; before = xs } in
+    let s : n ≡ a = same_some n a (rw (registration_push xs (RegBegin seat state op)) at q) in
+    rw (← s, role_push seat xs (RegBegin seat state op)) h.free.client
+reg_client_step head xs (RegEnd seat answer) h o =
+    λ a q. absurd (none_some a (rw (registration_push xs (RegEnd seat answer)) at q))
+reg_client_step head xs e h o =
+    λ a q. rw (role_push a.seat xs e) (o.reg_client a (rw (registration_push xs e) at q))
+
+apart_step : (head : Head) (xs : List Event) (e : Event) → Stands head xs e → Owners xs →
+    (a : Operation) (r : Registration) → operation (xs ++ e ∷ []) ≡ Some a → registration (xs ++ e ∷ []) ≡ Some r →
+    a.seat ≡ r.seat → ⊥
+apart_step head xs (Enter seat op) h o =
+    λ a r q p s.
+    let n : Operation = record { seat = seat; op = op; before = xs } in
+    let same : n ≡ a = same_some n a (rw (operation_push xs (Enter seat op)) at q) in
+    let is : seat ≡ a.seat = ap (λ z. z.seat) same in
+    not_self r.seat seat (idle_reg xs seat r h.free.idle (rw (registration_push xs (Enter seat op)) at p)) (sym s ∙ sym is)
+apart_step head xs (OpEnd seat answer) h o =
+    λ a r q p s. none_some a (rw (operation_push xs (OpEnd seat answer)) at q)
+apart_step head xs (RegBegin seat state op) h o =
+    λ a r q p s.
+    let n : Registration = record { seat = seat; state = state; op = op; before = xs } in
+    let same : n ≡ r = same_some n r (rw (registration_push xs (RegBegin seat state op)) at p) in
+    let is : seat ≡ r.seat = ap (λ z. z.seat) same in
+    not_self a.seat seat (idle_op xs seat a h.free.idle (rw (operation_push xs (RegBegin seat state op)) at q)) (s ∙ sym is)
+apart_step head xs (RegEnd seat answer) h o =
+    λ a r q p s. none_some r (rw (registration_push xs (RegEnd seat answer)) at p)
+apart_step head xs e h o =
+    λ a r q p s. o.apart a r (rw (operation_push xs e) at q) (rw (registration_push xs e) at p) s
+
+walk_op_step : (head : Head) (xs : List Event) (e : Event) → Stands head xs e → Owners xs →
+    (c : ℕ) (w : Walk) → walk c (xs ++ e ∷ []) ≡ Some w →
+    (a : Operation) × (operation (xs ++ e ∷ []) ≡ Some a) × (a.seat ≡ w.seat)
+walk_op_step head xs (Enter seat op) h o =
+    λ c w q.
+    let p = o.walk_op c w (rw (walk_push c xs (Enter seat op)) at q) in
+    absurd (none_some p.0 (sym (map_free xs op h.takes_map h.passes.not_waiting) ∙ p.1))
+walk_op_step head xs (OpEnd seat answer) h o =
+    λ c w q. absurd (none_some w (sym (walk_none xs h.no_walk c) ∙ (rw (walk_push c xs (OpEnd seat answer)) at q)))
+walk_op_step head xs (WalkBegin seat cpu from to) h o =
+    λ c w q. go c w (eqb cpu c) (rw (walk_push c xs (WalkBegin seat cpu from to)) at q)
+  where
+    n : Walk
+    n = record { seat = seat; from = from; to = to; before = xs }
+
+    go : (c : ℕ) (w : Walk) (b : Bool) → cond b (Some n) (walk c xs) ≡ Some w →
+        (a : Operation) × (operation (xs ++ WalkBegin seat cpu from to ∷ []) ≡ Some a) × (a.seat ≡ w.seat)
+    go c w true q =
+        (h.of, operation_push xs (WalkBegin seat cpu from to) ∙ h.held, h.seat_is ∙ ap (λ z. z.seat) (same_some n w q))
+    go c w false q = absurd (none_some w (sym (walk_none xs h.no_walk c) ∙ q))
+walk_op_step head xs (WalkEnd seat cpu answer) h o =
+    λ c w q. go c w (eqb cpu c) (rw (walk_push c xs (WalkEnd seat cpu answer)) at q)
+  where
+    go : (c : ℕ) (w : Walk) (b : Bool) → cond b None (walk c xs) ≡ Some w →
+        (a : Operation) × (operation (xs ++ WalkEnd seat cpu answer ∷ []) ≡ Some a) × (a.seat ≡ w.seat)
+    go c w true q = absurd (none_some w q)
+    go c w false q =
+        let p = o.walk_op c w q in (p.0, operation_push xs (WalkEnd seat cpu answer) ∙ p.1, p.2)
+walk_op_step head xs e h o =
+    λ c w q.
+    let p = o.walk_op c w (rw (walk_push c xs e) at q) in (p.0, operation_push xs e ∙ p.1, p.2)
+
+one_walk_step : (head : Head) (xs : List Event) (e : Event) → Stands head xs e → Owners xs →
+    (c d : ℕ) (w v : Walk) → walk c (xs ++ e ∷ []) ≡ Some w → walk d (xs ++ e ∷ []) ≡ Some v → c ≡ d
+one_walk_step head xs (WalkBegin seat cpu from to) h o =
+    λ c d w v q p.
+    sym (go c w (eqb cpu c) refl (rw (walk_push c xs (WalkBegin seat cpu from to)) at q))
+    ∙ go d v (eqb cpu d) refl (rw (walk_push d xs (WalkBegin seat cpu from to)) at p)
+  where
+    n : Walk
+    n = record { seat = seat; from = from; to = to; before = xs }
+
+    go : (c : ℕ) (w : Walk) (b : Bool) → eqb cpu c ≡ b → cond b (Some n) (walk c xs) ≡ Some w → cpu ≡ c
+    go c w true e q = eqb-true cpu c e
+    go c w false e q = absurd (none_some w (sym (walk_none xs h.no_walk c) ∙ q))
+one_walk_step head xs (WalkEnd seat cpu answer) h o =
+    λ c d w v q p.
+    o.one_walk c d w v
+    (go c w (eqb cpu c) (rw (walk_push c xs (WalkEnd seat cpu answer)) at q))
+    (go d v (eqb cpu d) (rw (walk_push d xs (WalkEnd seat cpu answer)) at p))
+  where
+    go : (c : ℕ) (w : Walk) (b : Bool) → cond b None (walk c xs) ≡ Some w → walk c xs ≡ Some w
+    go c w true q = absurd (none_some w q)
+    go c w false q = q
+one_walk_step head xs e h o =
+    λ c d w v q p. o.one_walk c d w v (rw (walk_push c xs e) at q) (rw (walk_push d xs e) at p)
+
+pub owners_step : (head : Head) (xs : List Event) (e : Event) → Stands head xs e → Owners xs → Owners (xs ++ e ∷ [])
+owners_step head xs e h o = record {
+  seats_below = seats_below_step head xs e h o;
+  ap_role = ap_role_step head xs e h o;
+  op_client = op_client_step head xs e h o;
+  reg_client = reg_client_step head xs e h o;
+  apart = apart_step head xs e h o;
+  walk_op = walk_op_step head xs e h o;
+  one_walk = one_walk_step head xs e h o;
+}
+
+pub owners_none : Owners []
+unfolding role_of ap_seat operation registration walk
+owners_none = record {
+  seats_below = λ k r q. absurd (none_some r q);
+  ap_role = λ c k q. absurd (none_some k q);
+  op_client = λ o q. absurd (none_some o q);
+  reg_client = λ r q. absurd (none_some r q);
+  apart = λ o r q p s. none_some o q;
+  walk_op = λ c w q. absurd (none_some w q);
+  one_walk = λ c d w v q p. absurd (none_some w q);
+}

@@ -1,0 +1,217 @@
+-- At what stage a seat is when an event of its operation can stand: before it, between its walks, on a walk, or on
+-- a registration. No two of them are possible at once.
+use Rattle.std.proofs.Common.{◌≡◌, ℕ, Bool, true, false, cond, Option, Some, None, List, refl, sym, ◌∙◌, subst, inl, inr, ◌⊎◌}
+use Rattle.std.proofs.lemmas.Bool.{true≢false}
+use Rattle.hp_event.specs.declared.event.Op.{Op}
+use Rattle.hp_event.specs.declared.event.Op.TheVariants.{Lock, Unlock}
+use Rattle.hp_event.specs.declared.event.Role.TheVariants.{Client, Ap}
+use Rattle.hp_event.specs.declared.head.Head.{Head}
+use Rattle.hp_event.specs.declared.event.Event.{Event}
+use Rattle.hp_event.specs.declared.event.Event.TheVariants.{Enter, Refused, WalkBegin, Call, WalkEnd, OpEnd, RegBegin, RegEnd, ReadLock, ReadUnlock, Armed, Shown, Wakeup}
+use Rattle.hp_model.specs.Events.{seat_of, BelongsTo}
+use Rattle.hp_model.specs.Walks.{Walk, walk, is_walking}
+use Rattle.hp_model.specs.Registrations.{Registration, registration}
+use Rattle.hp_model.specs.MapLock.{Operation, operation, is_map_op}
+use Rattle.hp_model.specs.Seats.{role_of, ap_seat, is_busy}
+use Rattle.hp_model.specs.Settled.{settled}
+use Rattle.hp_model.specs.Sequence.{Next, walks, ends, nothing, next}
+use Rattle.hp_model.specs.Resolved.{resolved}
+use Rattle.hp_model.specs.Refusals.{refusal}
+use Rattle.hp_model.specs.Caller.{is_made_by_ap}
+use Rattle.hp_model.specs.StandsCalls.{InWalk, InRegistration}
+use Rattle.hp_model.specs.StandsOperations.{Enters, WalkEnds}
+use Rattle.hp_model.specs.StandsRegistrations.{RegEnds}
+use Rattle.hp_model.specs.Lawful.{Stands}
+use Rattle.hp_model.proofs.Kept.{Kept, WalkKept}
+use Rattle.hp_model.proofs.InFlight.{walk_none}
+use Rattle.hp_model.proofs.Owners.{Owners, same_some, none_some, idle_op, idle_reg, not_self}
+
+-- the first event of an operation: its refusal, or its begin
+abbrev pub begin_of : (seat : ℕ) → Op → (takes_map : Bool) → Event
+begin_of k op true = Enter k op
+begin_of k Lock false = ReadLock k
+begin_of k Unlock false = ReadUnlock k
+begin_of k op false = Wakeup k
+
+abbrev pub first_by : (seat : ℕ) → Op → (refused resolved : Option ℕ) → Event
+first_by k op (Some errno) s = Refused k errno op
+first_by k op None (Some s) = RegBegin k s op
+first_by k op None None = begin_of k op (is_map_op op)
+
+abbrev pub first_event : Head → List Event → (seat : ℕ) → Op → Event
+first_event head xs k op = first_by k op (refusal head xs k op) (resolved head xs op)
+
+abbrev pub event_next : List Event → (seat : ℕ) → Next → Event
+event_next xs k (walks c to) = WalkBegin k c (settled c xs) to
+event_next xs k (ends answer) = OpEnd k answer
+event_next xs k nothing = Wakeup k
+
+-- the seat has no operation in flight
+pub record Before (head : Head) (xs : List Event) (k : ℕ) (op : Op) (e : Event) : Type 0 where
+  pub client : role_of k xs ≡ Some Client
+  pub idle : is_busy k xs ≡ false
+  pub event_is : e ≡ first_event head xs k op
+
+-- it holds the map lock, and no walk is in flight
+pub record Between (head : Head) (xs : List Event) (k : ℕ) (e : Event) : Type 0 where
+  pub of : Operation
+  pub held : operation xs ≡ Some of
+  pub seat_is : of.seat ≡ k
+  pub no_walk : is_walking xs ≡ false
+  pub event_is : e ≡ event_next xs k (next head xs of.before of.op)
+
+abbrev pub WalkEvent : Head → List Event → (seat cpu : ℕ) → Event → Type 0
+WalkEvent head xs k c (Call seat cpu state inst dir how) = (seat ≡ k) × (cpu ≡ c) × InWalk head xs k c state inst dir how
+WalkEvent head xs k c (WalkEnd seat cpu answer) = (seat ≡ k) × (cpu ≡ c) × WalkEnds head xs k c answer
+WalkEvent head xs k c _ = ⊥
+
+-- it has an event of a walk, as the walk's seat or as the processor's
+pub record OnWalk (head : Head) (xs : List Event) (k : ℕ) (e : Event) : Type 0 where
+  pub cpu : ℕ
+  pub of : Walk
+  pub in_flight : walk cpu xs ≡ Some of
+  pub by : (of.seat ≡ k) ⊎ (ap_seat cpu xs ≡ Some k)
+  pub event_is : WalkEvent head xs k cpu e
+
+abbrev pub RegistrationEvent : Head → List Event → (seat : ℕ) → Event → Type 0
+RegistrationEvent head xs k (Call seat cpu state inst dir how) = (seat ≡ k) × InRegistration head xs k cpu state inst dir how
+RegistrationEvent head xs k (RegEnd seat answer) = (seat ≡ k) × RegEnds head xs k answer
+RegistrationEvent head xs k _ = ⊥
+
+pub record OnRegistration (head : Head) (xs : List Event) (k : ℕ) (e : Event) : Type 0 where
+  pub cpu : ℕ
+  pub of : Registration
+  pub in_flight : registration xs ≡ Some of
+  pub by : (of.seat ≡ k) ⊎ (ap_seat cpu xs ≡ Some k)
+  pub event_is : RegistrationEvent head xs k e
+
+abbrev pub Stage : Head → List Event → (seat : ℕ) → Op → Event → Type 0
+Stage head xs k op e = Before head xs k op e ⊎ (Between head xs k e ⊎ (OnWalk head xs k e ⊎ OnRegistration head xs k e))
+
+called_by : (b : Bool) (a : Option ℕ) (client k : ℕ) → cond b a (Some client) ≡ Some k → (client ≡ k) ⊎ (a ≡ Some k)
+called_by true a client k h = inr h
+called_by false a client k h = inl (same_some client k h)
+
+entered : (head : Head) (xs : List Event) (k : ℕ) (op : Op) → Enters head xs k op → Enter k op ≡ first_event head xs k op
+entered head xs k op h = rw h.passes.not_refused (go op h.takes_map)
+  where
+    go : (op : Op) → is_map_op op ≡ true → Enter k op ≡ first_by k op None (resolved head xs op)
+    go (Op.Up c) m = refl
+    go (Op.Down c) m = refl
+    go (Op.Target c v) m = refl
+    go (Op.Boot n) m = refl
+    go Op.Disable m = refl
+    go Op.Enable m = refl
+    go (Op.Freeze p) m = refl
+    go Op.Thaw m = refl
+    go op m = absurd (true≢false (sym m))
+
+-- the stage of an event that stands and belongs to an operation
+pub stage_of : (head : Head) (xs : List Event) (op : Op) (e : Event) → BelongsTo op e → Stands head xs e →
+    Stage head xs (seat_of e) op e
+stage_of head xs op (Enter seat asked) b h =
+    let P : Op → Type 0 = λ z. Enter seat asked ≡ first_event head xs seat z in
+    inl (record { client = h.free.client; idle = h.free.idle; event_is = subst P b (entered head xs seat asked h) })
+stage_of head xs op (Refused seat errno asked) b h =
+    inl (record { client = h.free.client; idle = h.free.idle; event_is = rw (← b, h.refused) refl })
+stage_of head xs op (RegBegin seat state asked) b h =
+    inl (record { client = h.free.client; idle = h.free.idle; event_is = rw (← b, h.passes.not_refused, h.state_is) refl })
+stage_of head xs op (ReadLock seat) b h =
+    inl (record { client = h.free.client; idle = h.free.idle; event_is = rw (b, h.passes.not_refused) refl })
+stage_of head xs op (ReadUnlock seat) b h =
+    inl (record { client = h.free.client; idle = h.free.idle; event_is = rw (b, h.passes.not_refused) refl })
+stage_of head xs op (WalkBegin seat cpu from to) b h =
+    inr (inl (record {
+      of = h.of;
+      held = h.held;
+      seat_is = h.seat_is;
+      no_walk = h.no_walk;
+      event_is = rw (h.gives, h.from_is) refl;
+    }))
+stage_of head xs op (OpEnd seat answer) b h =
+    inr (inl (record {
+      of = h.of;
+      held = h.held;
+      seat_is = h.seat_is;
+      no_walk = h.no_walk;
+      event_is = rw h.gives refl;
+    }))
+stage_of head xs op (WalkEnd seat cpu answer) b h =
+    inr (inr (inl (record {
+      cpu = cpu;
+      of = h.of;
+      in_flight = h.in_flight;
+      by = inl h.seat_is;
+      event_is = (refl, refl, h);
+    })))
+stage_of head xs op (RegEnd seat answer) b h =
+    inr (inr (inr (record { cpu = 0; of = h.of; in_flight = h.in_flight; by = inl h.seat_is; event_is = (refl, h) })))
+stage_of head xs op (Call seat cpu state inst dir how) b h = go h
+  where
+    go : InWalk head xs seat cpu state inst dir how ⊎ InRegistration head xs seat cpu state inst dir how →
+        Stage head xs seat op (Call seat cpu state inst dir how)
+    go (inl w) =
+        inr (inr (inl (record {
+          cpu = cpu;
+          of = w.of;
+          in_flight = w.in_flight;
+          by = called_by (is_made_by_ap state how) (ap_seat cpu xs) w.of.seat seat w.caller_is;
+          event_is = (refl, refl, w);
+        })))
+    go (inr r) =
+        inr (inr (inr (record {
+          cpu = cpu;
+          of = r.of;
+          in_flight = r.in_flight;
+          by = called_by (is_made_by_ap state how) (ap_seat cpu xs) r.of.seat seat r.caller_is;
+          event_is = (refl, r);
+        })))
+stage_of head xs op (Armed seat cpu value) b h = elim h [ ]
+stage_of head xs op (Shown seat file cpu value) b h = elim h [ ]
+stage_of head xs op (Wakeup seat) b h = elim h [ ]
+stage_of head xs op e b h = elim b [ ]
+
+-- no two stages at once
+ap_no_client : (xs : List Event) (c k : ℕ) → Owners xs → ap_seat c xs ≡ Some k → role_of k xs ≡ Some Client → ⊥
+ap_no_client xs c k o a r = not_both c (sym (o.ap_role c k a) ∙ r)
+  where
+    not_both : (c : ℕ) → Some (Ap c) ≡ Some Client → ⊥
+    not_both c h = cc
+
+pub before_between : (head : Head) (xs : List Event) (k : ℕ) (op : Op) (e f : Event) → Before head xs k op e →
+    Between head xs k f → ⊥
+before_between head xs k op e f h b = not_self b.of.seat k (idle_op xs k b.of h.idle b.held) b.seat_is
+
+pub before_walk : (head : Head) (xs : List Event) (k : ℕ) (op : Op) (e f : Event) → Owners xs → Before head xs k op e →
+    OnWalk head xs k f → ⊥
+before_walk head xs k op e f o h w = go w.by
+  where
+    go : (w.of.seat ≡ k) ⊎ (ap_seat w.cpu xs ≡ Some k) → ⊥
+    go (inl s) =
+        let p = o.walk_op w.cpu w.of w.in_flight in not_self p.0.seat k (idle_op xs k p.0 h.idle p.1) (p.2 ∙ s)
+    go (inr a) = ap_no_client xs w.cpu k o a h.client
+
+pub before_registration : (head : Head) (xs : List Event) (k : ℕ) (op : Op) (e f : Event) → Owners xs → Before head xs k op e →
+    OnRegistration head xs k f → ⊥
+before_registration head xs k op e f o h w = go w.by
+  where
+    go : (w.of.seat ≡ k) ⊎ (ap_seat w.cpu xs ≡ Some k) → ⊥
+    go (inl s) = not_self w.of.seat k (idle_reg xs k w.of h.idle w.in_flight) s
+    go (inr a) = ap_no_client xs w.cpu k o a h.client
+
+pub between_walk : (head : Head) (xs : List Event) (k : ℕ) (e f : Event) → Between head xs k e → OnWalk head xs k f → ⊥
+between_walk head xs k e f h w = none_some w.of (sym (walk_none xs h.no_walk w.cpu) ∙ w.in_flight)
+
+pub between_registration : (head : Head) (xs : List Event) (k : ℕ) (e f : Event) → Owners xs → Between head xs k e →
+    OnRegistration head xs k f → ⊥
+between_registration head xs k e f o h w = go w.by
+  where
+    go : (w.of.seat ≡ k) ⊎ (ap_seat w.cpu xs ≡ Some k) → ⊥
+    go (inl s) = o.apart h.of w.of h.held w.in_flight (h.seat_is ∙ sym s)
+    go (inr a) = ap_no_client xs w.cpu k o a (rw h.seat_is at (o.op_client h.of h.held))
+
+pub walk_registration : (head : Head) (xs : List Event) (k : ℕ) (e f : Event) → Kept head xs → OnWalk head xs k e →
+    OnRegistration head xs k f → ⊥
+walk_registration head xs k e f kept h w =
+    let p : WalkKept head h.cpu h.of xs = rw h.in_flight at (kept.at h.cpu).kept in
+    none_some w.of (sym p.no_registration ∙ w.in_flight)

@@ -1,0 +1,77 @@
+-- Whose an event is, which operation of a client it belongs to, and whether it answers one. This project's own.
+use Rattle.std.specs.Prelude.{◌≡◌, ℕ, Bool, true, false, ◌&&◌, ◌==◌, List, count_by}
+use Rattle.hp_event.specs.declared.event.Op.{Op}
+use Rattle.hp_event.specs.declared.event.Op.TheVariants.{Arm, ShowState, ShowTarget, ShowFail, ShowStates, Setup, Remove, Add, Del}
+use Rattle.hp_event.specs.declared.event.File.{File}
+use Rattle.hp_event.specs.declared.event.File.TheVariants.{State, Target, Fail, States}
+use Rattle.hp_event.specs.declared.event.Event.{Event}
+use Rattle.hp_event.specs.declared.event.Event.TheVariants.{Admit, Leave, Enter, Refused, WalkBegin, Call, WalkEnd, OpEnd, RegBegin, RegEnd, ReadLock, ReadUnlock, Armed, Shown, Wakeup}
+use Rattle.hp_model.specs.MapLock.{is_map_op}
+
+abbrev pub seat_of : Event → ℕ
+seat_of (Admit seat role) = seat
+seat_of (Leave seat) = seat
+seat_of (Enter seat op) = seat
+seat_of (Refused seat errno op) = seat
+seat_of (WalkBegin seat cpu from to) = seat
+seat_of (Call seat cpu state inst dir how) = seat
+seat_of (WalkEnd seat cpu answer) = seat
+seat_of (OpEnd seat answer) = seat
+seat_of (RegBegin seat state op) = seat
+seat_of (RegEnd seat answer) = seat
+seat_of (ReadLock seat) = seat
+seat_of (ReadUnlock seat) = seat
+seat_of (Armed seat cpu value) = seat
+seat_of (Shown seat file cpu value) = seat
+seat_of (Wakeup seat) = seat
+
+abbrev pub is_call : Event → Bool
+is_call (Call seat cpu state inst dir how) = true
+is_call _ = false
+
+abbrev pub is_registration_op : Op → Bool
+is_registration_op (Setup state sub form) = true
+is_registration_op (Remove state form) = true
+is_registration_op (Add state inst form) = true
+is_registration_op (Del state inst form) = true
+is_registration_op _ = false
+
+-- what shows a file
+abbrev pub showing : File → (cpu : ℕ) → Op
+showing State c = ShowState c
+showing Target c = ShowTarget c
+showing Fail c = ShowFail c
+showing States c = ShowStates
+
+-- an event of a client's operation: a seat has one in flight at most, whose walks, entries and end are its own
+abbrev pub BelongsTo : Op → Event → Type 0
+BelongsTo op (Enter seat asked) = asked ≡ op
+BelongsTo op (Refused seat errno asked) = asked ≡ op
+BelongsTo op (WalkBegin seat cpu from to) = is_map_op op ≡ true
+BelongsTo op (Call seat cpu state inst dir how) = Unit {0}
+BelongsTo op (WalkEnd seat cpu answer) = is_map_op op ≡ true
+BelongsTo op (OpEnd seat answer) = is_map_op op ≡ true
+BelongsTo op (RegBegin seat state asked) = asked ≡ op
+BelongsTo op (RegEnd seat answer) = is_registration_op op ≡ true
+BelongsTo op (ReadLock seat) = op ≡ Op.Lock
+BelongsTo op (ReadUnlock seat) = op ≡ Op.Unlock
+BelongsTo op (Armed seat cpu value) = op ≡ Arm cpu value
+BelongsTo op (Shown seat file cpu value) = op ≡ showing file cpu
+BelongsTo op (Wakeup seat) = op ≡ Op.Wakeup
+BelongsTo op _ = ⊥
+
+-- whether an event answers an operation
+abbrev pub is_answer : Event → Bool
+is_answer (Refused seat errno op) = true
+is_answer (OpEnd seat answer) = true
+is_answer (RegEnd seat answer) = true
+is_answer (ReadLock seat) = true
+is_answer (ReadUnlock seat) = true
+is_answer (Armed seat cpu value) = true
+is_answer (Shown seat file cpu value) = true
+is_answer (Wakeup seat) = true
+is_answer _ = false
+
+-- how many operations of a seat are answered
+abbrev pub answered : (seat : ℕ) → List Event → ℕ
+answered k events = count_by (λ e. is_answer e && (seat_of e == k)) events

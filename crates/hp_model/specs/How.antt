@@ -1,0 +1,55 @@
+-- How an entry is made: called, or not and why. After `cpuhp_invoke_callback` of `kernel/cpu.c`, which
+-- skips an absent callback and takes an armed fault; which faults are overruled is this project's own.
+use Rattle.std.specs.Prelude.{ℕ, zero, suc, Bool, false, ◌&&◌, if◌then◌else◌, List}
+use Rattle.hp_states.specs.declared.section.Dir.{Dir}
+use Rattle.hp_states.specs.declared.section.Place.{Place}
+use Rattle.hp_states.specs.Sections.{can_fail}
+use Rattle.hp_states.specs.Rules.{answer_of}
+use Rattle.hp_event.specs.declared.event.How.{How}
+use Rattle.hp_event.specs.declared.event.How.TheVariants.{RanOk, RanFault, Injected, Empty, Presumed, Overruled}
+use Rattle.hp_event.specs.declared.event.Op.{Op}
+use Rattle.hp_event.specs.declared.event.Op.TheVariants.{Setup, Remove, Add, Del}
+use Rattle.hp_event.specs.declared.head.Head.{Head}
+use Rattle.hp_event.specs.declared.event.Event.{Event}
+use Rattle.hp_model.specs.Subsystems.{has_callback, plan_of}
+use Rattle.hp_model.specs.Armed.{armed, is_armed_at}
+use Rattle.hp_model.specs.Calls.{sites, sub_at}
+
+-- a callback that answers 0 ran; a code is a fault where the entry may fail, and else overruled
+abbrev pub how_answered : (may_fail : Bool) → (code : ℕ) → How
+how_answered may_fail zero = RanOk
+how_answered may_fail (suc n) = if may_fail then RanFault (suc n) else Overruled (suc n)
+
+-- what the plan of the state's subsystem answers to a call
+abbrev pub answer_at : Head → List Event → (cpu state inst : ℕ) → Dir → ℕ
+answer_at head events c s i d =
+    answer_of (plan_of (sub_at head s events)) (sites s events) (record { cpu = c; inst = i; dir = d })
+
+-- an armed fault is taken at the first entry of a crossing, where that may fail
+abbrev pub takes_fault : List Event → (cpu state : ℕ) → Dir → Place → (first : Bool) → Bool
+takes_fault events c s d place first = first && (can_fail d s place && is_armed_at (armed c events) s)
+
+-- how an entry of a walk is made
+abbrev pub how_in_walk : Head → List Event → (cpu state inst : ℕ) → Dir → Place → (first : Bool) → How
+how_in_walk head events c s i d place first =
+    if has_callback (sub_at head s events) d
+    then (if takes_fault events c s d place first
+    then Injected
+    else how_answered (can_fail d s place) (answer_at head events c s i d))
+    else Empty
+
+abbrev pub is_nocalls : Op → Bool
+is_nocalls (Setup state sub form) = form.nocalls
+is_nocalls (Remove state form) = form.nocalls
+is_nocalls (Add state inst form) = form.nocalls
+is_nocalls (Del state inst form) = form.nocalls
+is_nocalls _ = false
+
+-- how an entry of a registration is made
+abbrev pub how_in_registration : Head → List Event → Op → (cpu state inst : ℕ) → Dir → Place → How
+how_in_registration head events op c s i d place =
+    if is_nocalls op
+    then Presumed
+    else (if has_callback (sub_at head s events) d
+    then how_answered (can_fail d s place) (answer_at head events c s i d)
+    else Empty)

@@ -1,0 +1,31 @@
+-- The state that the `state` file shows. At rest it is the settled state; during a walk it is that of the last
+-- done crossing, less 1 if it went down. After `show_cpuhp_state` of `kernel/cpu.c`; what it shows in flight
+-- is this project's own.
+use Rattle.std.specs.Prelude.{ℕ, Bool, false, ◌&&◌, ◌==◌, if◌then◌else◌, Option, Some, None, List, [], ◌∷◌, fold}
+use Rattle.hp_event.specs.declared.head.Head.{Head}
+use Rattle.hp_event.specs.declared.event.Event.{Event}
+use Rattle.hp_event.specs.declared.event.Event.TheVariants.{Call}
+use Rattle.hp_model.specs.Entries.{is_done}
+use Rattle.hp_model.specs.Walks.{Walk, walk, walk_entries}
+use Rattle.hp_model.specs.Registered.{keys}
+use Rattle.hp_model.specs.Crossing.{far}
+use Rattle.hp_model.specs.Settled.{settled}
+
+abbrev pub is_last : List ℕ → ℕ → Bool
+is_last [] i = false
+is_last (x ∷ []) i = x == i
+is_last (x ∷ (y ∷ ys)) i = is_last (y ∷ ys) i
+
+-- A crossing is done with the entry of the last key of its state: where one of the state's keys fails, what
+-- is undone are the keys before it.
+abbrev pub shown_after : (keys : ℕ → List ℕ) → (at : ℕ) → Event → ℕ
+shown_after keys at (Call seat cpu state inst dir how) =
+    if is_done how && is_last (keys state) inst then far dir state else at
+shown_after keys at _ = at
+
+abbrev pub shown_in : Head → Option Walk → (entries : List Event) → (settled : ℕ) → ℕ
+shown_in head None entries at = at
+shown_in head (Some w) entries at = fold (shown_after (keys head w.before)) w.from entries
+
+abbrev pub shown : Head → (cpu : ℕ) → List Event → ℕ
+shown head c events = shown_in head (walk c events) (walk_entries c events) (settled c events)

@@ -1,0 +1,63 @@
+-- Where an entry stands: it goes on with the walk of its processor or with the registration in flight, is made
+-- as its place wants, and by the seat that makes it. This project's own.
+use Rattle.std.specs.Prelude.{◌≡◌, ℕ, Some, List, ◌∷◌, ◌++◌, ◌⊎◌}
+use Rattle.hp_states.specs.declared.section.Dir.{Dir}
+use Rattle.hp_event.specs.declared.event.How.{How}
+use Rattle.hp_event.specs.declared.head.Head.{Head}
+use Rattle.hp_event.specs.declared.event.Event.{Event}
+use Rattle.hp_event.specs.declared.event.Event.TheVariants.{Call}
+use Rattle.hp_model.specs.Walks.{Walk, walk, walk_entries}
+use Rattle.hp_model.specs.Registrations.{Registration, registration, registration_entries}
+use Rattle.hp_model.specs.Registered.{keys}
+use Rattle.hp_model.specs.Processors.{processors}
+use Rattle.hp_model.specs.How.{how_in_walk, how_in_registration}
+use Rattle.hp_model.specs.Caller.{caller}
+use Rattle.hp_model.specs.Crossing.{Crossing, Slot, slots, Fill, Fits}
+use Rattle.hp_model.specs.Plan.{direction, plan}
+use Rattle.hp_model.specs.WalkShape.{Outcome, IsWalkShape, IsWalkSoFar}
+use Rattle.hp_model.specs.RegistrationShape.{key_of, is_adding, Registering, IsRegistrationShape}
+
+-- some entries begin the walk of a processor, along the plan of the registered states at its WalkBegin
+abbrev pub IsOfWalk : Head → (cpu : ℕ) → Walk → List Event → Type 0
+IsOfWalk head c w entries =
+    IsWalkSoFar c (keys head w.before) (direction w.from w.to) (plan (keys head w.before) w.from w.to) entries
+
+-- the slot that comes after some entries
+pub record IsNext (xs : List Slot) (entries : List Event) (slot : Slot) : Type 0 where
+  pub front : List Slot
+  pub rest : List Slot
+  pub slots_are : xs ≡ front ++ slot ∷ rest
+  pub filled : Fill front entries
+
+-- an entry of the walk of its processor that is in flight
+pub record InWalk (head : Head) (before : List Event) (seat cpu state inst : ℕ) (dir : Dir) (how : How) : Type 0 where
+  pub of : Walk
+  pub in_flight : walk cpu before ≡ Some of
+  pub outcome : Outcome
+  pub crossings : List Crossing
+  pub shape :
+      IsWalkShape (keys head of.before) (direction of.from of.to) (plan (keys head of.before) of.from of.to) crossings
+      outcome
+  pub slot : Slot
+  pub is_next : IsNext (slots cpu (keys head of.before) crossings) (walk_entries cpu before) slot
+  pub fits : Fits slot (Call seat cpu state inst dir how)
+  pub how_is : how ≡ how_in_walk head before cpu state inst dir slot.place slot.first
+  pub caller_is : caller before cpu state how of.seat ≡ Some seat
+
+-- an entry of the registration in flight
+pub record InRegistration (head : Head) (before : List Event) (seat cpu state inst : ℕ) (dir : Dir) (how : How) : Type 0 where
+  pub of : Registration
+  pub in_flight : registration before ≡ Some of
+  pub outcome : Registering
+  pub slots : List Slot
+  pub shape :
+      IsRegistrationShape (is_adding of.op) of.state (key_of head of) (processors head of.state of.before) slots outcome
+  pub slot : Slot
+  pub is_next : IsNext slots (registration_entries before) slot
+  pub fits : Fits slot (Call seat cpu state inst dir how)
+  pub how_is : how ≡ how_in_registration head before of.op cpu state inst dir slot.place
+  pub caller_is : caller before cpu state how of.seat ≡ Some seat
+
+abbrev pub Calls : Head → (before : List Event) → (seat cpu state inst : ℕ) → Dir → How → Type 0
+Calls head before seat cpu state inst dir how =
+    InWalk head before seat cpu state inst dir how ⊎ InRegistration head before seat cpu state inst dir how

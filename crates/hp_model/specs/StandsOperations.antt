@@ -1,0 +1,54 @@
+-- Where an operation of the map lock begins and ends, where its walks do, and where an operation is refused.
+-- This project's own.
+use Rattle.std.specs.Prelude.{◌≡◌, ℕ, true, false, Some, List}
+use Rattle.hp_event.specs.declared.event.Op.{Op}
+use Rattle.hp_event.specs.declared.event.Answer.{Answer}
+use Rattle.hp_event.specs.declared.head.Head.{Head}
+use Rattle.hp_event.specs.declared.event.Event.{Event}
+use Rattle.hp_model.specs.Walks.{Walk, walk, walk_entries, is_walking}
+use Rattle.hp_model.specs.Registrations.{is_registering}
+use Rattle.hp_model.specs.MapLock.{is_map_op, Operation, operation}
+use Rattle.hp_model.specs.Seats.{IsFree}
+use Rattle.hp_model.specs.Readers.{is_read}
+use Rattle.hp_model.specs.Registered.{keys}
+use Rattle.hp_model.specs.Settled.{settled}
+use Rattle.hp_model.specs.Sequence.{next, walks, ends}
+use Rattle.hp_model.specs.Subsystems.{names_sub}
+use Rattle.hp_model.specs.Refusals.{refusal, Passes}
+use Rattle.hp_model.specs.Plan.{direction, plan}
+use Rattle.hp_model.specs.WalkShape.{IsWholeWalk}
+
+pub record Enters (head : Head) (before : List Event) (seat : ℕ) (op : Op) : Type 0 where
+  pub free : IsFree before seat
+  pub takes_map : is_map_op op ≡ true
+  pub passes : Passes head before seat op
+
+pub record IsRefused (head : Head) (before : List Event) (seat errno : ℕ) (op : Op) : Type 0 where
+  pub free : IsFree before seat
+  pub has_sub : names_sub head op ≡ true
+  pub refused : refusal head before seat op ≡ Some errno
+
+pub record WalkBegins (head : Head) (before : List Event) (seat cpu from to : ℕ) : Type 0 where
+  pub of : Operation
+  pub held : operation before ≡ Some of
+  pub seat_is : of.seat ≡ seat
+  pub no_walk : is_walking before ≡ false
+  pub gives : next head before of.before of.op ≡ walks cpu to
+  pub from_is : from ≡ settled cpu before
+  pub no_reader : is_read before ≡ false
+  pub no_registration : is_registering before ≡ false
+
+pub record WalkEnds (head : Head) (before : List Event) (seat cpu : ℕ) (answer : Answer) : Type 0 where
+  pub of : Walk
+  pub in_flight : walk cpu before ≡ Some of
+  pub seat_is : of.seat ≡ seat
+  pub whole :
+      IsWholeWalk cpu (keys head of.before) (direction of.from of.to) (plan (keys head of.before) of.from of.to)
+      (walk_entries cpu before) answer
+
+pub record OpEnds (head : Head) (before : List Event) (seat : ℕ) (answer : Answer) : Type 0 where
+  pub of : Operation
+  pub held : operation before ≡ Some of
+  pub seat_is : of.seat ≡ seat
+  pub no_walk : is_walking before ≡ false
+  pub gives : next head before of.before of.op ≡ ends answer

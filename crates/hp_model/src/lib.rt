@@ -1,0 +1,62 @@
+//! The definitions of the machine's journals, and what holds of every lawful one.
+//!
+//! A journal is a head and a list of events, oldest first. Each notion of the machine (what is
+//! registered, where a processor stands, what is in force, who reads, what waits) is a fold over
+//! that list, in a file of `specs/` that is named after it. `specs/Lawful.antt` says which journals
+//! are lawful: each event stands after those before it. `specs/Headline.antt` says what holds of
+//! every lawful journal, and `specs/Run.antt` which journal a script's actors make.
+//!
+//! The functions of this file have empty bodies: their contracts are the laws, which callers cite.
+//! `net_of` and its kin compute a notion from the events alone, slowly, for tests.
+#![tactic(auto)]
+
+ghost use Rattle.std.specs.Prelude.{◌≡◌, [], ◌∷◌, ◌++◌};
+ghost use Rattle.hp_model.specs.Lawful.{Stands, IsLawful};
+ghost use Rattle.hp_model.specs.Headline.{Headline};
+ghost use Rattle.hp_model.specs.Events.{seat_of, BelongsTo};
+
+mod net;
+mod registered;
+mod settled;
+#[cfg(test)]
+mod tests;
+
+use hp_event::{Event, Head, Op};
+pub use net::net_of;
+pub use registered::registered_of;
+pub use settled::settled_of;
+
+/// Every lawful journal has the headline.
+#[tactic(auto, using(crate::proofs::HeadlineProof::headline))]
+pub fn headline(head: &Head, events: &[Event])
+    ensures { IsLawful head.now events.now → Headline head.now events.now }
+{}
+
+/// So does every front of one.
+#[tactic(auto, using(crate::proofs::HeadlineProof::headline_of_front))]
+pub fn headline_of_front(head: &Head, front: &[Event], rest: &[Event])
+    ensures { IsLawful head.now (front.now ++ rest.now) → Headline head.now front.now }
+{}
+
+/// A front of a lawful journal is lawful.
+#[tactic(auto, using(crate::proofs::HeadlineProof::lawful_front))]
+pub fn lawful_front(head: &Head, front: &[Event], rest: &[Event])
+    ensures { IsLawful head.now (front.now ++ rest.now) → IsLawful head.now front.now }
+{}
+
+/// A lawful journal is lawful with one event more that stands after it.
+#[tactic(auto, using(crate::proofs::HeadlineProof::lawful_more))]
+pub fn lawful_more(head: &Head, before: &[Event], event: &Event)
+    ensures { IsLawful head.now before.now → Stands head.now before.now event.now →
+        IsLawful head.now (before.now ++ event.now ∷ []) }
+{}
+
+/// After a lawful journal at most one event of a seat's operation can stand next, and of a
+/// processor's seat at most one entry.
+pub fn one_next(head: &Head, before: &[Event], op: &Op, one: &Event, other: &Event)
+    ensures { IsLawful head.now before.now →
+        Stands head.now before.now one.now → Stands head.now before.now other.now →
+        seat_of one.now ≡ seat_of other.now →
+        BelongsTo op.now one.now → BelongsTo op.now other.now →
+        one.now ≡ other.now }
+{}

@@ -1,0 +1,72 @@
+//! Where a processor stands, by the events alone.
+
+ghost use Rattle.std.specs.Prelude.{◌≡◌, List, Option, option_map};
+ghost use Rattle.hp_event.specs.declared.event.Event.{Event as AnEvent};
+ghost use Rattle.hp_model.specs.Walks.{Walk, walk, walk_step};
+ghost use Rattle.hp_model.specs.Settled.{settled, settled_step, left_at as left_at_lem};
+
+use hp_event::{Answer, Event, Journal};
+use hp_states::{OFFLINE, ONLINE};
+
+/// Where a processor stands, and where its walk in flight goes.
+#[derive(Clone, Copy)]
+struct Standing {
+    at: u32,
+    to: Option<u32>,
+}
+
+/// The settled state of a processor after the events of a journal: where its last walk left it.
+///
+/// It takes a time linear in the journal, and is for tests and small journals. Takes no memory.
+pub fn settled_of(journal: &Journal, cpu: u32) -> u32
+    ensures { result ≡ settled cpu journal.now.events }
+{
+    let mut standing = Standing {
+        at: if cpu == 0 { ONLINE } else { OFFLINE },
+        to: None,
+    };
+    for event in journal.events() {
+        standing = after(standing, event, cpu);
+    }
+    standing.at
+}
+
+/// What one event makes of it.
+fn after(standing: Standing, event: &Event, cpu: u32) -> Standing
+    ensures at { (before : List AnEvent) → standing.to ≡ option_map (λ w. w.to) (walk cpu before) →
+        result.at ≡ settled_step cpu standing.at before event.now }
+    ensures to { (before : List AnEvent) → standing.to ≡ option_map (λ w. w.to) (walk cpu before) →
+        result.to ≡ option_map (λ w. w.to) (walk_step cpu (walk cpu before) before event.now) }
+{
+    match event {
+        Event::WalkBegin {
+            cpu: walker,
+            to,
+            ..
+        } if *walker == cpu => Standing {
+            at: standing.at,
+            to: Some(*to),
+        },
+        Event::WalkEnd {
+            cpu: walker,
+            answer,
+            ..
+        } if *walker == cpu => Standing {
+            at: left_at(answer, standing),
+            to: None,
+        },
+        _ => standing,
+    }
+}
+
+/// Where the end of a walk leaves its processor.
+fn left_at(answer: &Answer, standing: Standing) -> u32
+    ensures { (w : Option Walk) → standing.to ≡ option_map (λ w. w.to) w →
+        result ≡ left_at_lem answer.now w standing.at }
+{
+    match answer {
+        Answer::Ok(_) => standing.to.unwrap_or(standing.at),
+        Answer::Stuck { at, .. } => *at,
+        Answer::Refused(_) | Answer::Fault(_) | Answer::LogFull => standing.at,
+    }
+}
