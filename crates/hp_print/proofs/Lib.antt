@@ -1,0 +1,9 @@
+pub mod Texts
+pub mod KeyOrder
+pub mod SuspendedStep
+pub mod WalksStep
+pub mod StatesStep
+pub mod AnswersStep
+pub mod FirstTally
+pub mod Lists
+pub mod SummaryText

@@ -1,0 +1,4 @@
+pub mod Counts
+pub mod Steps
+pub mod Tallies
+pub mod TallyText

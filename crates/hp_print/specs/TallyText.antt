@@ -1,0 +1,97 @@
+-- The text that a summary makes of a tally. This project's own.
+use Rattle.std.specs.Prelude.{ℕ, ◌+◌, Bool, nat_lt, if◌then◌else◌, Option, Some, None, List, [], ◌∷◌, ◌++◌, map, filter, codes, decimal, slice_index_or}
+use Rattle.std.specs.List.{flat_map}
+use Rattle.hp_states.specs.declared.limits.TheConstants.{ONLINE}
+use Rattle.hp_event.specs.declared.event.Key.{Key}
+use Rattle.hp_event.specs.declared.head.Head.{Head}
+use Rattle.hp_model.specs.Lists.{among, numbers}
+use Rattle.hp_model.specs.Processors.{is_present}
+use Rattle.hp_model.specs.Words.{line, name_word, list_words}
+use Rattle.hp_model.specs.Summary.{key_word, presence_word, name_of}
+use Rattle.hp_print.specs.declared.keys.KeyCount.{KeyCount}
+use Rattle.hp_print.specs.declared.answers.Answers.{Answers}
+use Rattle.hp_print.specs.declared.walks.Walks.{Walks}
+use Rattle.hp_print.specs.declared.states.States.{States}
+use Rattle.hp_print.specs.declared.tally.Tally.{Tally}
+
+abbrev pub is_counted : KeyCount → Bool
+is_counted x = nat_lt x.downs x.ups
+
+-- the keys that count as in force
+abbrev pub keys_of : List KeyCount → List Key
+keys_of counts = map (λ x. x.key) (filter is_counted counts)
+
+abbrev pub key_text : KeyCount → List ℕ
+key_text x = if is_counted x then 32 ∷ key_word x.key else []
+
+abbrev pub cpu_words : (cpu : ℕ) → (present : Bool) → (settled : ℕ) → List KeyCount → List (List ℕ)
+cpu_words c present settled counts =
+    codes "cpu"
+    ∷ decimal c
+    ∷ presence_word present
+    ∷ codes "state"
+    ∷ decimal settled
+    ∷ codes "keys" ∷ list_words (map key_word (keys_of counts))
+
+unfoldable pub cpu_text : Head → Walks → (cpu : ℕ) → List ℕ
+cpu_text head w c =
+    line
+    (cpu_words c (is_present head c) (slice_index_or w.settled.items c 0) (slice_index_or w.keys.items c []))
+
+unfoldable pub cpus_text : Head → Walks → List ℕ
+cpus_text head w = flat_map (cpu_text head w) (numbers head.possible)
+
+unfoldable pub disabled_text : ℕ → List ℕ
+disabled_text n = line (codes "disabled" ∷ decimal n ∷ [])
+
+abbrev pub frozen_word : List ℕ → (cpu : ℕ) → List ℕ
+frozen_word frozen c = if among c frozen then 32 ∷ decimal c else []
+
+unfoldable pub frozen_text : (possible : ℕ) → List ℕ → List ℕ
+frozen_text n frozen =
+    line (codes "frozen" ∷ list_words (map decimal (filter (λ c. among c frozen) (numbers n))))
+
+abbrev pub sub_words : (state : ℕ) → (name : List ℕ) → (made faults : ℕ) → (insts : List ℕ) → List (List ℕ)
+sub_words s name made faults insts =
+    codes "sub"
+    ∷ decimal s
+    ∷ name_word name
+    ∷ codes "made"
+    ∷ decimal made ∷ codes "faults" ∷ decimal faults ∷ codes "instances" ∷ list_words (map decimal insts)
+
+abbrev pub registered_text : Head → States → (state : ℕ) → Option ℕ → List ℕ
+registered_text head t s None = []
+registered_text head t s (Some sub) =
+    line
+    (sub_words s (name_of head sub) (slice_index_or t.made.items s 0) (slice_index_or t.faults.items s 0)
+    (slice_index_or t.insts.items s []))
+
+unfoldable pub sub_text : Head → States → (state : ℕ) → List ℕ
+sub_text head t s = registered_text head t s (slice_index_or t.subs.items s None)
+
+unfoldable pub subs_text : Head → States → (many : ℕ) → List ℕ
+subs_text head t n = flat_map (sub_text head t) (numbers n)
+
+unfoldable pub ops_text : Answers → List ℕ
+ops_text a =
+    line
+    (codes "ops"
+    ∷ codes "ok"
+    ∷ decimal a.ok
+    ∷ codes "refused"
+    ∷ decimal a.refused
+    ∷ codes "fault"
+    ∷ decimal a.fault ∷ codes "stuck" ∷ decimal a.stuck ∷ codes "full" ∷ decimal a.full ∷ [])
+
+unfoldable pub events_text : ℕ → List ℕ
+events_text n = line (codes "events" ∷ decimal n ∷ [])
+
+-- the whole summary
+unfoldable pub tally_text : Head → Tally → (events : ℕ) → List ℕ
+tally_text head t n =
+    cpus_text head t.walks
+    ++ disabled_text t.suspended.disabled
+    ++ frozen_text head.possible t.suspended.frozen.items
+    ++ subs_text head t.states (ONLINE + 1)
+    ++ ops_text t.answers
+    ++ events_text n

@@ -1,0 +1,150 @@
+//! The text of a journal.
+
+ghost use Rattle.std.specs.Prelude.{◌≡◌, ◌++◌, ◌∷◌, [], List, map, OnOk, IfOk, decimal};
+ghost use Rattle.std.specs.List.{flat_map};
+ghost use Rattle.hp_model.specs.Words.{spaced, name_word, list_words, any_word, calls_word, kind_word};
+ghost use Rattle.hp_model.specs.EventLine.{event_line as line_of};
+ghost use Rattle.hp_model.specs.JournalText.{rule_line, sub_lines, title_line, processor_lines, head_text, journal_text as text_of};
+
+use crate::event::append_event;
+use crate::words::{
+    append, append_any, append_count, append_dir, append_name, append_number, append_numbers,
+    end_line,
+};
+use hp_event::{Event, Head, Journal, NoMemory, Sub};
+use hp_states::Rule;
+use std::alloc::{AllocError, Global};
+
+/// Appends the line of a rule.
+fn append_rule(out: &mut Vec<u8>, rule: &Rule) -> Result<(), AllocError>
+    ensures { OnOk result (out.new.items ≡ out.old.items ++ rule_line rule.now) }
+{
+    append(out, b"rule")?;
+    append_dir(out, rule.dir)?;
+    append_any(out, rule.cpu)?;
+    append_any(out, rule.inst)?;
+    append_any(out, rule.nth)?;
+    append_number(out, rule.code)?;
+    end_line(out)
+}
+
+/// Appends the lines of some rules.
+fn append_rules(out: &mut Vec<u8>, rules: &[Rule]) -> Result<(), AllocError>
+    ensures { OnOk result (out.new.items ≡ out.old.items ++ flat_map rule_line rules.now) }
+{
+    for rule in rules {
+        append_rule(out, rule)?;
+    }
+    Ok(())
+}
+
+/// Appends which callbacks a subsystem has.
+fn append_calls(out: &mut Vec<u8>, up: bool, down: bool) -> Result<(), AllocError>
+    ensures { OnOk result (out.new.items ≡ out.old.items ++ 32 ∷ calls_word up down) }
+{
+    match (up, down) {
+        (true, true) => append(out, b" both"),
+        (true, false) => append(out, b" up"),
+        (false, true) => append(out, b" down"),
+        (false, false) => append(out, b" none"),
+    }
+}
+
+/// Appends whether a subsystem's states have instance lists.
+fn append_kind(out: &mut Vec<u8>, multi: bool) -> Result<(), AllocError>
+    ensures { OnOk result (out.new.items ≡ out.old.items ++ 32 ∷ kind_word multi) }
+{
+    if multi {
+        append(out, b" multi")
+    } else {
+        append(out, b" single")
+    }
+}
+
+/// Appends the line of a subsystem, and those of its rules.
+fn append_sub(out: &mut Vec<u8>, sub: &Sub) -> Result<(), AllocError>
+    ensures { OnOk result (out.new.items ≡ out.old.items ++ sub_lines sub.now) }
+{
+    append(out, b"sub")?;
+    append_name(out, sub.name.as_slice())?;
+    append_calls(out, sub.up, sub.down)?;
+    append_kind(out, sub.multi)?;
+    end_line(out)?;
+    append_rules(out, sub.plan.rules())
+}
+
+/// Appends the lines of some subsystems, each with its rules.
+fn append_subs(out: &mut Vec<u8>, subs: &[Sub]) -> Result<(), AllocError>
+    ensures { OnOk result (out.new.items ≡ out.old.items ++ flat_map sub_lines subs.now) }
+{
+    for sub in subs {
+        append_sub(out, sub)?;
+    }
+    Ok(())
+}
+
+/// Appends the lines of a journal's processors.
+#[tactic(auto, unfolding(hp_model::specs::JournalText::processor_lines))]
+fn append_processors(out: &mut Vec<u8>, head: &Head) -> Result<(), AllocError>
+    ensures { OnOk result (out.new.items ≡ out.old.items ++ processor_lines head.now) }
+{
+    append(out, b"cpus")?;
+    append_number(out, head.possible)?;
+    append(out, b"\nabsent")?;
+    append_numbers(out, head.absent.as_slice())?;
+    end_line(out)
+}
+
+/// Appends the line of the format.
+#[tactic(auto, unfolding(hp_model::specs::JournalText::title_line))]
+fn append_title(out: &mut Vec<u8>) -> Result<(), AllocError>
+    ensures { OnOk result (out.new.items ≡ out.old.items ++ title_line) }
+{
+    append(out, b"cpuhp journal 1\n")
+}
+
+/// Appends the lines before a journal's events.
+#[tactic(auto, unfolding(hp_model::specs::JournalText::head_text))]
+fn append_head(out: &mut Vec<u8>, head: &Head) -> Result<(), AllocError>
+    ensures { OnOk result (out.new.items ≡ out.old.items ++ head_text head.now) }
+{
+    append_title(out)?;
+    append_processors(out, head)?;
+    append_subs(out, head.subs.as_slice())?;
+    append(out, b"events\n")
+}
+
+/// Appends the lines of some events.
+fn append_events(out: &mut Vec<u8>, events: &[Event]) -> Result<(), AllocError>
+    ensures { OnOk result (out.new.items ≡ out.old.items ++ flat_map line_of events.now) }
+{
+    for event in events {
+        append_event(out, event)?;
+    }
+    Ok(())
+}
+
+/// Appends the text of the journal of a head and its events.
+#[tactic(auto, unfolding(hp_model::specs::JournalText::journal_text))]
+pub fn append_journal(out: &mut Vec<u8>, head: &Head, events: &[Event]) -> Result<(), AllocError>
+    ensures { OnOk result (out.new.items ≡ out.old.items ++ text_of head.now events.now) }
+{
+    append_head(out, head)?;
+    append_events(out, events)?;
+    append(out, b"end")?;
+    append_count(out, events.len())?;
+    end_line(out)
+}
+
+/// The text of a journal, version 1: its head, a line for each event, oldest first, and their
+/// number.
+///
+/// Takes memory for the text; where it is wanting the answer is `NoMemory`, and the journal is as
+/// before. There is one text of a journal, and it is this project's own.
+pub fn journal_text(alloc: Global, journal: &Journal) -> Result<Vec<u8>, NoMemory>
+    ensures { IfOk result (λ v. v.items ≡ text_of journal.now.head journal.now.events) }
+{
+    let mut out = Vec::new(alloc);
+    append_journal(&mut out, journal.head(), journal.events())?;
+    Ok(out)
+}

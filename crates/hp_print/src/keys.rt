@@ -1,0 +1,123 @@
+//! How often the entries of each key are done.
+
+ghost use Rattle.std.specs.Prelude.{◌≡◌, ◌≤◌, ◌<◌, ◌++◌, ◌∷◌, [], List, OnOk, IfOk, length, vec_len};
+ghost use Rattle.hp_model.specs.Summary.{is_before as is_before_of};
+ghost use Rattle.hp_print.specs.Counts.{AreInOrder, place, with_count, counted, no_count, is_key};
+
+use hp_event::Key;
+use hp_states::Dir;
+use std::alloc::{AllocError, Global};
+use std::marker::Model;
+
+/// How often the entries of a key are done, upwards and downwards.
+#[derive(Clone, Copy, Debug)]
+pub struct KeyCount {
+    pub key: Key,
+    pub ups: usize,
+    pub downs: usize,
+}
+
+/// Whether a key is before another: by state, and then by instance.
+pub fn is_before(key: Key, other: Key) -> bool
+    ensures { result ≡ is_before_of key other }
+{
+    key.state < other.state || (key.state == other.state && key.inst < other.inst)
+}
+
+/// How many keys of a list that rises are before a key.
+pub fn place_of(counts: &[KeyCount], key: Key) -> usize
+    requires { AreInOrder counts.now }
+    ensures place { result ≡ place key counts.now }
+    ensures within { result ≤ length counts.now }
+{
+    let mut low = 0;
+    let mut high = counts.len();
+    while low < high {
+        let middle = low + (high - low) / 2;
+        if is_before(counts[middle].key, key) {
+            low = middle + 1;
+        } else {
+            high = middle;
+        }
+    }
+    low
+}
+
+/// Puts a count of a key in its place, unless there is one; answers the place.
+fn admit(counts: &mut Vec<KeyCount>, key: Key) -> Result<usize, AllocError>
+    requires { AreInOrder counts.old.items }
+    ensures place { IfOk result (λ p. p ≡ place key counts.old.items) }
+    ensures counts { OnOk result (counts.new.items ≡ with_count key counts.old.items) }
+    ensures within { IfOk result (λ p. p < vec_len counts.new) }
+{
+    let at = place_of(counts.as_slice(), key);
+    if at < counts.len() && !is_before(key, counts[at].key) {
+        return Ok(at);
+    }
+    counts.insert(
+        at,
+        KeyCount {
+            key,
+            ups: 0,
+            downs: 0,
+        },
+    )?;
+    Ok(at)
+}
+
+/// Counts an entry of a key.
+fn count(counts: &mut Vec<KeyCount>, key: Key, dir: Dir, done: bool) -> Result<(), AllocError>
+    requires { AreInOrder counts.old.items }
+    ensures { OnOk result (counts.new.items ≡ counted key dir done counts.old.items) }
+{
+    let at = admit(counts, key)?;
+    if done {
+        let count = &mut counts[at];
+        match dir {
+            Dir::Up => count.ups = count.ups.saturating_add(1),
+            Dir::Down => count.downs = count.downs.saturating_add(1),
+        }
+    }
+    Ok(())
+}
+
+/// The counts of a processor's keys, which rise.
+#[derive(Drop)]
+pub struct KeyCounts {
+    counts: Vec<KeyCount>,
+}
+
+impl Model for KeyCounts {
+    ghost use Rattle.std.specs.Prelude.{List};
+    ghost use Rattle.hp_print.specs.declared.keys.KeyCount.{KeyCount};
+
+    ghost Value = { List KeyCount };
+
+    ghost view = { λ k. k.counts.items };
+}
+
+impl KeyCounts {
+    /// Of no entries.
+    pub fn new(alloc: Global) -> KeyCounts
+        ensures { result ≡ [] }
+    {
+        KeyCounts {
+            counts: Vec::new(alloc),
+        }
+    }
+
+    /// The counts, in the order of their keys.
+    pub fn as_slice(&self) -> &[KeyCount]
+        ensures { result.now ≡ self.now }
+    {
+        self.counts.as_slice()
+    }
+
+    /// Counts an entry of a key.
+    pub fn count(&mut self, key: Key, dir: Dir, done: bool) -> Result<(), AllocError>
+        requires { AreInOrder self.old }
+        ensures { OnOk result (self.new ≡ counted key dir done self.old) }
+    {
+        count(&mut self.counts, key, dir, done)
+    }
+}

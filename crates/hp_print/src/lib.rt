@@ -1,0 +1,26 @@
+//! The texts of journals: an event's line, a journal's text and its summary.
+//!
+//! Each text is one buffer of bytes to which its pieces are appended, so that it costs time and
+//! memory in proportion to its length. What the bytes are is said by definitions of `hp_model`:
+//! `event_line` of `specs/EventLine.antt`, `journal_text` of `specs/JournalText.antt` and `summary`
+//! of `specs/Summary.antt`. Each public function answers exactly these bytes, or that memory was
+//! wanting.
+#![tactic(auto)]
+
+mod answers;
+mod event;
+mod insts;
+mod journal;
+mod keys;
+mod states;
+mod summary_lines;
+mod suspended;
+mod tally;
+#[cfg(test)]
+mod tests;
+mod walks;
+mod words;
+
+pub use event::event_line;
+pub use journal::journal_text;
+pub use summary_lines::summary;

@@ -1,0 +1,357 @@
+//! The summary of a journal.
+
+ghost use Rattle.std.specs.Prelude.{◌≡◌, ℕ, ◌+◌, ◌<◌, ◌++◌, ◌∷◌, ◌==◌, [], List, map, OnOk, IfOk, length, filter, decimal, if◌then◌else◌};
+ghost use Rattle.std.specs.List.{flat_map};
+ghost use Rattle.hp_model.specs.Lists.{among, numbers};
+ghost use Rattle.hp_model.specs.Processors.{is_present};
+ghost use Rattle.hp_model.specs.Words.{line, spaced, list_words};
+ghost use Rattle.hp_model.specs.Summary.{key_word, presence_word, name_of as name_of_sub, summary as summary_of};
+ghost use Rattle.hp_print.specs.Tallies.{IsTally};
+ghost use Rattle.hp_print.specs.TallyText.{keys_of, key_text, cpu_words, cpu_text, cpus_text, disabled_text, frozen_word, frozen_text, sub_words, registered_text, sub_text, subs_text, ops_text, events_text, tally_text};
+
+use crate::answers::Answers;
+use crate::keys::KeyCount;
+use crate::states::States;
+use crate::tally::{Tally, tally_of};
+use crate::walks::Walks;
+use crate::words::{append, append_count, append_name, append_number, append_numbers, end_line};
+use hp_event::{Head, Journal, NoMemory};
+use hp_states::ONLINE;
+use itoa::Buffer;
+use std::alloc::{AllocError, Global};
+
+/// How many bytes there are.
+fn length_of(out: &Vec<u8>) -> usize
+    ensures { result ≡ length out.now.items }
+{
+    out.len()
+}
+
+/// Whether a number is among some.
+fn is_among(numbers: &[u32], number: u32) -> bool
+    ensures { result ≡ among number numbers.now }
+{
+    numbers.contains(&number)
+}
+
+/// Appends a word and a count, behind a space.
+fn append_count_of(out: &mut Vec<u8>, word: &[u8], count: usize) -> Result<(), AllocError>
+    ensures { OnOk result (out.new.items ≡ out.old.items ++ (word.now ++ 32 ∷ decimal count)) }
+{
+    append(out, word)?;
+    append_count(out, count)
+}
+
+/// Appends a dash where nothing was appended since the buffer had this length.
+fn end_list(out: &mut Vec<u8>, start: usize) -> Result<(), AllocError>
+    ensures { OnOk result
+        (out.new.items
+        ≡ (if length out.old.items == start then out.old.items ++ 32 ∷ 45 ∷ [] else out.old.items)) }
+{
+    if length_of(out) == start {
+        append(out, b" -")
+    } else {
+        Ok(())
+    }
+}
+
+/// Appends a key where it counts as in force.
+fn append_key(out: &mut Vec<u8>, count: &KeyCount) -> Result<(), AllocError>
+    ensures { OnOk result (out.new.items ≡ out.old.items ++ key_text count.now) }
+{
+    if count.downs >= count.ups {
+        return Ok(());
+    }
+    let mut buffer = Buffer::new();
+    append_number(out, count.key.state)?;
+    out.push(b'.')?;
+    append(out, buffer.format(count.key.inst).as_bytes())
+}
+
+/// Appends the keys that count as in force.
+fn append_each_key(out: &mut Vec<u8>, counts: &[KeyCount]) -> Result<(), AllocError>
+    ensures { OnOk result (out.new.items ≡ out.old.items ++ flat_map key_text counts.now) }
+{
+    for count in counts {
+        append_key(out, count)?;
+    }
+    Ok(())
+}
+
+/// Appends the keys that count as in force, or a dash.
+fn append_keys(out: &mut Vec<u8>, counts: &[KeyCount]) -> Result<(), AllocError>
+    ensures { OnOk result (out.new.items ≡ out.old.items ++ spaced (list_words (map key_word (keys_of counts.now)))) }
+{
+    let start = length_of(out);
+    append_each_key(out, counts)?;
+    end_list(out, start)?;
+    Ok(())
+}
+
+/// Appends whether a processor is present.
+fn append_presence(out: &mut Vec<u8>, present: bool) -> Result<(), AllocError>
+    ensures { OnOk result (out.new.items ≡ out.old.items ++ 32 ∷ presence_word present) }
+{
+    if present {
+        append(out, b" present")
+    } else {
+        append(out, b" absent")
+    }
+}
+
+/// Appends the line of a processor.
+fn append_cpu(
+    out: &mut Vec<u8>,
+    cpu: u32,
+    present: bool,
+    settled: u32,
+    counts: &[KeyCount],
+) -> Result<(), AllocError>
+    ensures { OnOk result (out.new.items ≡ out.old.items ++ line (cpu_words cpu present settled counts.now)) }
+{
+    append(out, b"cpu")?;
+    append_number(out, cpu)?;
+    append_presence(out, present)?;
+    append(out, b" state")?;
+    append_number(out, settled)?;
+    append(out, b" keys")?;
+    append_keys(out, counts)?;
+    end_line(out)
+}
+
+/// Whether a processor that is possible is present.
+fn is_cpu_present(head: &Head, cpu: u32) -> bool
+    requires { cpu < head.now.possible }
+    ensures { result ≡ is_present head.now cpu }
+{
+    !is_among(head.absent.as_slice(), cpu)
+}
+
+/// Appends a line for each processor.
+#[tactic(auto, unfolding(crate::specs::TallyText::cpus_text))]
+fn append_cpus(out: &mut Vec<u8>, head: &Head, walks: &Walks) -> Result<(), AllocError>
+    requires settled { length walks.now.settled.items ≡ head.now.possible }
+    requires keys { length walks.now.keys.items ≡ head.now.possible }
+    ensures { OnOk result (out.new.items ≡ out.old.items ++ cpus_text head.now walks.now) }
+{
+    for cpu in 0..head.possible {
+        append_cpu_of(out, head, walks, cpu)?;
+    }
+    Ok(())
+}
+
+/// Appends the line of a processor as it is tallied.
+#[tactic(auto, unfolding(crate::specs::TallyText::cpu_text))]
+fn append_cpu_of(out: &mut Vec<u8>, head: &Head, walks: &Walks, cpu: u32) -> Result<(), AllocError>
+    requires possible { cpu < head.now.possible }
+    requires settled { length walks.now.settled.items ≡ head.now.possible }
+    requires keys { length walks.now.keys.items ≡ head.now.possible }
+    ensures { OnOk result (out.new.items ≡ out.old.items ++ cpu_text head.now walks.now cpu) }
+{
+    let present = is_cpu_present(head, cpu);
+    let settled = walks.settled[cpu as usize];
+    append_cpu(
+        out,
+        cpu,
+        present,
+        settled,
+        walks.keys[cpu as usize].as_slice(),
+    )
+}
+
+/// Appends how often hotplug is disabled.
+#[tactic(auto, unfolding(crate::specs::TallyText::disabled_text))]
+fn append_disabled(out: &mut Vec<u8>, disabled: usize) -> Result<(), AllocError>
+    ensures { OnOk result (out.new.items ≡ out.old.items ++ disabled_text disabled) }
+{
+    append_count_of(out, b"disabled", disabled)?;
+    end_line(out)
+}
+
+/// Appends a processor where it is frozen.
+fn append_if_frozen(out: &mut Vec<u8>, frozen: &[u32], cpu: u32) -> Result<(), AllocError>
+    ensures { OnOk result (out.new.items ≡ out.old.items ++ frozen_word frozen.now cpu) }
+{
+    if is_among(frozen, cpu) {
+        append_number(out, cpu)
+    } else {
+        Ok(())
+    }
+}
+
+/// Appends the processors that are frozen, in rising number.
+fn append_each_frozen(out: &mut Vec<u8>, frozen: &[u32], possible: u32) -> Result<(), AllocError>
+    ensures { OnOk result (out.new.items ≡ out.old.items ++ flat_map (frozen_word frozen.now) (numbers possible)) }
+{
+    for cpu in 0..possible {
+        append_if_frozen(out, frozen, cpu)?;
+    }
+    Ok(())
+}
+
+/// Appends the processors that are frozen, in rising number, or a dash.
+fn append_frozen_list(out: &mut Vec<u8>, frozen: &[u32], possible: u32) -> Result<(), AllocError>
+    ensures { OnOk result
+        (out.new.items
+        ≡ out.old.items
+        ++ spaced (list_words (map decimal (filter (λ c. among c frozen.now) (numbers possible))))) }
+{
+    let start = length_of(out);
+    append_each_frozen(out, frozen, possible)?;
+    end_list(out, start)?;
+    Ok(())
+}
+
+/// Appends the line of the frozen processors.
+#[tactic(auto, unfolding(crate::specs::TallyText::frozen_text))]
+fn append_frozen(out: &mut Vec<u8>, frozen: &[u32], possible: u32) -> Result<(), AllocError>
+    ensures { OnOk result (out.new.items ≡ out.old.items ++ frozen_text possible frozen.now) }
+{
+    append(out, b"frozen")?;
+    append_frozen_list(out, frozen, possible)?;
+    end_line(out)
+}
+
+/// Appends the line of a state that is registered.
+fn append_registered(
+    out: &mut Vec<u8>,
+    state: u32,
+    name: &[u8],
+    made: usize,
+    faults: usize,
+    insts: &[u32],
+) -> Result<(), AllocError>
+    ensures { OnOk result (out.new.items ≡ out.old.items ++ line (sub_words state name.now made faults insts.now)) }
+{
+    append(out, b"sub")?;
+    append_number(out, state)?;
+    append_name(out, name)?;
+    append_count_of(out, b" made", made)?;
+    append_count_of(out, b" faults", faults)?;
+    append(out, b" instances")?;
+    append_numbers(out, insts)?;
+    end_line(out)
+}
+
+/// The name of a subsystem, numbered from 1; empty where there is none of that number.
+fn name_of(head: &Head, number: u32) -> &[u8]
+    ensures { result.now ≡ name_of_sub head.now number }
+{
+    if number == 0 {
+        return &[];
+    }
+    match head.subs.as_slice().get(number as usize - 1) {
+        Some(sub) => sub.name.as_slice(),
+        None => &[],
+    }
+}
+
+/// Appends the line of a state, where it is registered.
+#[tactic(auto, unfolding(crate::specs::TallyText::sub_text))]
+fn append_state(
+    out: &mut Vec<u8>,
+    head: &Head,
+    states: &States,
+    state: u32,
+) -> Result<(), AllocError>
+    requires subs { state < length states.now.subs.items }
+    requires insts { state < length states.now.insts.items }
+    requires made { state < length states.now.made.items }
+    requires faults { state < length states.now.faults.items }
+    ensures { OnOk result (out.new.items ≡ out.old.items ++ sub_text head.now states.now state) }
+{
+    let at = state as usize;
+    match states.subs[at] {
+        None => Ok(()),
+        Some(sub) => append_registered(
+            out,
+            state,
+            name_of(head, sub),
+            states.made[at],
+            states.faults[at],
+            states.insts[at].as_slice(),
+        ),
+    }
+}
+
+/// Appends a line for each of the states below a number that is registered.
+#[tactic(auto, unfolding(crate::specs::TallyText::subs_text))]
+fn append_states(
+    out: &mut Vec<u8>,
+    head: &Head,
+    states: &States,
+    many: u32,
+) -> Result<(), AllocError>
+    requires subs { length states.now.subs.items ≡ many }
+    requires insts { length states.now.insts.items ≡ many }
+    requires made { length states.now.made.items ≡ many }
+    requires faults { length states.now.faults.items ≡ many }
+    ensures { OnOk result (out.new.items ≡ out.old.items ++ subs_text head.now states.now many) }
+{
+    for state in 0..many {
+        append_state(out, head, states, state)?;
+    }
+    Ok(())
+}
+
+/// Appends how operations were answered.
+#[tactic(auto, unfolding(crate::specs::TallyText::ops_text))]
+fn append_ops(out: &mut Vec<u8>, answers: &Answers) -> Result<(), AllocError>
+    ensures { OnOk result (out.new.items ≡ out.old.items ++ ops_text answers.now) }
+{
+    append_count_of(out, b"ops ok", answers.ok)?;
+    append_count_of(out, b" refused", answers.refused)?;
+    append_count_of(out, b" fault", answers.fault)?;
+    append_count_of(out, b" stuck", answers.stuck)?;
+    append_count_of(out, b" full", answers.full)?;
+    end_line(out)
+}
+
+/// Appends the number of events.
+#[tactic(auto, unfolding(crate::specs::TallyText::events_text))]
+fn append_event_count(out: &mut Vec<u8>, count: usize) -> Result<(), AllocError>
+    ensures { OnOk result (out.new.items ≡ out.old.items ++ events_text count) }
+{
+    append_count_of(out, b"events", count)?;
+    end_line(out)
+}
+
+/// Appends the summary that a tally makes.
+#[tactic(auto, unfolding(crate::specs::TallyText::tally_text))]
+fn append_summary(
+    out: &mut Vec<u8>,
+    head: &Head,
+    tally: &Tally,
+    count: usize,
+) -> Result<(), AllocError>
+    requires settled { length tally.now.walks.settled.items ≡ head.now.possible }
+    requires keys { length tally.now.walks.keys.items ≡ head.now.possible }
+    requires subs { length tally.now.states.subs.items ≡ ONLINE + 1 }
+    requires insts { length tally.now.states.insts.items ≡ ONLINE + 1 }
+    requires made { length tally.now.states.made.items ≡ ONLINE + 1 }
+    requires faults { length tally.now.states.faults.items ≡ ONLINE + 1 }
+    ensures { OnOk result (out.new.items ≡ out.old.items ++ tally_text head.now tally.now count) }
+{
+    append_cpus(out, head, &tally.walks)?;
+    append_disabled(out, tally.suspended.disabled)?;
+    append_frozen(out, tally.suspended.frozen.as_slice(), head.possible)?;
+    append_states(out, head, &tally.states, ONLINE + 1)?;
+    append_ops(out, &tally.answers)?;
+    append_event_count(out, count)
+}
+
+/// The summary of a journal: where its processors stand and which callbacks are in force there, what
+/// is registered, and how the operations were answered.
+///
+/// The journal may be in flight: a registration in flight isn't registered, and a walk in flight
+/// leaves the settled state at its start. Takes memory for the text and for a tally of the journal;
+/// where it is wanting the answer is `NoMemory`, and the journal is as before. The form of the
+/// summary is this project's own.
+pub fn summary(alloc: Global, journal: &Journal) -> Result<Vec<u8>, NoMemory>
+    ensures { IfOk result (λ v. v.items ≡ summary_of journal.now.head journal.now.events) }
+{
+    let tally = tally_of(alloc, journal.head(), journal.events())?;
+    let mut out = Vec::new(alloc);
+    append_summary(&mut out, journal.head(), &tally, journal.events().len())?;
+    Ok(out)
+}

@@ -1,0 +1,103 @@
+//! How often hotplug is disabled, and which processors are frozen.
+
+ghost use Rattle.std.specs.Prelude.{◌≡◌, ◌-◌, ◌&&◌, ◌++◌, ◌∷◌, if◌then◌else◌, OnOk, List, []};
+ghost use Rattle.hp_model.specs.Suspend.{is_ok, is_freeze, is_thaw, is_disabling, is_enabling};
+ghost use Rattle.hp_print.specs.Counts.{one_more};
+ghost use Rattle.hp_print.specs.Steps.{op_after, disabled_after, frozen_after, is_held};
+
+use hp_event::{Answer, Event, Op};
+use std::alloc::{AllocError, Global};
+
+/// What operations of the map lock left behind.
+#[derive(Drop)]
+pub struct Suspended {
+    /// The operation that holds the map lock.
+    pub op: Option<Op>,
+    /// How often hotplug is disabled.
+    pub disabled: usize,
+    /// The processors that a freeze recorded.
+    pub frozen: Vec<u32>,
+}
+
+impl Suspended {
+    /// Of no events.
+    pub fn new(alloc: Global) -> Suspended
+        ensures op { result.op ≡ None }
+        ensures disabled { result.disabled ≡ 0 }
+        ensures frozen { result.frozen.items ≡ [] }
+    {
+        Suspended {
+            op: None,
+            disabled: 0,
+            frozen: Vec::new(alloc),
+        }
+    }
+
+    /// Counts one event more.
+    pub fn count(&mut self, event: &Event) -> Result<(), AllocError>
+        ensures op { OnOk result (self.new.op ≡ op_after self.old.op event.now) }
+        ensures disabled { OnOk result (self.new.disabled ≡ disabled_after self.old.op self.old.disabled event.now) }
+        ensures frozen { OnOk result (self.new.frozen.items ≡ frozen_after self.old.op self.old.frozen.items event.now) }
+    {
+        match *event {
+            Event::Enter { op, .. } => {
+                self.enter(op);
+                Ok(())
+            }
+            Event::WalkEnd { cpu, answer, .. } => self.end_walk(cpu, answer),
+            Event::OpEnd { .. } => {
+                self.end();
+                Ok(())
+            }
+            _ => Ok(()),
+        }
+    }
+
+    /// An operation takes the map lock.
+    fn enter(&mut self, op: Op)
+        ensures op { self.new.op ≡ Some op }
+        ensures disabled { self.new.disabled ≡ (if is_thaw op then self.old.disabled - 1 else self.old.disabled) }
+        ensures frozen { self.new.frozen.items ≡ (if is_freeze op then [] else self.old.frozen.items) }
+    {
+        match op {
+            Op::Thaw => self.disabled = self.disabled.saturating_sub(1),
+            Op::Freeze(_) => self.frozen.clear(),
+            _ => {}
+        }
+        self.op = Some(op);
+    }
+
+    /// A walk of the operation ends.
+    fn end_walk(&mut self, cpu: u32, answer: Answer) -> Result<(), AllocError>
+        ensures op { self.new.op ≡ self.old.op }
+        ensures disabled { self.new.disabled ≡ self.old.disabled }
+        ensures frozen { OnOk result
+            (self.new.frozen.items
+            ≡ (if is_held is_freeze self.old.op && is_ok answer
+            then self.old.frozen.items ++ cpu ∷ []
+            else self.old.frozen.items)) }
+    {
+        if matches!(self.op, Some(Op::Freeze(_))) && matches!(answer, Answer::Ok(_)) {
+            self.frozen.push(cpu)?;
+        }
+        Ok(())
+    }
+
+    /// The operation gives the map lock back.
+    fn end(&mut self)
+        ensures op { self.new.op ≡ None }
+        ensures disabled { self.new.disabled
+            ≡ (if is_held is_disabling self.old.op
+            then one_more self.old.disabled
+            else (if is_held is_enabling self.old.op then self.old.disabled - 1 else self.old.disabled)) }
+        ensures frozen { self.new.frozen.items ≡ (if is_held is_thaw self.old.op then [] else self.old.frozen.items) }
+    {
+        match self.op {
+            Some(Op::Disable | Op::Freeze(_)) => self.disabled = self.disabled.saturating_add(1),
+            Some(Op::Enable) => self.disabled = self.disabled.saturating_sub(1),
+            Some(Op::Thaw) => self.frozen.clear(),
+            _ => {}
+        }
+        self.op = None;
+    }
+}

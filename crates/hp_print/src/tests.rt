@@ -1,0 +1,367 @@
+//! The texts of a small journal, and a line of each kind of event.
+
+use super::*;
+use hp_event::{Answer, Event, File, Form, Head, How, Journal, Name, Numbers, Op, Role, Sub, Subs};
+use hp_states::{Dir, HookPlan, Rule};
+use std::alloc::Global;
+use std::process::Abort;
+use std::test::Fail;
+
+const PLAIN: Form = Form {
+    nocalls: false,
+    locked: false,
+};
+
+fn named(alloc: Global, name: &[u8], multi: bool, plan: HookPlan) -> Result<Sub, Fail> {
+    Ok(Sub {
+        name: Name::from_vec(Vec::from_slice(alloc, name)?),
+        up: true,
+        down: true,
+        multi,
+        plan,
+    })
+}
+
+fn setup(state: u32, sub: u32) -> Event {
+    Event::RegBegin {
+        seat: 2,
+        state,
+        op: Op::Setup {
+            state,
+            sub,
+            form: PLAIN,
+        },
+    }
+}
+
+fn call(seat: u32, cpu: u32, state: u32, how: How) -> Event {
+    Event::Call {
+        seat,
+        cpu,
+        state,
+        inst: 0,
+        dir: Dir::Up,
+        how,
+    }
+}
+
+fn journal_of(head: Head, alloc: Global, events: &[Event]) -> Result<Journal, Fail> {
+    let mut journal = Journal::new(alloc, head);
+    for event in events {
+        journal.reserve(1)?;
+        if journal.promised() > 0 {
+            journal.push(*event);
+        }
+    }
+    Ok(journal)
+}
+
+fn two_startups(alloc: Global) -> Result<Journal, Fail> {
+    let mut subs = Subs::new(alloc);
+    subs.push(named(alloc, b"net:a", false, HookPlan::none())?)?;
+    subs.push(named(alloc, b"net:b", false, HookPlan::none())?)?;
+    let head = Head {
+        possible: 2,
+        absent: Numbers::new(alloc),
+        subs,
+    };
+    let done = Answer::Ok(0);
+    let events = [
+        Event::Admit {
+            seat: 0,
+            role: Role::Ap(0),
+        },
+        Event::Admit {
+            seat: 1,
+            role: Role::Ap(1),
+        },
+        Event::Admit {
+            seat: 2,
+            role: Role::Client,
+        },
+        setup(120, 1),
+        call(0, 0, 120, How::RanOk),
+        Event::RegEnd {
+            seat: 2,
+            answer: done,
+        },
+        setup(150, 2),
+        call(0, 0, 150, How::RanOk),
+        Event::RegEnd {
+            seat: 2,
+            answer: done,
+        },
+        Event::Enter {
+            seat: 2,
+            op: Op::Up(1),
+        },
+        Event::WalkBegin {
+            seat: 2,
+            cpu: 1,
+            from: 0,
+            to: 200,
+        },
+        call(1, 1, 120, How::RanOk),
+        call(1, 1, 150, How::RanOk),
+        Event::WalkEnd {
+            seat: 2,
+            cpu: 1,
+            answer: done,
+        },
+        Event::OpEnd {
+            seat: 2,
+            answer: done,
+        },
+    ];
+    journal_of(head, alloc, &events)
+}
+
+#[test]
+fn the_text_of_two_startups(rt: HostRuntime) -> Result<(), Fail> {
+    let journal = two_startups(rt.alloc())?;
+    let text = journal_text(rt.alloc(), &journal)?;
+    let wanted =
+        b"cpuhp journal 1\ncpus 2\nabsent -\nsub net:a both single\nsub net:b both single\nevents\nadmit 0 ap 0\nadmit 1 ap 1\nadmit 2 client\nreg 2 120 setup 120 1\ncall 0 0 120 0 up ok\nregged 2 ok 0\nreg 2 150 setup 150 2\ncall 0 0 150 0 up ok\nregged 2 ok 0\nenter 2 up 1\nwalk 2 1 0 200\ncall 1 1 120 0 up ok\ncall 1 1 150 0 up ok\nwalked 2 1 ok\ndone 2 ok 0\nend 15\n";
+    assert_eq!(rt; text.as_slice(), wanted.as_slice());
+    Ok(())
+}
+
+#[test]
+fn the_summary_of_two_startups(rt: HostRuntime) -> Result<(), Fail> {
+    let journal = two_startups(rt.alloc())?;
+    let text = summary(rt.alloc(), &journal)?;
+    let wanted =
+        b"cpu 0 present state 200 keys 120.0 150.0\ncpu 1 present state 200 keys 120.0 150.0\ndisabled 0\nfrozen -\nsub 120 net:a made 2 faults 0 instances -\nsub 150 net:b made 2 faults 0 instances -\nops ok 3 refused 0 fault 0 stuck 0 full 0\nevents 15\n";
+    assert_eq!(rt; text.as_slice(), wanted.as_slice());
+    Ok(())
+}
+
+fn check(rt: &impl Abort, alloc: Global, event: Event, wanted: &[u8]) -> Result<(), Fail> {
+    let line = event_line(alloc, &event)?;
+    assert_eq!(rt; line.as_slice(), wanted);
+    Ok(())
+}
+
+#[test]
+fn a_line_of_each_seat_event(rt: HostRuntime) -> Result<(), Fail> {
+    check(
+        &rt,
+        rt.alloc(),
+        Event::Admit {
+            seat: 3,
+            role: Role::Ap(7),
+        },
+        b"admit 3 ap 7\n",
+    )?;
+    check(
+        &rt,
+        rt.alloc(),
+        Event::Admit {
+            seat: 4,
+            role: Role::Client,
+        },
+        b"admit 4 client\n",
+    )?;
+    check(&rt, rt.alloc(), Event::Leave { seat: 95 }, b"leave 95\n")?;
+    check(&rt, rt.alloc(), Event::ReadLock { seat: 0 }, b"lock 0\n")?;
+    check(
+        &rt,
+        rt.alloc(),
+        Event::ReadUnlock { seat: 10 },
+        b"unlock 10\n",
+    )?;
+    check(&rt, rt.alloc(), Event::Wakeup { seat: 6 }, b"wakeup 6\n")?;
+    check(
+        &rt,
+        rt.alloc(),
+        Event::Armed {
+            seat: 5,
+            cpu: 2,
+            value: -1,
+        },
+        b"armed 5 2 -1\n",
+    )?;
+    check(
+        &rt,
+        rt.alloc(),
+        Event::Shown {
+            seat: 5,
+            file: File::Fail,
+            cpu: 2,
+            value: -1,
+        },
+        b"shown 5 fail 2 -1\n",
+    )?;
+    check(
+        &rt,
+        rt.alloc(),
+        Event::Shown {
+            seat: 5,
+            file: File::States,
+            cpu: 0,
+            value: 12,
+        },
+        b"shown 5 states 12\n",
+    )
+}
+
+#[test]
+fn a_line_of_each_operation(rt: HostRuntime) -> Result<(), Fail> {
+    check(
+        &rt,
+        rt.alloc(),
+        Event::Enter {
+            seat: 3,
+            op: Op::Freeze(-1),
+        },
+        b"enter 3 freeze -1\n",
+    )?;
+    check(
+        &rt,
+        rt.alloc(),
+        Event::Refused {
+            seat: 3,
+            errno: 22,
+            op: Op::Target(4095, -7),
+        },
+        b"refused 3 22 target 4095 -7\n",
+    )?;
+    check(
+        &rt,
+        rt.alloc(),
+        Event::Refused {
+            seat: 3,
+            errno: 16,
+            op: Op::ShowStates,
+        },
+        b"refused 3 16 show states\n",
+    )?;
+    check(
+        &rt,
+        rt.alloc(),
+        Event::RegBegin {
+            seat: 3,
+            state: 41,
+            op: Op::Add {
+                state: 41,
+                inst: 65535,
+                form: Form {
+                    nocalls: true,
+                    locked: true,
+                },
+            },
+        },
+        b"reg 3 41 add 41 65535 nocalls locked\n",
+    )?;
+    check(
+        &rt,
+        rt.alloc(),
+        Event::RegEnd {
+            seat: 3,
+            answer: Answer::Fault(4095),
+        },
+        b"regged 3 fault 4095\n",
+    )?;
+    check(
+        &rt,
+        rt.alloc(),
+        Event::OpEnd {
+            seat: 3,
+            answer: Answer::Refused(16),
+        },
+        b"done 3 refused 16\n",
+    )?;
+    check(
+        &rt,
+        rt.alloc(),
+        Event::OpEnd {
+            seat: 3,
+            answer: Answer::LogFull,
+        },
+        b"done 3 full\n",
+    )
+}
+
+#[test]
+fn a_line_of_each_walk_event(rt: HostRuntime) -> Result<(), Fail> {
+    check(
+        &rt,
+        rt.alloc(),
+        Event::WalkBegin {
+            seat: 3,
+            cpu: 1,
+            from: 200,
+            to: 0,
+        },
+        b"walk 3 1 200 0\n",
+    )?;
+    check(
+        &rt,
+        rt.alloc(),
+        Event::Call {
+            seat: 3,
+            cpu: 1,
+            state: 30,
+            inst: 9,
+            dir: Dir::Down,
+            how: How::Overruled(5),
+        },
+        b"call 3 1 30 9 down overruled 5\n",
+    )?;
+    check(
+        &rt,
+        rt.alloc(),
+        Event::WalkEnd {
+            seat: 3,
+            cpu: 1,
+            answer: Answer::Ok(0),
+        },
+        b"walked 3 1 ok\n",
+    )?;
+    check(
+        &rt,
+        rt.alloc(),
+        Event::WalkEnd {
+            seat: 3,
+            cpu: 1,
+            answer: Answer::Stuck {
+                first: 5,
+                second: 11,
+                at: 120,
+            },
+        },
+        b"walked 3 1 stuck 5 11 120\n",
+    )
+}
+
+#[test]
+fn absent_processors_names_and_rules(rt: HostRuntime) -> Result<(), Fail> {
+    let mut plan = HookPlan::none();
+    plan.add(Rule {
+        dir: Dir::Up,
+        cpu: None,
+        inst: Some(3),
+        nth: None,
+        code: 5,
+    });
+    let mut subs = Subs::new(rt.alloc());
+    subs.push(named(rt.alloc(), b"", true, plan)?)?;
+    let mut absent = Numbers::new(rt.alloc());
+    absent.push(1)?;
+    absent.push(3)?;
+    let head = Head {
+        possible: 4,
+        absent,
+        subs,
+    };
+    let journal = journal_of(head, rt.alloc(), &[])?;
+    let text = journal_text(rt.alloc(), &journal)?;
+    let wanted =
+        b"cpuhp journal 1\ncpus 4\nabsent 1 3\nsub - both multi\nrule up * 3 * 5\nevents\nend 0\n";
+    assert_eq!(rt; text.as_slice(), wanted.as_slice());
+    let overview = summary(rt.alloc(), &journal)?;
+    let expected =
+        b"cpu 0 present state 200 keys -\ncpu 1 absent state 0 keys -\ncpu 2 present state 0 keys -\ncpu 3 absent state 0 keys -\ndisabled 0\nfrozen -\nops ok 0 refused 0 fault 0 stuck 0 full 0\nevents 0\n";
+    assert_eq!(rt; overview.as_slice(), expected.as_slice());
+    Ok(())
+}

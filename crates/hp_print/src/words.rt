@@ -1,0 +1,94 @@
+//! Pieces of lines, appended to a buffer.
+
+ghost use Rattle.std.specs.Prelude.{◌≡◌, ◌++◌, ◌∷◌, [], OnOk, Option, map, decimal};
+ghost use Rattle.std.specs.Fmt.{signed_decimal};
+ghost use Rattle.hp_model.specs.Words.{spaced, dir_word, name_word, any_word, list_words};
+
+use hp_states::Dir;
+use itoa::Buffer;
+use std::alloc::AllocError;
+
+/// Appends some bytes as they are.
+pub fn append(out: &mut Vec<u8>, bytes: &[u8]) -> Result<(), AllocError>
+    ensures { OnOk result (out.new.items ≡ out.old.items ++ bytes.now) }
+{
+    out.extend_from_slice(bytes)
+}
+
+/// Appends a number, behind a space.
+pub fn append_number(out: &mut Vec<u8>, number: u32) -> Result<(), AllocError>
+    ensures { OnOk result (out.new.items ≡ out.old.items ++ 32 ∷ decimal number) }
+{
+    let mut buffer = Buffer::new();
+    out.push(b' ')?;
+    out.extend_from_slice(buffer.format(number).as_bytes())
+}
+
+/// Appends a signed number, behind a space.
+pub fn append_signed(out: &mut Vec<u8>, number: i32) -> Result<(), AllocError>
+    ensures { OnOk result (out.new.items ≡ out.old.items ++ 32 ∷ signed_decimal number) }
+{
+    let mut buffer = Buffer::new();
+    out.push(b' ')?;
+    out.extend_from_slice(buffer.format(number).as_bytes())
+}
+
+/// Appends a direction, behind a space.
+pub fn append_dir(out: &mut Vec<u8>, dir: Dir) -> Result<(), AllocError>
+    ensures { OnOk result (out.new.items ≡ out.old.items ++ 32 ∷ dir_word dir) }
+{
+    match dir {
+        Dir::Up => append(out, b" up"),
+        Dir::Down => append(out, b" down"),
+    }
+}
+
+/// Appends the end of a line.
+pub fn end_line(out: &mut Vec<u8>) -> Result<(), AllocError>
+    ensures { OnOk result (out.new.items ≡ out.old.items ++ 10 ∷ []) }
+{
+    append(out, b"\n")
+}
+
+/// Appends a count, behind a space.
+pub fn append_count(out: &mut Vec<u8>, count: usize) -> Result<(), AllocError>
+    ensures { OnOk result (out.new.items ≡ out.old.items ++ 32 ∷ decimal count) }
+{
+    let mut buffer = Buffer::new();
+    out.push(b' ')?;
+    out.extend_from_slice(buffer.format(count).as_bytes())
+}
+
+/// Appends a name, behind a space; a missing one is a dash.
+pub fn append_name(out: &mut Vec<u8>, name: &[u8]) -> Result<(), AllocError>
+    ensures { OnOk result (out.new.items ≡ out.old.items ++ 32 ∷ name_word name.now) }
+{
+    if name.is_empty() {
+        return append(out, b" -");
+    }
+    out.push(b' ')?;
+    append(out, name)
+}
+
+/// Appends a number, behind a space; an absent one is a star.
+pub fn append_any(out: &mut Vec<u8>, number: Option<u32>) -> Result<(), AllocError>
+    ensures { OnOk result (out.new.items ≡ out.old.items ++ 32 ∷ any_word number) }
+{
+    match number {
+        None => append(out, b" *"),
+        Some(n) => append_number(out, n),
+    }
+}
+
+/// Appends some numbers, or a dash where there is none.
+pub fn append_numbers(out: &mut Vec<u8>, numbers: &[u32]) -> Result<(), AllocError>
+    ensures { OnOk result (out.new.items ≡ out.old.items ++ spaced (list_words (map decimal numbers.now))) }
+{
+    if numbers.is_empty() {
+        return append(out, b" -");
+    }
+    for number in numbers {
+        append_number(out, *number)?;
+    }
+    Ok(())
+}
