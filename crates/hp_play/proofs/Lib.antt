@@ -1,0 +1,13 @@
+pub mod WordLaws
+pub mod WordLoops
+pub mod NumberLaws
+pub mod FieldLaws
+pub mod LineLaws
+pub mod OpLaws
+pub mod RunLoops
+pub mod RunLaws
+pub mod ScriptLaws
+pub mod Answered
+pub mod ReadSteps
+pub mod Playable
+pub mod Refusing

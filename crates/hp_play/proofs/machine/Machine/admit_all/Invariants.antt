@@ -1,0 +1,14 @@
+use Rattle.std.proofs.Common.{◌≡◌, ◌+◌, length}
+use Rattle.hp_play.specs.Machine.{IsReady}
+use Rattle.hp_play.proofs.machine.Machine.admit_all.Given as goal
+
+abbrev pub invariant-loop-cpu : goal.invariant-loop-cpu
+invariant-loop-cpu g l =
+    record {
+      ready : IsReady l.self.journal l.self.settled.items l.self.places.items l.self.due;
+      due : l.self.due ≡ l.fn.self.due;
+      head : l.self.journal.head ≡ l.fn.self.journal.head;
+      promised : l.self.journal.promised + l.cpu ≡ l.client + 1;
+      settled_same : l.self.settled ≡ l.fn.self.settled;
+      total : length l.self.journal.events ≡ l.cpu;
+    }

@@ -1,0 +1,22 @@
+use Rattle.std.proofs.Common.{◌≡◌, ◌+◌, ◌*◌, ◌≤◌, length, drop, count_by}
+use Rattle.hp_states.specs.declared.limits.TheConstants.{MAX_CPUS, ONLINE}
+use Rattle.hp_play.specs.declared.due.Due.TheVariants.{Operation}
+use Rattle.hp_play.specs.Machine.{IsReady, is_setup}
+use Rattle.hp_play.proofs.run.play.Given as goal
+
+abbrev pub invariant-loop-op : goal.invariant-loop-op
+invariant-loop-op g l =
+    record {
+      ready : IsReady l.machine.journal l.machine.settled.items l.machine.places.items l.machine.due;
+      free : l.machine.due ≡ Operation;
+      none : l.machine.journal.promised ≡ 0;
+      head : l.machine.journal.head ≡ l.fn.script.head;
+      few : length l.machine.journal.events ≤ (MAX_CPUS + 1) + l.op-index * (ONLINE + 4);
+      items : l.op-items ≡ l.fn.script.ops.items;
+      hooks : count_by is_setup (drop l.op-index l.op-items) ≤ length l.rack.hooks.items;
+    }
+
+abbrev pub invariant-loop-hook : goal.invariant-loop-hook
+invariant-loop-hook g l =
+    (goal.iterator-loop-hook g).can_next l.hook-iterator ×
+    (goal.iterator-loop-hook g).is_finite l.hook-iterator

@@ -1,0 +1,87 @@
+-- What the program answers: a status, and what it writes. This project's own.
+use Rattle.std.specs.Prelude.{◌≡◌, ℕ, ◌+◌, ◌<◌, ◌≤◌, ◌⊎◌, Option, Some, None, IfSome, List, [], ◌∷◌, ◌++◌, take, length, codes}
+use Rattle.std.specs.Io.KnownBytes.{prepend_known, append_known, IsAtEnd}
+use Rattle.hp_states.specs.declared.limits.TheConstants.{MAX_SCRIPT_BYTES}
+use Rattle.hp_event.specs.declared.event.Event.{Event}
+use Rattle.hp_event.specs.declared.head.Head.{Head}
+use Rattle.hp_model.specs.JournalText.{journal_text}
+use Rattle.hp_model.specs.Summary.{summary}
+use Rattle.hp_play.specs.declared.error.ScriptKind.TheVariants.{NotBuilt}
+use Rattle.hp_play.specs.Refusals.{refusal_line}
+use Rattle.hp_play.specs.Form.{Lines, IsScript, head_of}
+
+-- the one word of the command
+abbrev pub IsPlay : List (List ℕ) → Type 0
+IsPlay words = words ≡ codes "play" ∷ []
+
+abbrev pub usage_line : List ℕ
+usage_line = codes "usage: hp play|replay|states|report|gen|bench [--seed N] [--size N]" ++ 10 ∷ []
+
+-- the text of a journal, and then its summary
+abbrev pub output : Head → List Event → List ℕ
+output head events = journal_text head events ++ summary head events
+
+-- the script that the bytes are, and the journal whose text and summary are written
+pub record IsPlayed (hooks : ℕ) (script output_bytes : List ℕ) : Type 0 where
+  pub lines : Lines
+  pub of_form : IsScript hooks script lines
+  pub events : List Event
+  pub written : output_bytes ≡ output (head_of lines) events
+
+-- the bytes were read: all that there were, or one past the limit
+pub record WasRead (left now : Option (List ℕ)) (script : List ℕ) : Type 0 where
+  pub first : left ≡ prepend_known script now
+  pub whole : IsAtEnd now ⊎ (length script ≡ MAX_SCRIPT_BYTES + 1)
+
+-- the bytes that the source tells are no script of the form
+abbrev pub IsNoScript : (hooks : ℕ) (told : Option (List ℕ)) → Type 0
+IsNoScript hooks told = IfSome told (λ bytes. (l : Lines) → IsScript hooks bytes l → ⊥)
+
+-- The usage line answers any other words, and then nothing is read.
+pub record IsUsage (words : List (List ℕ)) (left now : Option (List ℕ)) (bytes : List ℕ) : Type 0 where
+  pub other_words : IsPlay words → ⊥
+  pub unread : now ≡ left
+  pub line : bytes ≡ usage_line
+
+-- A refusal answers input that isn't of the form.
+pub record IsRefusal (words : List (List ℕ)) (hooks : ℕ) (left now : Option (List ℕ)) (bytes : List ℕ) : Type 0 where
+  pub command : IsPlay words
+  pub script : List ℕ
+  pub read : WasRead left now script
+  pub no_form : IsNoScript hooks left
+  pub line : bytes ≡ refusal_line 0 NotBuilt
+
+-- The text and the summary of the script's journal answer a script.
+pub record IsDone (words : List (List ℕ)) (hooks : ℕ) (left now : Option (List ℕ)) (bytes : List ℕ) : Type 0 where
+  pub command : IsPlay words
+  pub script : List ℕ
+  pub read : WasRead left now script
+  pub played : IsPlayed hooks script bytes
+
+pub data Answer : Type 0 where
+  done : Answer
+  usage : Answer
+  refusal : Answer
+
+-- what is to be written, where no write fails
+abbrev pub IsAnswer : Answer → (words : List (List ℕ)) (hooks : ℕ) (left now : Option (List ℕ)) (bytes : List ℕ) → Type 0
+IsAnswer done words hooks left now bytes = IsDone words hooks left now bytes
+IsAnswer usage words hooks left now bytes = IsUsage words left now bytes
+IsAnswer refusal words hooks left now bytes = IsRefusal words hooks left now bytes
+
+-- the answer is what the sink took
+pub record Writes
+    (answer : Answer) (words : List (List ℕ)) (hooks : ℕ) (left now taken taken_now : Option (List ℕ)) : Type 0
+  where
+    pub bytes : List ℕ
+    pub is_answer : IsAnswer answer words hooks left now bytes
+    pub all : taken_now ≡ append_known taken bytes
+
+-- the first bytes of some answer are what the sink took, and not all of them
+pub record WritesPart (words : List (List ℕ)) (hooks : ℕ) (left now taken taken_now : Option (List ℕ)) : Type 0 where
+  pub answer : Answer
+  pub bytes : List ℕ
+  pub is_answer : IsAnswer answer words hooks left now bytes
+  pub count : ℕ
+  pub not_all : count < length bytes
+  pub part : taken_now ≡ append_known taken (take count bytes)

@@ -1,0 +1,30 @@
+//! What comes next.
+
+/// What comes next, and so whose turn it is.
+#[derive(Clone, Copy, Debug)]
+pub enum Due {
+    /// An operation may begin.
+    Operation,
+    /// The registration's entry on a processor.
+    Adding { state: u32, cpu: u32 },
+    /// The registration's end.
+    Added,
+    /// The walk that brings a processor up, or the end where it is up.
+    Walk { cpu: u32 },
+    /// The walk's entry at a state.
+    Crossing { cpu: u32, state: u32 },
+    /// The walk's end.
+    Crossed { cpu: u32 },
+    /// The end of the operation.
+    End,
+}
+
+impl Due {
+    /// The processor whose own seat makes the next event, if one does.
+    pub fn cpu(&self) -> Option<u32> {
+        match self {
+            Due::Adding { cpu, .. } | Due::Crossing { cpu, .. } => Some(*cpu),
+            _ => None,
+        }
+    }
+}

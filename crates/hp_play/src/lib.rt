@@ -1,0 +1,23 @@
+//! `hp_main`: a script in, its journal and summary out.
+//!
+//! The one command is `play`: it reads a script, plays it on a machine of its own, and writes the
+//! journal of the run and its summary. What a script is, `specs/Form.antt` says on its bytes; what
+//! is answered and written, `specs/Main.antt`.
+#![tactic(auto)]
+
+mod command;
+mod due;
+mod error;
+mod limits;
+mod machine;
+mod reader;
+mod record;
+mod run;
+mod script;
+#[cfg(test)]
+mod tests_reader;
+mod top;
+mod words;
+
+pub use error::{ParseError, ScriptKind, refusal_line};
+pub use top::{NO_MEMORY, hp_main};

@@ -1,0 +1,12 @@
+//! The limits of the form of script that is played; those of a script as such are `hp_states`'s.
+
+/// The highest processor that an operation may name.
+pub const MAX_NAMED_CPU: u32 = 4095;
+/// The most operations of the one actor.
+pub const MAX_PLAYED: u32 = 256;
+/// The lowest state at which a setup may be played.
+pub const MIN_SETUP: u32 = 103;
+/// The highest state at which a setup may be played.
+pub const MAX_SETUP: u32 = 198;
+/// The most digits of a number that is read: with so many it fits a `u32`.
+pub const MAX_DIGITS: u32 = 9;

@@ -1,0 +1,52 @@
+//! The run of a script.
+
+ghost use Rattle.std.specs.Prelude.{◌≡◌, ℕ, ◌+◌, ◌*◌, ◌<◌, ◌≤◌, IfOk, All, length, count_by, vec_len, is_some, true, if◌then◌else◌};
+ghost use Rattle.hp_play.specs.Machine.{IsPlayableIn, is_setup};
+
+use crate::limits::MAX_PLAYED;
+use crate::machine::Machine;
+use crate::script::Script;
+use hp_event::{Journal, NoMemory, Op};
+use hp_hook::{Hook, Rack};
+use hp_states::{MAX_CPUS, ONLINE};
+use std::alloc::Global;
+
+/// The hook of an operation: a setup takes the rack's last.
+fn hook_for<H: Hook>(op: &Op, rack: &mut Rack<H>) -> Option<H>
+    requires { is_setup op.now ≡ true → 0 < length rack.old.hooks.items }
+    ensures setup { is_some result ≡ is_setup op.now }
+    ensures rest { length rack.new.hooks.items + (if is_setup op.now then 1 else 0) ≡ length rack.old.hooks.items }
+{
+    match op {
+        Op::Setup { .. } => rack.hooks.pop(),
+        _ => None,
+    }
+}
+
+/// Plays a script on a machine of its own, by rounds, and answers the journal.
+///
+/// Each setup takes a hook from the rack. Behind the hooks that were left the rack then has those that came back, and
+/// last those of the registered states, in rising state. Where memory is wanting, some hooks of the rack are lost.
+pub fn play<H: Hook>(alloc: Global, script: Script, rack: &mut Rack<H>) -> Result<Journal, NoMemory>
+    requires cpus { script.head.possible ≤ MAX_CPUS }
+    requires ops { vec_len script.ops ≤ MAX_PLAYED }
+    requires playable { All (IsPlayableIn (length script.head.subs)) script.ops.items }
+    requires hooks { count_by is_setup script.ops.items ≤ length rack.old.hooks.items }
+    ensures head { IfOk result (λ journal. journal.head ≡ script.head) }
+{
+    let Script { head, ops } = script;
+    let mut machine = Machine::new(alloc, head)?;
+    let mut spent = Vec::new(alloc);
+    machine.admit_all()?;
+    for op in ops.as_slice() {
+        let mut hook = hook_for(op, rack);
+        machine.operate(*op, &mut hook)?;
+        if let Some(hook) = hook {
+            spent.push(hook)?;
+        }
+    }
+    for hook in spent {
+        rack.hooks.push(hook)?;
+    }
+    machine.retire(rack)
+}

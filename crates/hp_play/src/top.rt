@@ -1,0 +1,188 @@
+//! The top call.
+
+ghost use Rattle.std.specs.Prelude.{◌≡◌, ℕ, ◌+◌, ◌<◌, ◌≤◌, List, length, take, map, string_bytes, IfOk, IfErr, OnOk, OnErr, MatchResult, ◌⊎◌};
+ghost use Rattle.std.specs.Io.KnownBytes.{append_known};
+ghost use Rattle.hp_play.specs.Main.{IsPlay, IsPlayed, WasRead, Writes, WritesPart, Answer, output};
+ghost use Rattle.hp_play.specs.Stops.{Stops, Refuses};
+
+use crate::command::is_play;
+use crate::error::{ParseError, refusal_line};
+use crate::limits::MAX_PLAYED;
+use crate::reader::parse;
+use crate::run::play;
+use hp_event::{Journal, NoMemory};
+use hp_hook::{Hook, Rack};
+use hp_io::{Failed, ReadError, Sink, Source, read_up_to, write_all};
+use hp_states::MAX_SCRIPT_BYTES;
+use std::alloc::Global;
+
+/// Why nothing is written but perhaps a line.
+#[derive(Drop)]
+enum Stop {
+    /// The script is refused, with this line.
+    Refused(Vec<u8>),
+    /// A read failed.
+    ReadFault,
+    /// Memory was wanting.
+    NoMemory,
+}
+
+impl From<NoMemory> for Stop {
+    ghost use Rattle.hp_play.specs.declared.top.Stop.TheVariants.{NoMemory};
+
+    ghost from_gives = { λ _ e. e ≡ NoMemory };
+
+    fn from(_: NoMemory) -> Stop {
+        Stop::NoMemory
+    }
+}
+
+const USAGE: &[u8] = b"usage: hp play|replay|states|report|gen|bench [--seed N] [--size N]\n";
+
+const DONE: u8 = 0;
+
+const BAD_WORDS: u8 = 1;
+
+const BAD_SCRIPT: u8 = 2;
+
+const READ_FAULT: u8 = 3;
+
+const WRITE_FAULT: u8 = 4;
+
+/// The status of want of memory.
+pub const NO_MEMORY: u8 = 5;
+
+/// The text of a journal, and then its summary.
+fn text_of(alloc: Global, journal: &Journal) -> Result<Vec<u8>, NoMemory>
+    ensures { IfOk result (λ text. text.items ≡ output journal.now.head journal.now.events) }
+{
+    let mut text = hp_print::journal_text(alloc, journal)?;
+    let summary = hp_print::summary(alloc, journal)?;
+    text.extend_from_slice(&summary)?;
+    Ok(text)
+}
+
+/// Writes bytes, and answers a status, or that a write failed.
+fn write<K: Sink>(sink: &mut K, bytes: &[u8], status: u8) -> u8
+    requires { K.faults sink.old < u64.MAX }
+    ensures written { result ≡ status → status < WRITE_FAULT →
+        (K.taken sink.new ≡ append_known (K.taken sink.old) bytes.now) × (K.faults sink.new ≡ K.faults sink.old) }
+    ensures fault { result ≡ WRITE_FAULT → status < WRITE_FAULT →
+        (n : ℕ) × (n < length bytes.now) × (K.taken sink.new ≡ append_known (K.taken sink.old) (take n bytes.now))
+        × (K.faults sink.new ≡ K.faults sink.old + 1) }
+    ensures either { status < WRITE_FAULT → (result ≡ status) ⊎ (result ≡ WRITE_FAULT) }
+{
+    match write_all(sink, bytes) {
+        Ok(()) => status,
+        Err(Failed) => WRITE_FAULT,
+    }
+}
+
+/// Reads a source's script, to its end or to one byte past the limit.
+fn read<S: Source>(alloc: Global, source: &mut S) -> Result<Vec<u8>, Stop>
+    requires { S.faults source.old < u64.MAX }
+    ensures read { IfOk result (λ script. WasRead (S.left source.old) (S.left source.new) script.items) }
+    ensures faults { OnOk result (S.faults source.new ≡ S.faults source.old) }
+    ensures stop { (hooks : ℕ) → IfErr result
+        (Stops hooks (S.left source.old) (S.left source.new) (S.faults source.old) (S.faults source.new)) }
+{
+    match read_up_to(alloc, source, MAX_SCRIPT_BYTES as usize) {
+        Ok(script) => Ok(script),
+        Err(ReadError::Failed) => Err(Stop::ReadFault),
+        Err(ReadError::NoMemory) => Err(Stop::NoMemory),
+    }
+}
+
+/// The text and the summary of the journal of the script that these bytes are.
+fn text_of_script<H: Hook>(alloc: Global, bytes: &[u8], rack: &mut Rack<H>) -> Result<Vec<u8>, Stop>
+    ensures played { IfOk result (λ text. IsPlayed (length rack.old.hooks.items) bytes.now text.items) }
+    ensures stop { IfErr result (Refuses (length rack.old.hooks.items) bytes.now) }
+{
+    let hooks = rack.hooks.len().min(MAX_PLAYED as usize) as u32;
+    match parse(alloc, bytes, hooks) {
+        Ok(script) => {
+            let journal = play(alloc, script, rack)?;
+            Ok(text_of(alloc, &journal)?)
+        }
+        Err(ParseError::Bad { line, kind }) => Err(Stop::Refused(refusal_line(alloc, line, kind)?)),
+        Err(ParseError::NoMemory) => Err(Stop::NoMemory),
+    }
+}
+
+/// What `play` writes: the text and the summary of the journal of the script that the source holds.
+fn played<S: Source, H: Hook>(
+    alloc: Global,
+    source: &mut S,
+    rack: &mut Rack<H>,
+) -> Result<Vec<u8>, Stop>
+    requires { S.faults source.old < u64.MAX }
+    ensures played { IfOk result (λ text. (script : List ℕ) × WasRead (S.left source.old) (S.left source.new) script
+        × IsPlayed (length rack.old.hooks.items) script text.items) }
+    ensures faults { OnOk result (S.faults source.new ≡ S.faults source.old) }
+    ensures stop { IfErr result (Stops (length rack.old.hooks.items)
+        (S.left source.old) (S.left source.new) (S.faults source.old) (S.faults source.new)) }
+{
+    match read(alloc, source) {
+        Ok(script) => text_of_script(alloc, script.as_slice(), rack),
+        Err(stop) => Err(stop),
+    }
+}
+
+/// The program `hp`: does what the words say, and answers the exit status. It always returns.
+///
+/// The one command is the word `play`. It reads a script from the source, plays it with the hooks
+/// of the rack, and writes the text of its journal and the summary to the sink.
+///
+/// | Status | comes | written |
+/// |---|---|---|
+/// | 0 | done | the journal's text and its summary |
+/// | 1 | exactly where the words are another line than `play`; nothing is read | the usage line |
+/// | 2 | exactly where what was read is no script of the form | the line `error: line 0: not built` |
+/// | 3 | only where a read failed | nothing |
+/// | 4 | only where a write failed | the first bytes of what was to be written |
+/// | 5 | memory was wanting | nothing |
+///
+/// For the statuses 0 and 2 the source was read to its end, or to one byte past the most bytes that
+/// a script has. The statuses are this project's own.
+pub fn hp_main<S: Source, K: Sink, H: Hook>(
+    alloc: Global,
+    words: &Vec<String>,
+    source: &mut S,
+    sink: &mut K,
+    rack: &mut Rack<H>,
+) -> u8
+    requires source { S.faults source.old < u64.MAX }
+    requires sink { K.faults sink.old < u64.MAX }
+
+    // Which statuses there are.
+    ensures statuses { result ≤ NO_MEMORY }
+
+    // What is written under 0, 1 and 2.
+    ensures done { result ≡ DONE → Writes Answer.done (map string_bytes words.now.items) (length rack.old.hooks.items)
+        (S.left source.old) (S.left source.new) (K.taken sink.old) (K.taken sink.new) }
+    ensures bad_words { result ≡ BAD_WORDS → Writes Answer.usage (map string_bytes words.now.items)
+        (length rack.old.hooks.items) (S.left source.old) (S.left source.new) (K.taken sink.old) (K.taken sink.new) }
+    ensures bad_script { result ≡ BAD_SCRIPT → Writes Answer.refusal (map string_bytes words.now.items)
+        (length rack.old.hooks.items) (S.left source.old) (S.left source.new) (K.taken sink.old) (K.taken sink.new) }
+
+    // A fault has its cause in the object that failed.
+    ensures read_fault { result ≡ READ_FAULT → IsPlay (map string_bytes words.now.items)
+        × (S.faults source.new ≡ S.faults source.old + 1) × (K.taken sink.new ≡ K.taken sink.old) }
+    ensures write_fault { result ≡ WRITE_FAULT → (K.faults sink.new ≡ K.faults sink.old + 1)
+        × WritesPart (map string_bytes words.now.items) (length rack.old.hooks.items)
+        (S.left source.old) (S.left source.new) (K.taken sink.old) (K.taken sink.new) }
+    ensures no_memory { result ≡ NO_MEMORY → IsPlay (map string_bytes words.now.items)
+        × (K.taken sink.new ≡ K.taken sink.old) }
+    ensures source_faults { (result ≡ READ_FAULT → ⊥) → S.faults source.new ≡ S.faults source.old }
+    ensures sink_faults { (result ≡ WRITE_FAULT → ⊥) → K.faults sink.new ≡ K.faults sink.old }
+{
+    if !is_play(words) {
+        return write(sink, USAGE, BAD_WORDS);
+    }
+    match played(alloc, source, rack) {
+        Ok(text) => write(sink, &text, DONE),
+        Err(Stop::Refused(line)) => write(sink, &line, BAD_SCRIPT),
+        Err(Stop::ReadFault) => READ_FAULT,
+        Err(Stop::NoMemory) => NO_MEMORY,
+    }
+}

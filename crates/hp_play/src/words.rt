@@ -1,0 +1,108 @@
+//! The words of a line, as slices of the bytes: a reader answers a value and the bytes behind it.
+//!
+//! No reader takes memory, and each looks at a byte no more than twice.
+
+ghost use Rattle.std.specs.Prelude.{◌≡◌, ◌≤◌, length};
+ghost use Rattle.std.specs.List.{list_all};
+ghost use Rattle.std.specs.Option.{option_map};
+ghost use Rattle.hp_play.specs.Form.{is_name_byte};
+ghost use Rattle.hp_play.specs.Reading.{behind, word_to, read_on, number_of, is_dash, is_name, number_to, name_to};
+ghost use Rattle.hp_play.specs.declared.limits.TheConstants.{MAX_DIGITS};
+
+use crate::limits::MAX_DIGITS;
+use hp_states::MAX_NAME_LEN;
+
+/// The bytes behind this front, where they begin so.
+pub fn behind<'a>(front: &[u8], bytes: &'a [u8]) -> Option<&'a [u8]>
+    ensures { option_map (λ rest. rest.now) result ≡ behind front.now bytes.now }
+{
+    bytes.strip_prefix(front)
+}
+
+/// The word before the first byte `end`, and the bytes behind that byte, where there is one.
+fn word_to(end: u8, bytes: &[u8]) -> Option<(&[u8], &[u8])>
+    ensures { option_map (λ x. (x.0.now, x.1.now)) result ≡ word_to end bytes.now }
+{
+    for (i, byte) in bytes.iter().enumerate() {
+        if *byte == end {
+            return Some((&bytes[..i], &bytes[i + 1..]));
+        }
+    }
+    None
+}
+
+/// The number that digits say, of which there are few enough.
+fn value_of(digits: &[u8]) -> Option<u32>
+    requires { length digits.now ≤ MAX_DIGITS }
+    ensures { result ≡ read_on 0 digits.now }
+{
+    let mut value = 0;
+    for byte in digits {
+        if !byte.is_ascii_digit() {
+            return None;
+        }
+        value = value * 10 + (*byte - b'0') as u32;
+    }
+    Some(value)
+}
+
+/// The number that a word says: digits, at most 9, and no 0 before others.
+fn number_of(word: &[u8]) -> Option<u32>
+    ensures { result ≡ number_of word.now }
+{
+    if word.is_empty() || word.len() > MAX_DIGITS as usize || (word[0] == b'0' && word.len() > 1) {
+        return None;
+    }
+    value_of(word)
+}
+
+fn is_dash(word: &[u8]) -> bool
+    ensures { result ≡ is_dash word.now }
+{
+    matches!(word, [b'-'])
+}
+
+fn is_name_byte(byte: u8) -> bool
+    ensures { result ≡ is_name_byte byte }
+{
+    matches!(byte, b'a'..=b'z' | b'A'..=b'Z' | b'-'..=b':' | b'_')
+}
+
+fn are_name_bytes(word: &[u8]) -> bool
+    ensures { result ≡ list_all is_name_byte word.now }
+{
+    word.iter().all(|byte| is_name_byte(*byte))
+}
+
+/// Whether a word is a name: 1 to 32 letters, digits and `:` `_` `/` `.` `-`, and not `-` alone.
+fn is_name(word: &[u8]) -> bool
+    ensures { result ≡ is_name word.now }
+{
+    if word.is_empty() || word.len() > MAX_NAME_LEN as usize || is_dash(word) {
+        return false;
+    }
+    are_name_bytes(word)
+}
+
+/// The number before the first byte `end`, and the bytes behind that byte.
+#[tactic(auto, unfolding(crate::specs::Reading::number_to))]
+pub fn number_to(end: u8, bytes: &[u8]) -> Option<(u32, &[u8])>
+    ensures { option_map (λ x. (x.0, x.1.now)) result ≡ number_to end bytes.now }
+{
+    let (word, rest) = word_to(end, bytes)?;
+    let number = number_of(word)?;
+    Some((number, rest))
+}
+
+/// The name before the first byte `end`, and the bytes behind that byte.
+#[tactic(auto, unfolding(crate::specs::Reading::name_to))]
+pub fn name_to(end: u8, bytes: &[u8]) -> Option<(&[u8], &[u8])>
+    ensures { option_map (λ x. (x.0.now, x.1.now)) result ≡ name_to end bytes.now }
+{
+    let (word, rest) = word_to(end, bytes)?;
+    if is_name(word) {
+        Some((word, rest))
+    } else {
+        None
+    }
+}
