@@ -32,3 +32,4 @@ pub mod OneRegistration
 pub mod Stages
 pub mod OneNext
 pub mod Slow
+pub mod RunLemmas

@@ -10,7 +10,11 @@
 //! `net_of` and its kin compute a notion from the events alone, slowly, for tests.
 #![tactic(auto)]
 
-ghost use Rattle.std.specs.Prelude.{◌≡◌, [], ◌∷◌, ◌++◌};
+ghost use Rattle.std.specs.Prelude.{◌≡◌, ◌+◌, ◌≤◌, List, [], ◌∷◌, ◌++◌, length};
+ghost use Rattle.hp_event.specs.declared.event.Op.{Op as AnOp};
+ghost use Rattle.hp_model.specs.Processors.{present};
+ghost use Rattle.hp_model.specs.Heads.{IsHead};
+ghost use Rattle.hp_model.specs.Run.{IsRun};
 ghost use Rattle.hp_model.specs.Lawful.{Stands, IsLawful};
 ghost use Rattle.hp_model.specs.Headline.{Headline};
 ghost use Rattle.hp_model.specs.Events.{seat_of, BelongsTo};
@@ -22,6 +26,7 @@ mod settled;
 mod tests;
 
 use hp_event::{Event, Head, Op};
+use hp_states::MAX_SEATS;
 pub use net::net_of;
 pub use registered::registered_of;
 pub use settled::settled_of;
@@ -59,4 +64,12 @@ pub fn one_next(head: &Head, before: &[Event], op: &Op, one: &Event, other: &Eve
         seat_of one.now ≡ seat_of other.now →
         BelongsTo op.now one.now → BelongsTo op.now other.now →
         one.now ≡ other.now }
+{}
+
+/// The run of a script's actors is a lawful journal, where its head is one that a machine can be
+/// started with and there are seats for all.
+pub fn run_lawful(head: &Head, events: &[Event])
+    ensures { (actors : List (List AnOp)) → IsHead head.now →
+        length (present head.now) + length actors ≤ MAX_SEATS →
+        IsRun head.now actors events.now → IsLawful head.now events.now }
 {}

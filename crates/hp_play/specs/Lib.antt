@@ -4,5 +4,6 @@ pub mod Reading
 pub mod Parsed
 pub mod Kept
 pub mod Machine
+pub mod Tied
 pub mod Main
 pub mod Stops

@@ -49,7 +49,7 @@ IsCounted events (Some kept) = kept.made ≤ events
 abbrev pub events_left : Due → (cpus : ℕ) → ℕ
 events_left Operation cpus = 0
 events_left (Adding state cpu) cpus = (cpus - cpu) + 1
-events_left Added cpus = 1
+events_left (Added state) cpus = 1
 events_left (Walk cpu) cpus = ONLINE + 3
 events_left (Crossing cpu state) cpus = (ONLINE - state) + 3
 events_left (Crossed cpu) cpus = 2
@@ -59,7 +59,7 @@ events_left End cpus = 1
 abbrev pub work : Due → (cpus : ℕ) → ℕ
 work Operation cpus = ONLINE + 4
 work (Adding state cpu) cpus = events_left (Adding state cpu) cpus
-work Added cpus = events_left Added cpus
+work (Added state) cpus = events_left (Added state) cpus
 work (Walk cpu) cpus = events_left (Walk cpu) cpus
 work (Crossing cpu state) cpus = events_left (Crossing cpu state) cpus
 work (Crossed cpu) cpus = events_left (Crossed cpu) cpus
@@ -69,7 +69,7 @@ work End cpus = events_left End cpus
 abbrev pub is_entry : Due → Bool
 is_entry Operation = false
 is_entry (Adding state cpu) = true
-is_entry Added = false
+is_entry (Added state) = false
 is_entry (Walk cpu) = false
 is_entry (Crossing cpu state) = true
 is_entry (Crossed cpu) = false
@@ -98,7 +98,7 @@ IsPlayableIn subs op = IsPlayable op subs true
 abbrev pub IsInRange : Due → (cpus : ℕ) → List (Option Kept) → Type 0
 IsInRange Operation cpus places = Unit {0}
 IsInRange (Adding state cpu) cpus places = (cpu < cpus) × (state ≤ ONLINE) × IsSome (place_at places state)
-IsInRange Added cpus places = Unit {0}
+IsInRange (Added state) cpus places = (state ≤ ONLINE) × IsSome (place_at places state)
 IsInRange (Walk cpu) cpus places = cpu < cpus
 IsInRange (Crossing cpu state) cpus places = (cpu < cpus) × (state ≤ ONLINE) × IsSome (place_at places state)
 IsInRange (Crossed cpu) cpus places = cpu < cpus

@@ -8,7 +8,7 @@ pub enum Due {
     /// The registration's entry on a processor.
     Adding { state: u32, cpu: u32 },
     /// The registration's end.
-    Added,
+    Added { state: u32 },
     /// The walk that brings a processor up, or the end where it is up.
     Walk { cpu: u32 },
     /// The walk's entry at a state.
@@ -17,14 +17,4 @@ pub enum Due {
     Crossed { cpu: u32 },
     /// The end of the operation.
     End,
-}
-
-impl Due {
-    /// The processor whose own seat makes the next event, if one does.
-    pub fn cpu(&self) -> Option<u32> {
-        match self {
-            Due::Adding { cpu, .. } | Due::Crossing { cpu, .. } => Some(*cpu),
-            _ => None,
-        }
-    }
 }

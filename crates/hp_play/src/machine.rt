@@ -165,7 +165,7 @@ impl<H: Hook> Machine<H> {
                 self.call(cpu, state);
                 self.due = match self.next_cpu(state, cpu + 1) {
                     Some(next) => Due::Adding { state, cpu: next },
-                    None => Due::Added,
+                    None => Due::Added { state },
                 };
             }
             Due::Crossing { cpu, state } => {
@@ -255,7 +255,7 @@ impl<H: Hook> Machine<H> {
         self.journal.push(Event::RegBegin { seat, state, op });
         self.due = match self.next_cpu(state, 0) {
             Some(cpu) => Due::Adding { state, cpu },
-            None => Due::Added,
+            None => Due::Added { state },
         };
         false
     }
@@ -358,9 +358,9 @@ impl<H: Hook> Machine<H> {
     }
 
     /// Ends the registration: the operation is answered.
-    fn end_registration(&mut self) -> bool
+    fn end_registration(&mut self, state: u32) -> bool
         requires ready { IsReady self.old.journal self.old.settled.items self.old.places.items self.old.due }
-        requires due { self.old.due ≡ Due.Added }
+        requires due { self.old.due ≡ Due.Added state }
         ensures ready { IsReady self.new.journal self.new.settled.items self.new.places.items self.new.due }
         ensures head { self.new.journal.head ≡ self.old.journal.head }
         ensures total { length self.new.journal.events + self.new.journal.promised
@@ -400,7 +400,7 @@ impl<H: Hook> Machine<H> {
                 _ => unreachable!(),
             },
             Due::Adding { .. } | Due::Crossing { .. } => false,
-            Due::Added => self.end_registration(),
+            Due::Added { state } => self.end_registration(state),
             Due::Walk { cpu } => self.begin_walk(cpu),
             Due::Crossed { cpu } => {
                 self.end_walk(cpu);

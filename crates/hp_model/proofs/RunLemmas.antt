@@ -1,0 +1,133 @@
+-- A run is a lawful journal, where its head is one that a machine can be started with and its seats aren't too many.
+use Rattle.std.proofs.Common.{◌≡◌, ℕ, zero, suc, ◌+◌, ◌<◌, ◌≤◌, Bool, true, false, cond, eqb, ltb, Some, None, List, [], ◌∷◌, ◌++◌, length, refl, sym, ◌∙◌, append_assoc, inl, inr, arith}
+use Rattle.std.proofs.lemmas.List.{append-nil}
+use Rattle.std.proofs.lemmas.Bool.{eq-eqb}
+use Rattle.hp_states.specs.declared.limits.TheConstants.{MAX_SEATS}
+use Rattle.hp_event.specs.declared.event.Op.{Op}
+use Rattle.hp_event.specs.declared.event.Role.TheVariants.{Client, Ap}
+use Rattle.hp_event.specs.declared.head.Head.{Head}
+use Rattle.hp_event.specs.declared.event.Event.{Event}
+use Rattle.hp_event.specs.declared.event.Event.TheVariants.{Admit}
+use Rattle.hp_model.specs.Journal.{EachAfter}
+use Rattle.hp_model.specs.Lists.{occurs, numbers}
+use Rattle.hp_model.specs.Processors.{is_present, present}
+use Rattle.hp_model.specs.Seats.{admits, ap_seat}
+use Rattle.hp_model.specs.Heads.{IsHead}
+use Rattle.hp_model.specs.Lawful.{Stands, IsLawful}
+use Rattle.hp_model.specs.Run.{ap_admits, client_admits, admissions, Turn, Turns, Rounds, IsRun}
+use Rattle.hp_model.proofs.Laws.{admits_push, ap_push}
+use Rattle.hp_model.proofs.ListLemmas.{occurs-filter, occurs-numbers}
+use Rattle.hp_model.proofs.HeadlineProof.{lawful_more}
+
+EachAfter-append : (Rule : List Event → Event → Type 0) (before xs ys : List Event) → EachAfter Rule before xs →
+    EachAfter Rule (before ++ xs) ys → EachAfter Rule before (xs ++ ys)
+EachAfter-append Rule before [] ys h k = rw append-nil at k
+EachAfter-append Rule before (x ∷ xs) ys h k =
+    (h.0, EachAfter-append Rule (before ++ x ∷ []) xs ys h.1 (rw (append_assoc before (x ∷ []) xs) k))
+
+-- present processors, each once, without a seat
+record CanBeAdmitted (head : Head) (before : List Event) (cpus : List ℕ) : Type 0 where
+  there : (c : ℕ) → 0 < occurs c cpus → is_present head c ≡ true
+  free : (c : ℕ) → 0 < occurs c cpus → ap_seat c before ≡ None
+  once : (c : ℕ) → occurs c cpus ≤ 1
+
+first_in : (c : ℕ) (cs : List ℕ) → 0 < occurs c (c ∷ cs)
+first_in c cs = let e : eqb c c ≡ true = eq-eqb c c refl in rw e (omega arith)
+
+admitted_one : (head : Head) (before : List Event) (k c : ℕ) (cs : List ℕ) → CanBeAdmitted head before (c ∷ cs) →
+    CanBeAdmitted head (before ++ Admit k (Ap c) ∷ []) cs
+admitted_one head before k c cs h = record {
+  there = λ d i. h.there d (omega (arith, i));
+  free = λ d i. rw (ap_push d before (Admit k (Ap c))) (go d i (eqb c d) refl);
+  once = λ d. let o = h.once d in omega arith;
+}
+  where
+    go : (d : ℕ) → 0 < occurs d cs → (b : Bool) → eqb c d ≡ b → cond b (Some k) (ap_seat d before) ≡ None
+    go d i true e = let o = rw e at (h.once d) in absurd (omega arith)
+    go d i false e = h.free d (omega (arith, i))
+
+aps_stand : (head : Head) (before : List Event) (k : ℕ) (cs : List ℕ) → admits before ≡ k → k + length cs ≤ MAX_SEATS →
+    CanBeAdmitted head before cs →
+    EachAfter (Stands head) before (ap_admits k cs) × (admits (before ++ ap_admits k cs) ≡ k + length cs)
+aps_stand head before k [] e few h = (tt, rw append-nil (omega (arith, e)))
+aps_stand head before k (c ∷ cs) e few h =
+    let next : admits (before ++ Admit k (Ap c) ∷ []) ≡ k + 1 = admits_push before (Admit k (Ap c)) ∙ omega (arith, e) in
+    let r = aps_stand head (before ++ Admit k (Ap c) ∷ []) (k + 1) cs next (omega arith) (admitted_one head before k c cs h) in
+    let n = rw (append_assoc before (Admit k (Ap c) ∷ []) (ap_admits (k + 1) cs)) at r.1 in (
+      (
+        record {
+          seat_is = sym e;
+          below = omega arith;
+          can_sit = (h.there c (first_in c cs), h.free c (first_in c cs));
+        },
+        r.0,
+      ),
+      n ∙ omega arith,
+    )
+
+clients_stand : (head : Head) (before : List Event) (k : ℕ) (actors : List (List Op)) → admits before ≡ k →
+    k + length actors ≤ MAX_SEATS → EachAfter (Stands head) before (client_admits k actors)
+clients_stand head before k [] e few = tt
+clients_stand head before k (ops ∷ more) e few =
+    let next : admits (before ++ Admit k Client ∷ []) ≡ k + 1 = admits_push before (Admit k Client) ∙ omega (arith, e) in (
+      record { seat_is = sym e; below = omega arith; can_sit = tt },
+      clients_stand head (before ++ Admit k Client ∷ []) (k + 1) more next (omega arith),
+    )
+
+none_admitted : admits [] ≡ 0
+unfolding admits
+none_admitted = refl
+
+no_seat : (c : ℕ) → ap_seat c [] ≡ None
+unfolding ap_seat
+no_seat c = refl
+
+present_once : (head : Head) → CanBeAdmitted head [] (present head)
+present_once head = record {
+  there = λ c i. there c (is_present head c) (rw (occurs-filter (λ c. is_present head c) c (numbers head.possible)) at i);
+  free = λ c i. no_seat c;
+  once = λ c.
+      rw (occurs-filter (λ c. is_present head c) c (numbers head.possible), occurs-numbers c head.possible)
+      (at_most (is_present head c) (ltb c head.possible));
+}
+  where
+    there : (c : ℕ) (b : Bool) → 0 < cond b (occurs c (numbers head.possible)) 0 → b ≡ true
+    there c true h = refl
+    there c false h = absurd (omega arith)
+
+    at_most : (b d : Bool) → cond b (cond d 1 0) 0 ≤ 1
+    at_most true true = omega arith
+    at_most true false = omega arith
+    at_most false d = omega arith
+
+pub admissions_lawful : (head : Head) (actors : List (List Op)) → IsHead head →
+    length (present head) + length actors ≤ MAX_SEATS → IsLawful head (admissions head actors)
+admissions_lawful head actors h few =
+    let a = aps_stand head [] 0 (present head) none_admitted (omega (arith, few)) (present_once head) in
+    let n : admits (ap_admits 0 (present head)) ≡ length (present head) = a.1 ∙ omega arith in (
+      h,
+      EachAfter-append (Stands head) [] (ap_admits 0 (present head)) (client_admits (length (present head)) actors) a.0
+          (clients_stand head (ap_admits 0 (present head)) (length (present head)) actors n few),
+    )
+
+turn_lawful : (head : Head) (actors : List (List Op)) (k : ℕ) (before after : List Event) → IsLawful head before →
+    Turn head actors k before after → IsLawful head after
+turn_lawful head actors k before after h (inl t) = rw t.2 (lawful_more head before t.0 h t.1.stands)
+turn_lawful head actors k before after h (inr t) = rw t.1 h
+
+turns_lawful : (head : Head) (actors : List (List Op)) (ks : List ℕ) (before after : List Event) → IsLawful head before →
+    Turns head actors ks before after → IsLawful head after
+turns_lawful head actors [] before after h t = rw t h
+turns_lawful head actors (k ∷ ks) before after h t =
+    turns_lawful head actors ks t.0 after (turn_lawful head actors k before t.0 h t.1) t.2
+
+rounds_lawful : (head : Head) (actors : List (List Op)) (n : ℕ) (before after : List Event) → IsLawful head before →
+    Rounds head actors n before after → IsLawful head after
+rounds_lawful head actors zero before after h r = rw r h
+rounds_lawful head actors (suc n) before after h r =
+    rounds_lawful head actors n r.0 after (turns_lawful head actors _ before r.0 h r.2) r.3
+
+pub run_lawful : (head : Head) (actors : List (List Op)) (events : List Event) → IsHead head →
+    length (present head) + length actors ≤ MAX_SEATS → IsRun head actors events → IsLawful head events
+run_lawful head actors events h few r =
+    rounds_lawful head actors r.rounds (admissions head actors) events (admissions_lawful head actors h few) r.played

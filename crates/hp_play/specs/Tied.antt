@@ -1,0 +1,178 @@
+-- What the parts of the machine say of the events of its journal: where processors stand, what is registered, who
+-- sits, and what is in flight. This project's own.
+use Rattle.std.specs.Prelude.{◌≡◌, ℕ, ◌+◌, ◌-◌, ◌<◌, ◌≤◌, pos, Bool, true, false, ◌&&◌, ◌==◌, nat_le, Option, Some, None, IfSome, List, [], ◌∷◌, ◌++◌, filter, length, slice_index, All}
+use Rattle.hp_states.specs.declared.limits.TheConstants.{ONLINE}
+use Rattle.hp_states.specs.declared.section.Dir.TheVariants.{Up}
+use Rattle.hp_states.specs.declared.section.Place.TheVariants as placed
+use Rattle.hp_event.specs.declared.event.Op.{Op}
+use Rattle.hp_event.specs.declared.event.Op.TheVariants as op
+use Rattle.hp_event.specs.declared.event.Role.TheVariants.{Client}
+use Rattle.hp_event.specs.declared.event.Answer.TheVariants.{Ok}
+use Rattle.hp_event.specs.declared.head.Sub.{Sub}
+use Rattle.hp_event.specs.declared.head.Head.{Head}
+use Rattle.hp_event.specs.declared.event.Event.{Event}
+use Rattle.hp_model.specs.Lists.{is_empty, numbers, rising}
+use Rattle.hp_model.specs.Lawful.{IsLawful}
+use Rattle.hp_model.specs.Seats.{role_of, ap_seat}
+use Rattle.hp_model.specs.Readers.{readers, reading_since}
+use Rattle.hp_model.specs.Suspend.{disabled}
+use Rattle.hp_model.specs.Armed.{armed}
+use Rattle.hp_model.specs.Walks.{Walk, walk, walking, walk_entries}
+use Rattle.hp_model.specs.Registrations.{Registration, registration, registration_entries}
+use Rattle.hp_model.specs.MapLock.{Operation, operation}
+use Rattle.hp_model.specs.Registered.{Registered, registered, keys}
+use Rattle.hp_model.specs.Settled.{settled}
+use Rattle.hp_model.specs.Calls.{sites}
+use Rattle.hp_model.specs.Sequence.{answers}
+use Rattle.hp_model.specs.Plan.{keyed}
+use Rattle.hp_model.specs.Crossing.{slots, Fill}
+use Rattle.hp_model.specs.WalkShape.{crossed}
+use Rattle.hp_model.specs.RegistrationShape.{each}
+use Rattle.hp_model.specs.Processors.{is_present, processors}
+use Rattle.hp_play.specs.declared.due.Due.{Due}
+use Rattle.hp_play.specs.declared.due.Due.TheVariants.{Operation as Idle, Adding, Added, Walk as Walking, Crossing, Crossed, End}
+use Rattle.hp_play.specs.Form.{plain}
+use Rattle.hp_play.specs.Kept.{Kept}
+use Rattle.hp_play.specs.Machine.{place_at}
+
+-- a subsystem of the form: a name, both callbacks, one instance, no rules
+pub record IsPlainSub (sub : Sub) : Type 0 where
+  pub named : is_empty sub.name ≡ false
+  pub has_startup : sub.up ≡ true
+  pub is_single : sub.multi ≡ false
+  pub no_rules : sub.plan ≡ []
+
+pub record IsPlainHead (head : Head) : Type 0 where
+  pub all_present : head.absent ≡ []
+  pub subs : All IsPlainSub head.subs
+
+-- the processors' seats are theirs, and the one seat after them is the client's
+pub record IsSeated (head : Head) (events : List Event) : Type 0 where
+  pub aps : (c : ℕ) → c < head.possible → ap_seat c events ≡ Some c
+  pub client : role_of head.possible events ≡ Some Client
+  pub one_client : (k : ℕ) → role_of k events ≡ Some Client → k ≡ head.possible
+
+-- nobody reads, hotplug is enabled, no processor is armed
+pub record IsQuiet (events : List Event) : Type 0 where
+  pub no_readers : readers events ≡ []
+  pub none_reads : (k : ℕ) → reading_since k events ≡ None
+  pub enabled : disabled events ≡ 0
+  pub disarmed : (c : ℕ) → armed c events ≡ None
+
+-- what a place says is registered, unless it is being registered
+abbrev pub registered_by : Option Kept → Option Registered
+registered_by None = None
+registered_by (Some kept) = Some (record { sub = kept.sub; multi = false; insts = [] })
+
+abbrev pub is_at : Due → (state : ℕ) → Bool
+is_at (Adding state cpu) s = state == s
+is_at (Added state) s = state == s
+is_at _ s = false
+
+abbrev pub registered_so : (in_flight : Bool) → Option Kept → Option Registered
+registered_so true place = None
+registered_so false place = registered_by place
+
+-- a place's hook was called as often as the journal says since it was set up, by no rules
+pub record IsKept (events : List Event) (state : ℕ) (kept : Kept) : Type 0 where
+  pub made : kept.made ≡ length (sites state events)
+  pub no_rules : kept.plan ≡ []
+
+-- the registration in flight: the client's setup of a plain subsystem
+pub record IsRegistering (head : Head) (events : List Event) (place : Option Kept) (state : ℕ) : Type 0 where
+  pub of : Registration
+  pub in_flight : registration events ≡ Some of
+  pub by_client : of.seat ≡ head.possible
+  pub at_state : of.state ≡ state
+  pub kept : Kept
+  pub place_is : place ≡ Some kept
+  pub setup : of.op ≡ op.Setup state kept.sub plain
+  pub no_operation : operation events ≡ None
+  pub no_walk : walking events ≡ []
+  pub still : (c : ℕ) → settled c of.before ≡ settled c events
+  pub vacant : registered head state of.before ≡ None
+
+-- whether a present processor stands at a state or above it
+abbrev pub is_reached : Head → (state : ℕ) → List Event → (cpu : ℕ) → Bool
+is_reached head s events c = is_present head c && nat_le s (settled c events)
+
+-- the entries so far are those of the processors below one, which is next
+pub record IsAdding (head : Head) (events : List Event) (place : Option Kept) (state cpu : ℕ) : Type 0 where
+  pub registering : IsRegistering head events place state
+  pub done :
+      Fill (each placed.Add Up state 0 (filter (is_reached head state registering.of.before) (numbers cpu)))
+      (registration_entries events)
+  pub reached : is_reached head state registering.of.before cpu ≡ true
+
+pub record IsAdded (head : Head) (events : List Event) (place : Option Kept) (state : ℕ) : Type 0 where
+  pub registering : IsRegistering head events place state
+  pub done :
+      Fill (each placed.Add Up state 0 (processors head state registering.of.before))
+      (registration_entries events)
+
+-- the client's operation on a processor holds the map lock
+pub record IsEntered (head : Head) (events : List Event) (cpu : ℕ) : Type 0 where
+  pub of : Operation
+  pub held : operation events ≡ Some of
+  pub by_client : of.seat ≡ head.possible
+  pub up : of.op ≡ op.Up cpu
+  pub no_registration : registration events ≡ None
+
+-- the walk of the operation: its entries so far are those of the states of its plan up to one
+pub record IsWalking (head : Head) (events : List Event) (cpu at : ℕ) : Type 0 where
+  pub entered : IsEntered head events cpu
+  pub flight : Walk
+  pub in_flight : walk cpu events ≡ Some flight
+  pub done :
+      Fill (slots cpu (keys head flight.before) (crossed placed.Forward Up
+      (keyed (keys head flight.before) (rising flight.from (at - flight.from))))) (walk_entries cpu events)
+  pub by_client : flight.seat ≡ head.possible
+  pub to_top : flight.to ≡ ONLINE
+  pub from_below : flight.from < ONLINE
+  pub from_at : flight.from ≤ at
+  pub alone : walking events ≡ cpu ∷ []
+  pub unanswered : answers events ≡ []
+  pub registered_same : (s : ℕ) → registered head s flight.before ≡ registered head s events
+
+pub record IsIdle (events : List Event) : Type 0 where
+  pub no_operation : operation events ≡ None
+  pub no_registration : registration events ≡ None
+  pub no_walk : walking events ≡ []
+
+-- an operation before its walk, and after it
+pub record IsBeforeWalk (head : Head) (events : List Event) (cpu : ℕ) : Type 0 where
+  pub entered : IsEntered head events cpu
+  pub no_walk : walking events ≡ []
+  pub unanswered : answers events ≡ []
+
+pub record IsAfterWalk (head : Head) (events : List Event) : Type 0 where
+  pub cpu : ℕ
+  pub entered : IsEntered head events cpu
+  pub no_walk : walking events ≡ []
+  pub answered : answers events ≡ Ok (pos 0) ∷ []
+
+pub record IsCrossing (head : Head) (events : List Event) (cpu state : ℕ) : Type 0 where
+  pub walking : IsWalking head events cpu (state - 1)
+  pub above : 0 < state
+
+-- what comes next is due by the events
+abbrev pub IsDue : Head → List Event → List (Option Kept) → Due → Type 0
+IsDue head events places Idle = IsIdle events
+IsDue head events places (Adding state cpu) = IsAdding head events (place_at places state) state cpu
+IsDue head events places (Added state) = IsAdded head events (place_at places state) state
+IsDue head events places (Walking cpu) = IsBeforeWalk head events cpu
+IsDue head events places (Crossing cpu state) = IsCrossing head events cpu state
+IsDue head events places (Crossed cpu) = IsWalking head events cpu ONLINE
+IsDue head events places End = IsAfterWalk head events
+
+pub record IsTied (head : Head) (events : List Event) (stands : List ℕ) (places : List (Option Kept)) (due : Due) : Type 0 where
+  pub lawful : IsLawful head events
+  pub plain : IsPlainHead head
+  pub seated : IsSeated head events
+  pub quiet : IsQuiet events
+  pub settled_is : (c : ℕ) → c < head.possible → settled c events ≡ slice_index stands c
+  pub highest : (c : ℕ) → slice_index stands c ≤ ONLINE
+  pub registered_is : (s : ℕ) → registered head s events ≡ registered_so (is_at due s) (place_at places s)
+  pub kept : (s : ℕ) → IfSome (place_at places s) (IsKept events s)
+  pub subs : (s : ℕ) → IfSome (place_at places s) (λ kept. (1 ≤ kept.sub) × (kept.sub ≤ length head.subs))
+  pub due_is : IsDue head events places due
