@@ -32,3 +32,6 @@ pub mod OneRegistration
 pub mod Stages
 pub mod OneNext
 pub mod Slow
+pub mod Rounds
+pub mod OneActor
+pub mod ClientKept
