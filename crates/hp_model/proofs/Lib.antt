@@ -33,3 +33,6 @@ pub mod Stages
 pub mod OneNext
 pub mod Slow
 pub mod RunLemmas
+pub mod Rounds
+pub mod OneActor
+pub mod ClientKept

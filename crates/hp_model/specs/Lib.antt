@@ -42,3 +42,5 @@ pub mod Words
 pub mod EventLine
 pub mod JournalText
 pub mod Summary
+pub mod Steps
+pub mod OneClient

@@ -10,14 +10,18 @@
 //! `net_of` and its kin compute a notion from the events alone, slowly, for tests.
 #![tactic(auto)]
 
-ghost use Rattle.std.specs.Prelude.{◌≡◌, ◌+◌, ◌≤◌, List, [], ◌∷◌, ◌++◌, length};
+ghost use Rattle.std.specs.Prelude.{◌≡◌, ℕ, ◌+◌, ◌≤◌, true, List, [], ◌∷◌, ◌++◌, length};
 ghost use Rattle.hp_event.specs.declared.event.Op.{Op as AnOp};
+ghost use Rattle.hp_event.specs.declared.event.Event.{Event as AnEvent};
+ghost use Rattle.hp_model.specs.Journal.{EachAfter};
 ghost use Rattle.hp_model.specs.Processors.{present};
 ghost use Rattle.hp_model.specs.Heads.{IsHead};
-ghost use Rattle.hp_model.specs.Run.{IsRun};
 ghost use Rattle.hp_model.specs.Lawful.{Stands, IsLawful};
 ghost use Rattle.hp_model.specs.Headline.{Headline};
 ghost use Rattle.hp_model.specs.Events.{seat_of, BelongsTo};
+ghost use Rattle.hp_model.specs.Run.{admissions, CanTake, all_answered, IsRun};
+ghost use Rattle.hp_model.specs.OneClient.{OneClient};
+ghost use Rattle.hp_model.specs.Steps.{IsStep};
 
 mod net;
 mod registered;
@@ -72,4 +76,26 @@ pub fn run_lawful(head: &Head, events: &[Event])
     ensures { (actors : List (List AnOp)) → IsHead head.now →
         length (present head.now) + length actors ≤ MAX_SEATS →
         IsRun head.now actors events.now → IsLawful head.now events.now }
+{}
+
+/// With one actor, after a lawful journal in which no seat but the actor's is in as a client, at
+/// most one event can be taken next, whatever seats' turns it is.
+pub fn one_actor_next(head: &Head, ops: &[Op], before: &[Event], one: &Event, other: &Event)
+    ensures { (seat another : ℕ) → IsLawful head.now before.now →
+        OneClient (length (present head.now)) before.now →
+        CanTake head.now (ops.now ∷ []) before.now seat one.now →
+        CanTake head.now (ops.now ∷ []) before.now another other.now →
+        one.now ≡ other.now }
+{}
+
+/// Steps make a run. Where each event after the admissions is the only one that any seat could take
+/// then, all operations are answered at the end and no earlier, and no seat can take an event
+/// after it, the journal is one that turns make by rounds.
+pub fn steps_make_run(head: &Head, rest: &[Event])
+    ensures { (actors : List (List AnOp)) →
+        EachAfter (IsStep head.now actors) (admissions head.now actors) rest.now →
+        all_answered head.now actors (admissions head.now actors ++ rest.now) ≡ true →
+        ((seat : ℕ) (event : AnEvent) →
+        CanTake head.now actors (admissions head.now actors ++ rest.now) seat event → ⊥) →
+        IsRun head.now actors (admissions head.now actors ++ rest.now) }
 {}
