@@ -1,4 +1,5 @@
 pub mod Counts
+pub mod KeyOrder
 pub mod Path
 pub mod Readings
 pub mod ShownLemmas

@@ -8,7 +8,8 @@ use Rattle.hp_model.specs.Walks.{walk}
 use Rattle.hp_model.specs.Registrations.{registration}
 use Rattle.hp_model.specs.Registered.{registered}
 use Rattle.hp_model.specs.Calls.{sites}
-use Rattle.hp_model.specs.Summary.{entered, hook_faults}
+use Rattle.hp_model.specs.Net.{entered}
+use Rattle.hp_model.specs.Summary.{hook_faults}
 use Rattle.hp_print.specs.declared.keys.KeyCount.{KeyCount}
 use Rattle.hp_print.specs.declared.walks.Walks.{Walks}
 use Rattle.hp_print.specs.declared.states.States.{States}

@@ -11,7 +11,8 @@ use Rattle.hp_model.specs.Lists.{numbers}
 use Rattle.hp_model.specs.Registered.{Registered, registered, instances}
 use Rattle.hp_model.specs.Suspend.{disabled, frozen}
 use Rattle.hp_model.specs.InForce.{ups, downs}
-use Rattle.hp_model.specs.Summary.{is_key_in_force, entered, keys_in_force, cpu_line, cpu_lines, disabled_line, recorded, frozen_line, sub_line, sub_line_at, sub_lines_below, ops_line, events_line, summary}
+use Rattle.hp_model.specs.Net.{is_key_in_force, entered, keys_in_force}
+use Rattle.hp_model.specs.Summary.{cpu_line, cpu_lines, disabled_line, recorded, frozen_line, sub_line, sub_line_at, sub_lines_below, ops_line, events_line, summary}
 use Rattle.hp_print.specs.declared.tally.Tally.{Tally}
 use Rattle.hp_print.specs.declared.walks.Walks.{Walks}
 use Rattle.hp_print.specs.declared.states.States.{States}

@@ -3,7 +3,7 @@ use Rattle.std.specs.Prelude.{ℕ, ◌+◌, ◌-◌, ◌^◌, min, suc, ◌≡�
 use Rattle.hp_states.specs.declared.section.Dir.{Dir}
 use Rattle.hp_states.specs.declared.section.Dir.TheVariants.{Up, Down}
 use Rattle.hp_event.specs.declared.event.Key.{Key}
-use Rattle.hp_model.specs.Summary.{is_before}
+use Rattle.hp_model.specs.Net.{is_before}
 use Rattle.hp_print.specs.declared.keys.KeyCount.{KeyCount}
 
 abbrev pub is_key : Key → Key → Bool

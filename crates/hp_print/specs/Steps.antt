@@ -13,7 +13,8 @@ use Rattle.hp_model.specs.Lists.{without}
 use Rattle.hp_model.specs.Entries.{is_done}
 use Rattle.hp_model.specs.Calls.{is_called}
 use Rattle.hp_model.specs.Suspend.{is_ok, is_freeze, is_thaw, is_disabling, is_enabling}
-use Rattle.hp_model.specs.Summary.{Kind, is_some_kind, answer_by, is_hook_fault}
+use Rattle.hp_model.specs.Events.{answer_by}
+use Rattle.hp_model.specs.Summary.{Kind, is_some_kind, is_hook_fault}
 use Rattle.hp_print.specs.declared.keys.KeyCount.{KeyCount}
 use Rattle.hp_print.specs.declared.states.Asked.{Asked}
 use Rattle.hp_print.specs.Counts.{one_more, counted}

@@ -14,7 +14,8 @@ use Rattle.hp_model.specs.Suspend.{disabled, frozen}
 use Rattle.hp_model.specs.Registrations.{Registration, registration}
 use Rattle.hp_model.specs.Registered.{Registered, registered, instances}
 use Rattle.hp_model.specs.Calls.{sites}
-use Rattle.hp_model.specs.Summary.{entered, hook_faults, answered_by, ok, refused, fault, stuck, full}
+use Rattle.hp_model.specs.Net.{entered}
+use Rattle.hp_model.specs.Summary.{hook_faults, answered_by, ok, refused, fault, stuck, full}
 use Rattle.hp_print.specs.declared.keys.KeyCount.{KeyCount}
 use Rattle.hp_print.specs.declared.states.Asked.{Asked}
 use Rattle.hp_print.specs.Counts.{AreInOrder}
