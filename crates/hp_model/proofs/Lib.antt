@@ -21,6 +21,7 @@ pub mod Bounds
 pub mod Once
 pub mod ReadersKept
 pub mod HeadlineProof
+pub mod KeyLaw
 mod Example
 pub mod NextSlot
 pub mod TreeShapes

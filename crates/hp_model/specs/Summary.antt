@@ -1,7 +1,7 @@
 -- The summary of a journal: its processors with the callbacks in force, what is registered, and how the
 -- operations were answered. What is in flight counts as the same notions have it: a registration in flight
 -- isn't registered, and a walk in flight leaves the settled state at its start. This project's own.
-use Rattle.std.specs.Prelude.{ℕ, ◌+◌, pos, Bool, true, false, ◌&&◌, ◌||◌, ◌==◌, nat_lt, if◌then◌else◌, Option, Some, None, List, [], ◌∷◌, ◌++◌, map, filter, length, count_by, codes, decimal}
+use Rattle.std.specs.Prelude.{ℕ, ◌+◌, Bool, true, false, ◌&&◌, ◌==◌, if◌then◌else◌, Option, Some, None, List, [], ◌∷◌, ◌++◌, map, filter, length, count_by, codes, decimal}
 use Rattle.std.specs.List.{flat_map}
 use Rattle.hp_states.specs.declared.limits.TheConstants.{ONLINE}
 use Rattle.hp_event.specs.declared.event.Key.{Key}
@@ -14,7 +14,7 @@ use Rattle.hp_event.specs.declared.event.Answer.TheVariants as answer
 use Rattle.hp_event.specs.declared.head.Sub.{Sub}
 use Rattle.hp_event.specs.declared.head.Head.{Head}
 use Rattle.hp_event.specs.declared.event.Event.{Event}
-use Rattle.hp_event.specs.declared.event.Event.TheVariants.{Refused, Call, OpEnd, RegBegin, RegEnd, ReadLock, ReadUnlock, Armed, Shown, Wakeup}
+use Rattle.hp_event.specs.declared.event.Event.TheVariants.{Call, RegBegin}
 use Rattle.hp_model.specs.Journal.{over}
 use Rattle.hp_model.specs.Words.{line, name_word, list_words}
 use Rattle.hp_model.specs.Net.{keys_in_force}
