@@ -1,6 +1,5 @@
 -- One event more, for where processors stand and what their keys count.
-use Rattle.std.proofs.Common.{◌≡◌, ◌≢◌, ℕ, zero, suc, ◌+◌, ◌-◌, ◌<◌, ◌≤◌, ◌^◌, min, Bool, true, false, ◌&&◌, ◌||◌, ◌==◌, if◌then◌else◌, Option, Some, None, List, [], ◌∷◌, ◌++◌, map, length, get_or, set, refl, ap, sym, ◌∙◌, arith, rules, cond}
-use Rattle.std.specs.Prelude.{unwrap_or, count_by, filter}
+use Rattle.std.proofs.Common.{◌≡◌, ℕ, zero, suc, ◌+◌, ◌<◌, ◌≤◌, ◌^◌, Bool, true, false, ◌&&◌, ◌==◌, if◌then◌else◌, Option, Some, None, List, [], ◌∷◌, ◌++◌, map, length, get_or, set, refl, ap, sym, ◌∙◌, arith, cond}
 use Rattle.std.proofs.lemmas.List.{length-set, get_or-set_same, get_or-set_other, append-nil, append_assoc}
 use Rattle.std.proofs.lemmas.List.Sums.{count_by-le-length, fold-append}
 use Rattle.std.proofs.lemmas.Bool.Decides.{nat_tests}
@@ -13,13 +12,12 @@ use Rattle.hp_event.specs.declared.event.Answer.{Answer}
 use Rattle.hp_event.specs.declared.event.Answer.TheVariants.{Ok, Refused, Fault, Stuck, LogFull}
 use Rattle.hp_event.specs.declared.event.Event.{Event}
 use Rattle.hp_event.specs.declared.event.Event.TheVariants.{WalkBegin, Call, WalkEnd}
-use Rattle.hp_model.specs.Journal.{over_from}
 use Rattle.hp_model.specs.Entries.{is_done}
 use Rattle.hp_model.specs.InForce.{done_entries, ups, downs, is_done_entry}
 use Rattle.hp_model.specs.Walks.{Walk, walk, walk_step}
 use Rattle.hp_model.specs.Settled.{settled, settled_step, left_at}
 use Rattle.hp_model.specs.Net.{is_before, with_key, entered, entered_step}
-use Rattle.hp_model.proofs.Laws.{over_from_push, walk_push, settled_push}
+use Rattle.hp_model.proofs.Laws.{walk_push, settled_push}
 use Rattle.hp_model.proofs.Counts.{done_entries_push}
 use Rattle.hp_print.specs.declared.walks.Walks.{Walks}
 use Rattle.hp_print.specs.declared.keys.KeyCount.{KeyCount}

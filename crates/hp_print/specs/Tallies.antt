@@ -1,6 +1,5 @@
 -- What a tally of some events is, part by part. This project's own.
 use Rattle.std.specs.Prelude.{◌≡◌, ℕ, ◌<◌, ◌+◌, Option, Some, None, List, [], length, map, slice_index_or}
-use Rattle.hp_states.specs.declared.section.Dir.TheVariants.{Up, Down}
 use Rattle.hp_states.specs.declared.limits.TheConstants.{ONLINE}
 use Rattle.hp_event.specs.declared.event.Key.{Key}
 use Rattle.hp_event.specs.declared.event.Op.{Op}
