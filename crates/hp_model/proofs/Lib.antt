@@ -1,4 +1,5 @@
 pub mod Counts
+pub mod KeyOrder
 pub mod Path
 pub mod Readings
 pub mod ShownLemmas
@@ -20,6 +21,7 @@ pub mod Bounds
 pub mod Once
 pub mod ReadersKept
 pub mod HeadlineProof
+pub mod KeyLaw
 mod Example
 pub mod NextSlot
 pub mod TreeShapes

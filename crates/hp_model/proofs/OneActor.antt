@@ -2,72 +2,27 @@
 use Rattle.std.proofs.Common.{◌≡◌, ℕ, zero, suc, ◌+◌, ◌-◌, ◌≤◌, Bool, true, false, cond, ltb, Option, Some, None, List, [], ◌∷◌, length, refl, ap, sym, ◌∙◌, inl, inr, ◌⊎◌, arith}
 use Rattle.std.specs.Prelude.{slice_get}
 use Rattle.std.proofs.lemmas.Bool.{true≢false, ltb-false}
-use Rattle.hp_states.specs.declared.section.Dir.{Dir}
 use Rattle.hp_event.specs.declared.event.Op.{Op}
-use Rattle.hp_event.specs.declared.event.How.{How}
-use Rattle.hp_event.specs.declared.event.Answer.{Answer}
 use Rattle.hp_event.specs.declared.head.Head.{Head}
 use Rattle.hp_event.specs.declared.event.Event.{Event}
 use Rattle.hp_event.specs.declared.event.Event.TheVariants.{Call, WalkEnd, RegEnd}
 use Rattle.hp_model.specs.Events.{seat_of, is_call, answered, BelongsTo}
-use Rattle.hp_model.specs.Walks.{walk_entries}
-use Rattle.hp_model.specs.Plan.{direction, plan}
-use Rattle.hp_model.specs.Crossing.{slots}
-use Rattle.hp_model.specs.Registered.{keys}
-use Rattle.hp_model.specs.Registrations.{registration_entries}
-use Rattle.hp_model.specs.RegistrationShape.{key_of, is_adding}
-use Rattle.hp_model.specs.Processors.{present, processors}
+use Rattle.hp_model.specs.Processors.{present}
 use Rattle.hp_model.specs.Run.{task, task_of, first_unanswered, Task, IsFor, CanTake}
 use Rattle.hp_model.specs.OneClient.{OneClient}
-use Rattle.hp_model.specs.StandsCalls.{InWalk, InRegistration}
 use Rattle.hp_model.specs.StandsOperations.{WalkEnds}
 use Rattle.hp_model.specs.StandsRegistrations.{RegEnds}
 use Rattle.hp_model.specs.Lawful.{Stands, IsLawful}
 use Rattle.hp_model.proofs.Kept.{Kept, WalkKept}
 use Rattle.hp_model.proofs.Induction.{kept}
 use Rattle.hp_model.proofs.InFlight.{walk_none}
-use Rattle.hp_model.proofs.NextSlot.{walk_tree, shape_follows, ended_same}
-use Rattle.hp_model.proofs.NextRegistration.{next_registration_same}
-use Rattle.hp_model.proofs.OneRegistration.{registration_ended}
+use Rattle.hp_model.proofs.OneRegistration.{one_registration_entry, registration_ended}
 use Rattle.hp_model.proofs.OneEntry.{one_entry}
-use Rattle.hp_model.proofs.OneNext.{one_stage, owners}
+use Rattle.hp_model.proofs.OneNext.{walk_ended, one_stage, owners}
 use Rattle.hp_model.proofs.Owners.{Owners, same_some, none_some, idle_op, idle_reg, not_self}
 use Rattle.hp_model.proofs.Stages.{Before, Between, OnWalk, OnRegistration, WalkEvent, RegistrationEvent, Stage, stage_of}
 
--- the seat of a registration's next entry is determined
-registration_seat : (head : Head) (xs : List Event) (seat seat' cpu cpu' state state' inst inst' : ℕ) (dir dir' : Dir)
-    (how how' : How) → InRegistration head xs seat cpu state inst dir how → InRegistration head xs seat' cpu' state' inst' dir' how' →
-    seat ≡ seat'
-registration_seat head xs seat seat' cpu cpu' state state' inst inst' dir dir' how how' h k =
-    let same : k.of ≡ h.of = same_some k.of h.of (sym k.in_flight ∙ h.in_flight) in
-    let shape = rw same at k.shape in
-    let e = next_registration_same (is_adding h.of.op) h.of.state (key_of head h.of) (processors head h.of.state h.of.before)
-    h.slots k.slots h.outcome k.outcome (registration_entries xs) h.slot k.slot h.shape shape h.is_next k.is_next in
-    let e_cpu : cpu ≡ cpu' = h.fits.0 ∙ (ap (λ z. z.cpu) e ∙ sym k.fits.0) in
-    let e_state : state ≡ state' = h.fits.1 ∙ (ap (λ z. z.state) e ∙ sym k.fits.1) in
-    let e_inst : inst ≡ inst' = h.fits.2 ∙ (ap (λ z. z.inst) e ∙ sym k.fits.2) in
-    let e_dir : dir ≡ dir' = h.fits.3 ∙ (ap (λ z. z.dir) e ∙ sym k.fits.3) in
-    let e_place = ap (λ z. z.place) e in
-    let e_how : how ≡ how' = h.how_is ∙ (rw (e_cpu, e_state, e_inst, e_dir, e_place, ← same) refl ∙ sym k.how_is) in
-    let e_seat : Some seat ≡ Some seat' =
-    sym h.caller_is ∙ (rw (e_cpu, e_state, e_how, ← same) refl ∙ k.caller_is) in
-    same_some seat seat' e_seat
-
--- a walk that can end can't go on, by whatever seat
-walk_ended : (head : Head) (xs : List Event) (k j c state inst : ℕ) (dir : Dir) (how : How) (answer : Answer) →
-    InWalk head xs k c state inst dir how → WalkEnds head xs j c answer → ⊥
-walk_ended head xs k j c state inst dir how answer h w =
-    let same : h.of ≡ w.of = same_some h.of w.of (sym h.in_flight ∙ w.in_flight) in
-    let K = keys head w.of.before in
-    let d = direction w.of.from w.of.to in
-    let p = plan K w.of.from w.of.to in
-    let shape = rw same at h.shape in
-    let is_next = rw same at h.is_next in
-    let f = rw is_next.slots_are at (shape_follows c K d p h.crossings h.outcome shape) in
-    ended_same (walk_tree c K d [] p) (slots c K w.whole.crossings) is_next.front h.slot is_next.rest (walk_entries c xs)
-    (shape_follows c K d p w.whole.crossings w.whole.outcome w.whole.shape) f w.whole.filled is_next.filled
-
--- so at most one seat has an event of a walk, and one an event of a registration
+-- at most one seat has an event of a walk, and one an event of a registration
 walk_seat : (head : Head) (xs : List Event) (k j c : ℕ) (e f : Event) → WalkEvent head xs k c e → WalkEvent head xs j c f → k ≡ j
 walk_seat head xs k j c (Call seat cpu state inst dir how) (Call seat' cpu' state' inst' dir' how') h w =
     ap seat_of (one_entry head xs k j c state state' inst inst' dir dir' how how' h.2 w.2)
@@ -87,7 +42,7 @@ walk_seat head xs k j c e f h w = elim h [ ]
 registration_event_seat : (head : Head) (xs : List Event) (k j : ℕ) (e f : Event) → RegistrationEvent head xs k e →
     RegistrationEvent head xs j f → k ≡ j
 registration_event_seat head xs k j (Call seat cpu state inst dir how) (Call seat' cpu' state' inst' dir' how') h w =
-    registration_seat head xs k j cpu cpu' state state' inst inst' dir dir' how how' h.1 w.1
+    ap seat_of (one_registration_entry head xs k j cpu cpu' state state' inst inst' dir dir' how how' h.1 w.1)
 registration_event_seat head xs k j (Call seat cpu state inst dir how) (RegEnd seat' answer) h w =
     absurd (registration_ended head xs k j cpu state inst dir how answer h.1 w.1)
 registration_event_seat head xs k j (RegEnd seat' answer) (Call seat cpu state inst dir how) h w =

@@ -26,10 +26,10 @@ use Rattle.hp_model.proofs.OneRegistration.{one_registration_entry, registration
 use Rattle.hp_model.proofs.Owners.{Owners, owners_none, owners_step, same_some}
 use Rattle.hp_model.proofs.Stages.{Between, OnWalk, WalkEvent, RegistrationEvent, Stage, stage_of, before_between, before_walk, before_registration, between_walk, between_registration, walk_registration}
 
--- a walk that can end can't go on
-walk_ended : (head : Head) (xs : List Event) (k c state inst : ℕ) (dir : Dir) (how : How) (answer : Answer) →
-    InWalk head xs k c state inst dir how → WalkEnds head xs k c answer → ⊥
-walk_ended head xs k c state inst dir how answer h w =
+-- a walk that can end can't go on, by whatever seat
+pub walk_ended : (head : Head) (xs : List Event) (k j c state inst : ℕ) (dir : Dir) (how : How) (answer : Answer) →
+    InWalk head xs k c state inst dir how → WalkEnds head xs j c answer → ⊥
+walk_ended head xs k j c state inst dir how answer h w =
     let same : h.of ≡ w.of = same_some h.of w.of (sym h.in_flight ∙ w.in_flight) in
     let K = keys head w.of.before in
     let d = direction w.of.from w.of.to in
@@ -51,9 +51,9 @@ one_on_walk : (head : Head) (xs : List Event) (k c : ℕ) (e f : Event) → Walk
 one_on_walk head xs k c (Call seat cpu state inst dir how) (Call seat' cpu' state' inst' dir' how') h w =
     rw (h.0, h.1, w.0, w.1) (one_entry head xs k k c state state' inst inst' dir dir' how how' h.2 w.2)
 one_on_walk head xs k c (Call seat cpu state inst dir how) (WalkEnd seat' cpu' answer) h w =
-    absurd (walk_ended head xs k c state inst dir how answer h.2 w.2)
+    absurd (walk_ended head xs k k c state inst dir how answer h.2 w.2)
 one_on_walk head xs k c (WalkEnd seat' cpu' answer) (Call seat cpu state inst dir how) h w =
-    absurd (walk_ended head xs k c state inst dir how answer w.2 h.2)
+    absurd (walk_ended head xs k k c state inst dir how answer w.2 h.2)
 one_on_walk head xs k c (WalkEnd seat cpu a) (WalkEnd seat' cpu' b) h w =
     rw (h.0, h.1, w.0, w.1, walk_answer head xs k c a b h.2 w.2) refl
 one_on_walk head xs k c (Call seat cpu state inst dir how) f h w = elim w [ ]
@@ -63,7 +63,7 @@ one_on_walk head xs k c e f h w = elim h [ ]
 one_on_registration : (head : Head) (xs : List Event) (k : ℕ) (e f : Event) → RegistrationEvent head xs k e →
     RegistrationEvent head xs k f → e ≡ f
 one_on_registration head xs k (Call seat cpu state inst dir how) (Call seat' cpu' state' inst' dir' how') h w =
-    rw (h.0, w.0) (one_registration_entry head xs k cpu cpu' state state' inst inst' dir dir' how how' h.1 w.1)
+    rw (h.0, w.0) (one_registration_entry head xs k k cpu cpu' state state' inst inst' dir dir' how how' h.1 w.1)
 one_on_registration head xs k (Call seat cpu state inst dir how) (RegEnd seat' answer) h w =
     absurd (registration_ended head xs k k cpu state inst dir how answer h.1 w.1)
 one_on_registration head xs k (RegEnd seat' answer) (Call seat cpu state inst dir how) h w =

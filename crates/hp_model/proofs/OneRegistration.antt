@@ -51,10 +51,10 @@ answer_same undone value es a b h k = let e = one h.0 k.0 (sym h.1 ∙ k.1) in r
     one : (x y : ℕ) → x ∷ [] ≡ y ∷ [] → x ≡ y
     one x y e = cc
 
-pub one_registration_entry : (head : Head) (xs : List Event) (seat cpu cpu' state state' inst inst' : ℕ) (dir dir' : Dir)
-    (how how' : How) → InRegistration head xs seat cpu state inst dir how → InRegistration head xs seat cpu' state' inst' dir' how' →
-    Call seat cpu state inst dir how ≡ Call seat cpu' state' inst' dir' how'
-one_registration_entry head xs seat cpu cpu' state state' inst inst' dir dir' how how' h k =
+pub one_registration_entry : (head : Head) (xs : List Event) (seat seat' cpu cpu' state state' inst inst' : ℕ) (dir dir' : Dir)
+    (how how' : How) → InRegistration head xs seat cpu state inst dir how → InRegistration head xs seat' cpu' state' inst' dir' how' →
+    Call seat cpu state inst dir how ≡ Call seat' cpu' state' inst' dir' how'
+one_registration_entry head xs seat seat' cpu cpu' state state' inst inst' dir dir' how how' h k =
     let same : k.of ≡ h.of = same_some k.of h.of (sym k.in_flight ∙ h.in_flight) in
     let shape = rw same at k.shape in
     let e = next_registration_same (is_adding h.of.op) h.of.state (key_of head h.of) (processors head h.of.state h.of.before)
@@ -65,7 +65,9 @@ one_registration_entry head xs seat cpu cpu' state state' inst inst' dir dir' ho
     let e_dir : dir ≡ dir' = h.fits.3 ∙ (ap (λ z. z.dir) e ∙ sym k.fits.3) in
     let e_place = ap (λ z. z.place) e in
     let e_how : how ≡ how' = h.how_is ∙ (rw (e_cpu, e_state, e_inst, e_dir, e_place, ← same) refl ∙ sym k.how_is) in
-    rw (e_cpu, e_state, e_inst, e_dir, e_how) refl
+    let e_seat : Some seat ≡ Some seat' =
+    sym h.caller_is ∙ (rw (e_cpu, e_state, e_how, ← same) refl ∙ k.caller_is) in
+    rw (same_some seat seat' e_seat, e_cpu, e_state, e_inst, e_dir, e_how) refl
 
 -- a registration that can end can't go on
 pub registration_ended : (head : Head) (xs : List Event) (seat seat' cpu state inst : ℕ) (dir : Dir) (how : How) (answer : Answer) →

@@ -4,7 +4,7 @@ use Rattle.std.specs.Prelude.{◌≡◌, ◌≢◌, ℕ, ◌<◌, ◌≤◌, Boo
 use Rattle.std.specs.List.{AllPass}
 use Rattle.std.specs.List.Sorted.{IsStrictlyIncreasing}
 use Rattle.hp_states.specs.declared.plan.Rule.{Rule}
-use Rattle.hp_states.specs.declared.limits.TheConstants.{MAX_CPUS, MAX_SUBS, MAX_RULES, MAX_NAME_LEN, MAX_CODE, MAX_INSTANCE, MAX_EVENTS}
+use Rattle.hp_states.specs.declared.limits.TheConstants.{MAX_CPUS, MAX_SUBS, MAX_RULES, MAX_RULE_CPU, MAX_NAME_LEN, MAX_CODE, MAX_INSTANCE, MAX_EVENTS}
 use Rattle.hp_event.specs.declared.head.Sub.{Sub}
 use Rattle.hp_event.specs.declared.head.Head.{Head}
 use Rattle.hp_model.specs.Processors.{is_present}
@@ -22,12 +22,8 @@ pub record IsName (name : List ℕ) : Type 0 where
   pub bytes : AllPass is_name_byte name
   pub not_dash : name ≢ codes "-"
 
--- the highest processor that a rule can speak of
-abbrev pub rule_cpu_max : ℕ
-rule_cpu_max = 255
-
 pub record IsRule (rule : Rule) : Type 0 where
-  pub cpu_fits : IfSome rule.cpu (λ c. c ≤ rule_cpu_max)
+  pub cpu_fits : IfSome rule.cpu (λ c. c ≤ MAX_RULE_CPU)
   pub inst_fits : IfSome rule.inst (λ i. i ≤ MAX_INSTANCE)
   pub nth_above : IfSome rule.nth (λ n. 0 < n)
   pub nth_fits : IfSome rule.nth (λ n. n ≤ MAX_EVENTS)

@@ -38,6 +38,7 @@ pub mod Net
 pub mod Found
 pub mod Run
 pub mod Headline
+pub mod Keys
 pub mod Words
 pub mod EventLine
 pub mod JournalText

@@ -10,29 +10,30 @@ use Rattle.hp_model.specs.Lists.{numbers}
 use Rattle.hp_model.specs.InForce.{ups, downs}
 use Rattle.hp_model.specs.Registered.{keys}
 
+-- a key is before another where its state is lower, or its instance at the same state
 abbrev pub is_before : Key → Key → Bool
-is_before a b = nat_lt a.state b.state || (a.state == b.state && nat_lt a.inst b.inst)
-
-abbrev pub is_same : Key → Key → Bool
-is_same a b = a.state == b.state && a.inst == b.inst
+is_before k x = nat_lt k.state x.state || (k.state == x.state && nat_lt k.inst x.inst)
 
 -- a rising list with a key put into its place, if it isn't there
 abbrev pub with_key : Key → List Key → List Key
 with_key k [] = k ∷ []
-with_key k (x ∷ xs) = if is_before x k then x ∷ with_key k xs else (if is_same x k then x ∷ xs else k ∷ x ∷ xs)
+with_key k (x ∷ xs) = if is_before x k then x ∷ with_key k xs else (if is_before k x then k ∷ x ∷ xs else x ∷ xs)
 
-abbrev pub called_step : (cpu : ℕ) → List Key → Event → List Key
-called_step c found (Call seat cpu state inst dir how) =
+abbrev pub entered_step : (cpu : ℕ) → List Key → Event → List Key
+entered_step c found (Call seat cpu state inst dir how) =
     if cpu == c then with_key (record { state = state; inst = inst }) found else found
-called_step c found _ = found
+entered_step c found _ = found
 
 -- the keys that have an entry on a processor
-abbrev pub called_keys : (cpu : ℕ) → List Event → List Key
-called_keys c events = fold (called_step c) [] events
+unfoldable pub entered : (cpu : ℕ) → List Event → List Key
+entered c events = fold (entered_step c) [] events
+
+abbrev pub is_key_in_force : (cpu : ℕ) → List Event → Key → Bool
+is_key_in_force c events k = nat_lt (downs c k.state k.inst events) (ups c k.state k.inst events)
 
 -- those of them that are in force
-abbrev pub net : (cpu : ℕ) → List Event → List Key
-net c events = filter (λ k. nat_lt (downs c k.state k.inst events) (ups c k.state k.inst events)) (called_keys c events)
+unfoldable pub keys_in_force : (cpu : ℕ) → List Event → List Key
+keys_in_force c events = filter (is_key_in_force c events) (entered c events)
 
 abbrev pub keys_at : Head → List Event → (state : ℕ) → List Key
 keys_at head events s = map (λ i. record { state = s; inst = i }) (keys head events s)

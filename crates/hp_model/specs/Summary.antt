@@ -1,7 +1,7 @@
 -- The summary of a journal: its processors with the callbacks in force, what is registered, and how the
 -- operations were answered. What is in flight counts as the same notions have it: a registration in flight
 -- isn't registered, and a walk in flight leaves the settled state at its start. This project's own.
-use Rattle.std.specs.Prelude.{ℕ, ◌+◌, pos, Bool, true, false, ◌&&◌, ◌||◌, ◌==◌, nat_lt, if◌then◌else◌, Option, Some, None, List, [], ◌∷◌, ◌++◌, map, filter, length, count_by, codes, decimal}
+use Rattle.std.specs.Prelude.{ℕ, ◌+◌, Bool, true, false, ◌&&◌, ◌==◌, if◌then◌else◌, Option, Some, None, List, [], ◌∷◌, ◌++◌, map, filter, length, count_by, codes, decimal}
 use Rattle.std.specs.List.{flat_map}
 use Rattle.hp_states.specs.declared.limits.TheConstants.{ONLINE}
 use Rattle.hp_event.specs.declared.event.Key.{Key}
@@ -14,10 +14,11 @@ use Rattle.hp_event.specs.declared.event.Answer.TheVariants as answer
 use Rattle.hp_event.specs.declared.head.Sub.{Sub}
 use Rattle.hp_event.specs.declared.head.Head.{Head}
 use Rattle.hp_event.specs.declared.event.Event.{Event}
-use Rattle.hp_event.specs.declared.event.Event.TheVariants.{Refused, Call, OpEnd, RegBegin, RegEnd, ReadLock, ReadUnlock, Armed, Shown, Wakeup}
+use Rattle.hp_event.specs.declared.event.Event.TheVariants.{Call, RegBegin}
 use Rattle.hp_model.specs.Journal.{over}
 use Rattle.hp_model.specs.Words.{line, name_word, list_words}
-use Rattle.hp_model.specs.InForce.{ups, downs}
+use Rattle.hp_model.specs.Net.{keys_in_force}
+use Rattle.hp_model.specs.Events.{answer_by}
 use Rattle.hp_model.specs.Registered.{Registered, registered}
 use Rattle.hp_model.specs.Settled.{settled}
 use Rattle.hp_model.specs.Lists.{among, numbers}
@@ -25,31 +26,6 @@ use Rattle.hp_model.specs.Processors.{is_present}
 use Rattle.hp_model.specs.Subsystems.{sub_numbered}
 use Rattle.hp_model.specs.Suspend.{disabled, frozen}
 use Rattle.hp_model.specs.Calls.{sites}
-
--- a key is before another where its state is lower, or its instance at the same state
-abbrev pub is_before : Key → Key → Bool
-is_before k x = nat_lt k.state x.state || (k.state == x.state && nat_lt k.inst x.inst)
-
--- keys in order, with one more among them
-abbrev pub with_key : Key → List Key → List Key
-with_key k [] = k ∷ []
-with_key k (x ∷ xs) = if is_before x k then x ∷ with_key k xs else (if is_before k x then k ∷ x ∷ xs else x ∷ xs)
-
-abbrev pub entered_step : (cpu : ℕ) → List Key → List Event → Event → List Key
-entered_step c found before (Call seat cpu state inst dir how) =
-    if cpu == c then with_key (record { state = state; inst = inst }) found else found
-entered_step c found before _ = found
-
--- the keys of a processor's entries, each once, by state and then instance
-unfoldable pub entered : (cpu : ℕ) → List Event → List Key
-entered c events = over (entered_step c) [] events
-
-abbrev pub is_key_in_force : (cpu : ℕ) → List Event → Key → Bool
-is_key_in_force c events k = nat_lt (downs c k.state k.inst events) (ups c k.state k.inst events)
-
--- those in force, by counting
-unfoldable pub keys_in_force : (cpu : ℕ) → List Event → List Key
-keys_in_force c events = filter (is_key_in_force c events) (entered c events)
 
 abbrev pub is_hook_fault : How → Bool
 is_hook_fault RanOk = false
@@ -71,18 +47,6 @@ faults_step s n before _ = n
 -- how often the hook of a state answered a code since the setup that registered it began
 unfoldable pub hook_faults : (state : ℕ) → List Event → ℕ
 hook_faults s events = over (faults_step s) 0 events
-
--- the answer of an operation that an event gives, where it gives one
-abbrev pub answer_by : Event → Option Answer
-answer_by (Refused seat errno op) = Some (answer.Refused errno)
-answer_by (OpEnd seat given) = Some given
-answer_by (RegEnd seat given) = Some given
-answer_by (ReadLock seat) = Some (answer.Ok (pos 0))
-answer_by (ReadUnlock seat) = Some (answer.Ok (pos 0))
-answer_by (Armed seat cpu value) = Some (answer.Ok (pos 0))
-answer_by (Shown seat file cpu value) = Some (answer.Ok (pos 0))
-answer_by (Wakeup seat) = Some (answer.Ok (pos 0))
-answer_by _ = None
 
 -- the five kinds of answer
 pub data Kind : Type 0 where

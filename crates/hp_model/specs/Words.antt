@@ -1,6 +1,6 @@
 -- Lines of words, as the texts of a journal and its summary have them: one space between two words, and a
 -- newline at the end. This project's own.
-use Rattle.std.specs.Prelude.{ℕ, ℤ, Option, Some, None, Bool, if◌then◌else◌, List, [], ◌∷◌, ◌++◌, map, codes, decimal}
+use Rattle.std.specs.Prelude.{ℕ, Option, Some, None, Bool, if◌then◌else◌, List, [], ◌∷◌, ◌++◌, codes, decimal}
 use Rattle.hp_states.specs.declared.section.Dir.{Dir}
 use Rattle.hp_states.specs.declared.section.Dir.TheVariants.{Up, Down}
 

@@ -4,20 +4,25 @@
 //! registered, where a processor stands, what is in force, who reads, what waits) is a fold over
 //! that list, in a file of `specs/` that is named after it. `specs/Lawful.antt` says which journals
 //! are lawful: each event stands after those before it. `specs/Headline.antt` says what holds of
-//! every lawful journal, and `specs/Run.antt` which journal a script's actors make.
+//! every lawful journal, `specs/Keys.antt` what that makes of the lists of keys that are shown, and
+//! `specs/Run.antt` which journal a script's actors make.
 //!
 //! The functions of this file have empty bodies: their contracts are the laws, which callers cite.
 //! `net_of` and its kin compute a notion from the events alone, slowly, for tests.
 #![tactic(auto)]
 
-ghost use Rattle.std.specs.Prelude.{◌≡◌, ℕ, ◌+◌, ◌≤◌, true, List, [], ◌∷◌, ◌++◌, length};
+ghost use Rattle.std.specs.Prelude.{◌≡◌, ℕ, ◌+◌, ◌≤◌, None, true, List, [], ◌∷◌, ◌++◌, length};
 ghost use Rattle.hp_event.specs.declared.event.Op.{Op as AnOp};
 ghost use Rattle.hp_event.specs.declared.event.Event.{Event as AnEvent};
 ghost use Rattle.hp_model.specs.Journal.{EachAfter};
 ghost use Rattle.hp_model.specs.Processors.{present};
 ghost use Rattle.hp_model.specs.Heads.{IsHead};
 ghost use Rattle.hp_model.specs.Lawful.{Stands, IsLawful};
+ghost use Rattle.hp_model.specs.Walks.{walk};
+ghost use Rattle.hp_model.specs.Registrations.{registration};
+ghost use Rattle.hp_model.specs.Net.{keys_in_force as keys_in_force_of};
 ghost use Rattle.hp_model.specs.Headline.{Headline};
+ghost use Rattle.hp_model.specs.Keys.{AreKeysInForce, AreKeysAtRest};
 ghost use Rattle.hp_model.specs.Events.{seat_of, BelongsTo};
 ghost use Rattle.hp_model.specs.Run.{admissions, CanTake, all_answered, IsRun};
 ghost use Rattle.hp_model.specs.OneClient.{OneClient};
@@ -45,6 +50,20 @@ pub fn headline(head: &Head, events: &[Event])
 #[tactic(auto, using(crate::proofs::HeadlineProof::headline_of_front))]
 pub fn headline_of_front(head: &Head, front: &[Event], rest: &[Event])
     ensures { IsLawful head.now (front.now ++ rest.now) → Headline head.now front.now }
+{}
+
+/// The keys in force on a processor, as a list: of every journal, they rise, and are those that
+/// count as in force.
+pub fn keys_in_force(events: &[Event], cpu: u32)
+    ensures { AreKeysInForce cpu events.now (keys_in_force_of cpu events.now) }
+{}
+
+/// At rest these are the keys that are registered at or below the state where the processor stands.
+#[tactic(auto, using(crate::proofs::KeyLaw::keys_at_rest))]
+pub fn keys_at_rest(head: &Head, events: &[Event], cpu: u32)
+    ensures { IsLawful head.now events.now →
+        walk cpu events.now ≡ None → registration events.now ≡ None →
+        AreKeysAtRest head.now cpu events.now (keys_in_force_of cpu events.now) }
 {}
 
 /// A front of a lawful journal is lawful.

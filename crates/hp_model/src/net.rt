@@ -1,9 +1,9 @@
 //! The keys in force on a processor, by counting.
 
-ghost use Rattle.std.specs.Prelude.{◌≡◌, ◌<◌, nat_lt, IfOk, OnOk, OnErr};
-ghost use Rattle.hp_model.specs.InForce.{is_done_entry as is_done_entry_of, done_entries, ups, downs};
+ghost use Rattle.std.specs.Prelude.{◌≡◌, ◌<◌, IfOk, OnOk, OnErr};
+ghost use Rattle.hp_model.specs.InForce.{is_done_entry as is_done_entry_of, done_entries};
 ghost use Rattle.hp_model.specs.Entries.{is_done as is_done_of};
-ghost use Rattle.hp_model.specs.Net.{with_key, is_before as is_before_of, called_keys, net};
+ghost use Rattle.hp_model.specs.Net.{with_key, is_before as is_before_of, entered, is_key_in_force, keys_in_force};
 
 use hp_event::{Event, How, Journal, Key, Keys, NoMemory};
 use hp_states::Dir;
@@ -14,13 +14,14 @@ use std::alloc::{AllocError, Global};
 ///
 /// It takes a time quadratic in the journal, and is for tests and small journals. Takes memory for
 /// the list; where there is none: `NoMemory`.
+#[tactic(auto, unfolding(crate::specs::Net::keys_in_force))]
 pub fn net_of(alloc: Global, journal: &Journal, cpu: u32) -> Result<Keys, NoMemory>
-    ensures { IfOk result (λ keys. keys ≡ net cpu journal.now.events) }
+    ensures { IfOk result (λ keys. keys ≡ keys_in_force cpu journal.now.events) }
 {
     let events = journal.events();
-    let called = called_of(alloc, events, cpu)?;
+    let entered = entered_of(alloc, events, cpu)?;
     let mut found = Vec::new(alloc);
-    for key in called.as_slice() {
+    for key in entered.as_slice() {
         if is_in_force(events, cpu, *key) {
             found.push(*key)?;
         }
@@ -29,10 +30,11 @@ pub fn net_of(alloc: Global, journal: &Journal, cpu: u32) -> Result<Keys, NoMemo
 }
 
 /// The keys that have an entry on a processor, in rising order.
-fn called_of(alloc: Global, events: &[Event], cpu: u32) -> Result<Vec<Key>, NoMemory>
-    ensures { IfOk result (λ keys. keys.items ≡ called_keys cpu events.now) }
+#[tactic(auto, unfolding(crate::specs::Net::entered))]
+fn entered_of(alloc: Global, events: &[Event], cpu: u32) -> Result<Vec<Key>, NoMemory>
+    ensures { IfOk result (λ keys. keys.items ≡ entered cpu events.now) }
 {
-    let mut called = Vec::new(alloc);
+    let mut keys = Vec::new(alloc);
     for event in events {
         if let Event::Call {
             cpu: on,
@@ -43,7 +45,7 @@ fn called_of(alloc: Global, events: &[Event], cpu: u32) -> Result<Vec<Key>, NoMe
         {
             if *on == cpu {
                 put(
-                    &mut called,
+                    &mut keys,
                     Key {
                         state: *state,
                         inst: *inst,
@@ -52,7 +54,7 @@ fn called_of(alloc: Global, events: &[Event], cpu: u32) -> Result<Vec<Key>, NoMe
             }
         }
     }
-    Ok(called)
+    Ok(keys)
 }
 
 /// Puts a key into its place, if it isn't there.
@@ -63,21 +65,22 @@ fn put(keys: &mut Vec<Key>, key: Key) -> Result<(), NoMemory>
     while at < keys.len() && is_before(keys[at], key) {
         at += 1;
     }
-    if at < keys.len() && keys[at] == key {
+    if at < keys.len() && !is_before(key, keys[at]) {
         return Ok(());
     }
     keys.insert(at, key)?;
     Ok(())
 }
 
-fn is_before(a: Key, b: Key) -> bool
-    ensures { result ≡ is_before_of a b }
+/// Whether a key is before another: by state, and then by instance.
+fn is_before(key: Key, other: Key) -> bool
+    ensures { result ≡ is_before_of key other }
 {
-    a.state < b.state || (a.state == b.state && a.inst < b.inst)
+    key.state < other.state || (key.state == other.state && key.inst < other.inst)
 }
 
 fn is_in_force(events: &[Event], cpu: u32, key: Key) -> bool
-    ensures { result ≡ nat_lt (downs cpu key.state key.inst events.now) (ups cpu key.state key.inst events.now) }
+    ensures { result ≡ is_key_in_force cpu events.now key }
 {
     count_of(events, cpu, key, Dir::Down) < count_of(events, cpu, key, Dir::Up)
 }

@@ -1,8 +1,9 @@
 -- One event more, for how operations were answered.
-use Rattle.std.proofs.Common.{◌≡◌, ℕ, ◌+◌, ◌<◌, ◌≤◌, ◌^◌, Bool, true, false, cond, if◌then◌else◌, List, [], ◌∷◌, ◌++◌, length, refl, ap, sym, ◌∙◌, arith}
+use Rattle.std.proofs.Common.{◌≡◌, ℕ, ◌+◌, ◌<◌, ◌≤◌, ◌^◌, Bool, true, false, cond, if◌then◌else◌, List, [], ◌∷◌, ◌++◌, length, refl, ◌∙◌, arith}
 use Rattle.std.proofs.lemmas.List.Sums.{count_by-le-length, sum_by_push}
 use Rattle.hp_event.specs.declared.event.Event.{Event}
-use Rattle.hp_model.specs.Summary.{Kind, ok, refused, fault, stuck, full, is_some_kind, answer_by, answered_by}
+use Rattle.hp_model.specs.Summary.{Kind, ok, refused, fault, stuck, full, is_some_kind, answered_by}
+use Rattle.hp_model.specs.Events.{answer_by}
 use Rattle.hp_print.specs.declared.answers.Answers.{Answers}
 use Rattle.hp_print.specs.Counts.{one_more}
 use Rattle.hp_print.specs.Steps.{answers_after}

@@ -1,5 +1,5 @@
 -- The tally of no events.
-use Rattle.std.proofs.Common.{◌≡◌, ℕ, zero, suc, ◌+◌, ◌<◌, Bool, true, false, ◌==◌, if◌then◌else◌, Option, None, List, [], length, get_or, set, replicate, refl, ap, sym, ◌∙◌, arith}
+use Rattle.std.proofs.Common.{◌≡◌, ℕ, zero, suc, ◌<◌, ◌==◌, if◌then◌else◌, None, [], get_or, set, replicate, refl, sym, ◌∙◌, arith}
 use Rattle.std.proofs.lemmas.List.{length-set, length-replicate, get_or-replicate}
 use Rattle.std.proofs.lemmas.Bool.Decides.{nat_tests}
 use Rattle.hp_event.specs.declared.head.Head.{Head}
@@ -8,8 +8,8 @@ use Rattle.hp_model.specs.Walks.{walk}
 use Rattle.hp_model.specs.Registrations.{registration}
 use Rattle.hp_model.specs.Registered.{registered}
 use Rattle.hp_model.specs.Calls.{sites}
-use Rattle.hp_model.specs.Summary.{entered, hook_faults}
-use Rattle.hp_print.specs.declared.keys.KeyCount.{KeyCount}
+use Rattle.hp_model.specs.Net.{entered}
+use Rattle.hp_model.specs.Summary.{hook_faults}
 use Rattle.hp_print.specs.declared.walks.Walks.{Walks}
 use Rattle.hp_print.specs.declared.states.States.{States}
 use Rattle.hp_print.specs.Counts.{AreInOrder}

@@ -1,18 +1,13 @@
 -- The order of keys, and their places in a list that rises.
-use Rattle.std.proofs.Common.{◌≡◌, ℕ, zero, suc, ◌+◌, ◌<◌, ◌≤◌, Bool, true, false, ◌&&◌, ◌||◌, ◌==◌, nat_lt, List, [], ◌∷◌, length, get_or, refl, ap, sym, arith, rules, cond, set, if◌then◌else◌, insert}
+use Rattle.std.proofs.Common.{◌≡◌, ℕ, zero, suc, ◌<◌, ◌≤◌, Bool, true, false, List, [], ◌∷◌, length, get_or, refl, ap, sym, arith, set, if◌then◌else◌, insert}
 use Rattle.std.proofs.lemmas.Bool.Decides.{nat_tests}
 use Rattle.hp_event.specs.declared.event.Key.{Key}
-use Rattle.hp_model.specs.Summary.{is_before}
+use Rattle.hp_model.specs.Net.{is_before}
+use Rattle.hp_model.proofs.KeyOrder.{before_after, before_self}
 use Rattle.hp_print.specs.declared.keys.KeyCount.{KeyCount}
 use Rattle.hp_states.specs.declared.section.Dir.{Dir}
 use Rattle.hp_states.specs.declared.section.Dir.TheVariants.{Up, Down}
 use Rattle.hp_print.specs.Counts.{place, is_key, with_count, no_count, raised, raised_at, counted, IsBeforeAll, AreInOrder}
-
-pub before_after : (a b c : Key) → is_before a b ≡ true → is_before b c ≡ true → is_before a c ≡ true
-before_after a b c p q = grind (arith, nat_tests)
-
-pub before_self : (a : Key) → is_before a a ≡ false
-before_self a = grind (arith, nat_tests)
 
 pub neither : (a b : Key) → is_before a b ≡ false → is_before b a ≡ false → is_key a b ≡ true
 neither a b p q = grind (arith, nat_tests)
@@ -22,9 +17,6 @@ before_not_key a b p = grind (arith, nat_tests)
 
 pub after_not_key : (a b : Key) → is_before b a ≡ true → is_key a b ≡ false
 after_not_key a b p = grind (arith, nat_tests)
-
-pub before_not_after : (a b : Key) → is_before a b ≡ true → is_before b a ≡ false
-before_not_after a b p = grind (arith, nat_tests)
 
 pub same_before : (k a y : Key) → is_key k a ≡ true → is_before a y ≡ true → is_before k y ≡ true
 same_before k a y p q = grind (arith, nat_tests)

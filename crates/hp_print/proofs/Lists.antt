@@ -1,9 +1,9 @@
 -- Lists of words that are appended one by one, with a dash where there is none.
-use Rattle.std.proofs.Common.{◌≡◌, ℕ, suc, ◌+◌, ◌<◌, Bool, true, false, not, ◌||◌, ◌==◌, nat_lt, if◌then◌else◌, List, [], ◌∷◌, ◌++◌, map, filter, length, refl, ap, sym, ◌∙◌, arith, decimal, append_assoc}
+use Rattle.std.proofs.Common.{◌≡◌, ℕ, ◌+◌, Bool, true, false, ◌||◌, ◌==◌, nat_lt, if◌then◌else◌, List, [], ◌∷◌, ◌++◌, map, filter, length, refl, ap, arith, decimal}
 use Rattle.std.proofs.lemmas.List.{length-append, append-nil}
 use Rattle.std.proofs.lemmas.Bool.Decides.{nat_tests}
 use Rattle.std.specs.List.{flat_map, list_any}
-use Rattle.hp_model.specs.Lists.{among, occurs, numbers}
+use Rattle.hp_model.specs.Lists.{among, occurs}
 use Rattle.hp_model.specs.Words.{spaced, list_words}
 use Rattle.hp_model.specs.Summary.{key_word}
 use Rattle.hp_print.specs.declared.keys.KeyCount.{KeyCount}

@@ -1,28 +1,26 @@
 -- One event more, for what is registered and what hooks did.
-use Rattle.std.proofs.Common.{◌≡◌, ℕ, ◌+◌, ◌<◌, ◌≤◌, ◌^◌, Bool, true, false, not, ◌&&◌, ◌==◌, if◌then◌else◌, Option, Some, None, List, [], ◌∷◌, ◌++◌, length, get_or, set, refl, ap, sym, ◌∙◌, arith}
+use Rattle.std.proofs.Common.{◌≡◌, ℕ, ◌+◌, ◌<◌, ◌≤◌, ◌^◌, Bool, true, false, ◌&&◌, ◌==◌, if◌then◌else◌, Option, Some, None, List, [], ◌∷◌, ◌++◌, length, get_or, set, refl, ap, ◌∙◌, arith}
 use Rattle.std.proofs.lemmas.List.{length-set, length_push}
 use Rattle.std.proofs.lemmas.Bool.Decides.{nat_tests}
 use Rattle.hp_states.specs.Rules.{Site}
 use Rattle.hp_event.specs.declared.event.Op.{Op}
 use Rattle.hp_event.specs.declared.event.Op.TheVariants.{Setup, Remove, Add, Del}
 use Rattle.hp_event.specs.declared.event.How.{How}
-use Rattle.hp_event.specs.declared.event.Answer.{Answer}
 use Rattle.hp_event.specs.declared.event.Answer.TheVariants.{Ok, Refused, Fault, Stuck, LogFull}
 use Rattle.hp_event.specs.declared.head.Head.{Head}
 use Rattle.hp_event.specs.declared.event.Event.{Event}
 use Rattle.hp_event.specs.declared.event.Event.TheVariants.{RegBegin, RegEnd, Call}
 use Rattle.hp_model.specs.Journal.{over_from}
-use Rattle.hp_model.specs.Lists.{without}
 use Rattle.hp_model.specs.Suspend.{is_ok}
 use Rattle.hp_model.specs.Registrations.{Registration, registration, registration_step}
-use Rattle.hp_model.specs.Registered.{Registered, registered, registered_step, applied, after_ok, after_answer, instances}
+use Rattle.hp_model.specs.Registered.{Registered, registered, registered_step, applied, after_ok, instances}
 use Rattle.hp_model.specs.Calls.{is_called, sites, sites_step}
 use Rattle.hp_model.specs.Summary.{is_hook_fault, hook_faults, faults_step}
 use Rattle.hp_model.proofs.Laws.{over_from_push, registration_push, registered_push}
 use Rattle.hp_print.specs.declared.states.Asked.{Asked}
 use Rattle.hp_print.specs.declared.states.States.{States}
 use Rattle.hp_print.specs.Counts.{one_more}
-use Rattle.hp_print.specs.Steps.{asked_after, sub_after, insts_after, subs_applied, all_insts_applied, subs_after, all_insts_after, begun_anew, calls_after}
+use Rattle.hp_print.specs.Steps.{asked_after, sub_after, insts_after, subs_applied, all_insts_applied, subs_after, all_insts_after, calls_after}
 use Rattle.hp_print.specs.Tallies.{asked_of, sub_of, IsStates}
 use Rattle.hp_print.proofs.SuspendedStep.{one_more_is}
 use Rattle.hp_print.proofs.WalksStep.{get_or-set}

@@ -1,6 +1,5 @@
 -- The text that a tally makes is the summary.
-use Rattle.std.proofs.Common.{◌≡◌, ℕ, zero, suc, Bool, true, false, if◌then◌else◌, ◌+◌, ◌<◌, ◌≤◌, nat_lt, Option, Some, None, List, [], ◌∷◌, ◌++◌, map, filter, length, get_or, refl, ap, sym, ◌∙◌, arith}
-use Rattle.std.specs.Prelude.{slice_index_or}
+use Rattle.std.proofs.Common.{◌≡◌, ℕ, zero, suc, Bool, true, false, if◌then◌else◌, ◌+◌, ◌<◌, Option, Some, None, List, [], ◌∷◌, ◌++◌, map, filter, length, refl, ap, sym, ◌∙◌, arith}
 use Rattle.std.specs.List.{flat_map}
 use Rattle.std.proofs.lemmas.List.{flat_map_more}
 use Rattle.hp_states.specs.declared.limits.TheConstants.{ONLINE}
@@ -8,10 +7,10 @@ use Rattle.hp_event.specs.declared.event.Key.{Key}
 use Rattle.hp_event.specs.declared.event.Event.{Event}
 use Rattle.hp_event.specs.declared.head.Head.{Head}
 use Rattle.hp_model.specs.Lists.{numbers}
-use Rattle.hp_model.specs.Registered.{Registered, registered, instances}
+use Rattle.hp_model.specs.Registered.{Registered, registered}
 use Rattle.hp_model.specs.Suspend.{disabled, frozen}
-use Rattle.hp_model.specs.InForce.{ups, downs}
-use Rattle.hp_model.specs.Summary.{is_key_in_force, entered, keys_in_force, cpu_line, cpu_lines, disabled_line, recorded, frozen_line, sub_line, sub_line_at, sub_lines_below, ops_line, events_line, summary}
+use Rattle.hp_model.specs.Net.{is_key_in_force, entered, keys_in_force}
+use Rattle.hp_model.specs.Summary.{cpu_line, cpu_lines, disabled_line, recorded, frozen_line, sub_line, sub_line_at, sub_lines_below, ops_line, events_line, summary}
 use Rattle.hp_print.specs.declared.tally.Tally.{Tally}
 use Rattle.hp_print.specs.declared.walks.Walks.{Walks}
 use Rattle.hp_print.specs.declared.states.States.{States}

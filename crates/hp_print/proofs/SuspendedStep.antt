@@ -1,11 +1,10 @@
 -- One event more, for what an operation of the map lock left behind.
-use Rattle.std.proofs.Common.{◌≡◌, ℕ, ◌+◌, ◌-◌, ◌<◌, ◌≤◌, ◌^◌, min, Bool, true, false, ◌&&◌, if◌then◌else◌, Option, Some, None, List, [], ◌∷◌, ◌++◌, length, refl, ap, sym, ◌∙◌, arith}
-use Rattle.std.proofs.lemmas.List.{length_push}
+use Rattle.std.proofs.Common.{◌≡◌, ℕ, ◌+◌, ◌<◌, ◌≤◌, ◌^◌, Bool, Option, Some, None, List, [], ◌∷◌, ◌++◌, length, refl, ap, sym, ◌∙◌, arith}
 use Rattle.hp_event.specs.declared.event.Op.{Op}
 use Rattle.hp_event.specs.declared.event.Event.{Event}
 use Rattle.hp_event.specs.declared.event.Event.TheVariants.{Enter, WalkEnd, OpEnd}
 use Rattle.hp_model.specs.MapLock.{Operation, operation, operation_step}
-use Rattle.hp_model.specs.Suspend.{disabled, disabled_step, frozen, frozen_step, held_by, is_freeze, is_thaw, is_disabling, is_enabling, is_ok}
+use Rattle.hp_model.specs.Suspend.{disabled, disabled_step, frozen, frozen_step, held_by, is_freeze, is_thaw, is_disabling, is_enabling}
 use Rattle.hp_model.specs.Journal.{over_from}
 use Rattle.hp_model.proofs.Laws.{over_from_push, operation_push, frozen_push}
 use Rattle.hp_print.specs.declared.suspended.Suspended.{Suspended}

@@ -1,8 +1,7 @@
 -- One event more, for where processors stand and what their keys count.
-use Rattle.std.proofs.Common.{◌≡◌, ◌≢◌, ℕ, zero, suc, ◌+◌, ◌-◌, ◌<◌, ◌≤◌, ◌^◌, min, Bool, true, false, ◌&&◌, ◌||◌, ◌==◌, if◌then◌else◌, Option, Some, None, List, [], ◌∷◌, ◌++◌, map, length, get_or, set, refl, ap, sym, ◌∙◌, arith, rules, cond}
-use Rattle.std.specs.Prelude.{unwrap_or, count_by, filter}
+use Rattle.std.proofs.Common.{◌≡◌, ℕ, zero, suc, ◌+◌, ◌<◌, ◌≤◌, ◌^◌, Bool, true, false, ◌&&◌, ◌==◌, if◌then◌else◌, Option, Some, None, List, [], ◌∷◌, ◌++◌, map, length, get_or, set, refl, ap, sym, ◌∙◌, arith, cond}
 use Rattle.std.proofs.lemmas.List.{length-set, get_or-set_same, get_or-set_other, append-nil, append_assoc}
-use Rattle.std.proofs.lemmas.List.Sums.{count_by-le-length}
+use Rattle.std.proofs.lemmas.List.Sums.{count_by-le-length, fold-append}
 use Rattle.std.proofs.lemmas.Bool.Decides.{nat_tests}
 use Rattle.hp_states.specs.declared.section.Dir.{Dir}
 use Rattle.hp_states.specs.declared.section.Dir.TheVariants.{Up, Down}
@@ -13,20 +12,20 @@ use Rattle.hp_event.specs.declared.event.Answer.{Answer}
 use Rattle.hp_event.specs.declared.event.Answer.TheVariants.{Ok, Refused, Fault, Stuck, LogFull}
 use Rattle.hp_event.specs.declared.event.Event.{Event}
 use Rattle.hp_event.specs.declared.event.Event.TheVariants.{WalkBegin, Call, WalkEnd}
-use Rattle.hp_model.specs.Journal.{over_from}
 use Rattle.hp_model.specs.Entries.{is_done}
 use Rattle.hp_model.specs.InForce.{done_entries, ups, downs, is_done_entry}
 use Rattle.hp_model.specs.Walks.{Walk, walk, walk_step}
 use Rattle.hp_model.specs.Settled.{settled, settled_step, left_at}
-use Rattle.hp_model.specs.Summary.{is_before, with_key, entered, entered_step}
-use Rattle.hp_model.proofs.Laws.{over_from_push, walk_push, settled_push}
+use Rattle.hp_model.specs.Net.{is_before, with_key, entered, entered_step}
+use Rattle.hp_model.proofs.Laws.{walk_push, settled_push}
 use Rattle.hp_model.proofs.Counts.{done_entries_push}
 use Rattle.hp_print.specs.declared.walks.Walks.{Walks}
 use Rattle.hp_print.specs.declared.keys.KeyCount.{KeyCount}
 use Rattle.hp_print.specs.Counts.{one_more, is_key, no_count, with_count, raised, raised_at, counted, AreInOrder}
 use Rattle.hp_print.specs.Steps.{targets_after, settled_after, keys_after, stands_after}
 use Rattle.hp_print.specs.Tallies.{target_of, count_of, counts_of, IsWalks}
-use Rattle.hp_print.proofs.KeyOrder.{counted_in_order, before_after, before_not_key, after_not_key, before_not_after, neither, same_before, key_apart, key_other}
+use Rattle.hp_model.proofs.KeyOrder.{before_after, before_not_after}
+use Rattle.hp_print.proofs.KeyOrder.{counted_in_order, before_not_key, after_not_key, neither, same_before, key_apart, key_other}
 use Rattle.hp_print.proofs.SuspendedStep.{one_more_is}
 
 -- a list after a write, at a place that it has
@@ -70,9 +69,9 @@ settled_as c ts ss xs (WalkEnd seat cpu given) h p q =
 settled_as c ts ss xs e h p q = q
 
 -- keys and their counts
-entered_push : (c : ℕ) (xs : List Event) (e : Event) → entered c (xs ++ e ∷ []) ≡ entered_step c (entered c xs) xs e
+entered_push : (c : ℕ) (xs : List Event) (e : Event) → entered c (xs ++ e ∷ []) ≡ entered_step c (entered c xs) e
 unfolding entered
-entered_push c xs e = over_from_push (entered_step c) [] [] xs e
+entered_push c xs e = fold-append (entered_step c) [] xs (e ∷ [])
 
 abbrev found : Key → List Key → Bool
 found k [] = false
@@ -281,7 +280,7 @@ count_quiet c xs e x p q =
     (same_counts x (ups c x.state x.inst xs + 0) (ups c x.state x.inst xs) (downs c x.state x.inst xs + 0)
     (downs c x.state x.inst xs) (omega arith) (omega arith))
 
-counts_quiet : (c : ℕ) (xs : List Event) (e : Event) → entered_step c (entered c xs) xs e ≡ entered c xs →
+counts_quiet : (c : ℕ) (xs : List Event) (e : Event) → entered_step c (entered c xs) e ≡ entered c xs →
     ((x : Key) → is_done_entry c x.state x.inst Up e ≡ false) →
     ((x : Key) → is_done_entry c x.state x.inst Down e ≡ false) → counts_of c (xs ++ e ∷ []) ≡ counts_of c xs
 unfolding counts_of

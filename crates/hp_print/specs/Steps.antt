@@ -1,9 +1,7 @@
 -- What one event more makes of each part of a tally. This project's own.
-use Rattle.std.specs.Prelude.{ℕ, ◌+◌, ◌-◌, Bool, true, false, ◌&&◌, ◌==◌, if◌then◌else◌, unwrap_or, option_map, Option, Some, None, List, [], ◌∷◌, ◌++◌, slice_set, slice_index_or, slice_get}
-use Rattle.hp_states.specs.declared.section.Dir.{Dir}
-use Rattle.hp_event.specs.declared.event.Key.{Key}
+use Rattle.std.specs.Prelude.{ℕ, ◌-◌, Bool, false, ◌&&◌, if◌then◌else◌, unwrap_or, Option, Some, None, List, [], ◌∷◌, ◌++◌, slice_set, slice_index_or}
 use Rattle.hp_event.specs.declared.event.Op.{Op}
-use Rattle.hp_event.specs.declared.event.Op.TheVariants.{Disable, Enable, Freeze, Thaw, Setup, Remove, Add, Del}
+use Rattle.hp_event.specs.declared.event.Op.TheVariants.{Setup, Remove, Add, Del}
 use Rattle.hp_event.specs.declared.event.How.{How}
 use Rattle.hp_event.specs.declared.event.Answer.{Answer}
 use Rattle.hp_event.specs.declared.event.Answer.TheVariants as answer
@@ -11,9 +9,9 @@ use Rattle.hp_event.specs.declared.event.Event.{Event}
 use Rattle.hp_event.specs.declared.event.Event.TheVariants.{Enter, WalkBegin, Call, WalkEnd, OpEnd, RegBegin, RegEnd}
 use Rattle.hp_model.specs.Lists.{without}
 use Rattle.hp_model.specs.Entries.{is_done}
-use Rattle.hp_model.specs.Calls.{is_called}
 use Rattle.hp_model.specs.Suspend.{is_ok, is_freeze, is_thaw, is_disabling, is_enabling}
-use Rattle.hp_model.specs.Summary.{Kind, is_some_kind, answer_by, is_hook_fault}
+use Rattle.hp_model.specs.Events.{answer_by}
+use Rattle.hp_model.specs.Summary.{Kind, is_some_kind}
 use Rattle.hp_print.specs.declared.keys.KeyCount.{KeyCount}
 use Rattle.hp_print.specs.declared.states.Asked.{Asked}
 use Rattle.hp_print.specs.Counts.{one_more, counted}

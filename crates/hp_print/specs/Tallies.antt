@@ -1,6 +1,5 @@
 -- What a tally of some events is, part by part. This project's own.
 use Rattle.std.specs.Prelude.{◌≡◌, ℕ, ◌<◌, ◌+◌, Option, Some, None, List, [], length, map, slice_index_or}
-use Rattle.hp_states.specs.declared.section.Dir.TheVariants.{Up, Down}
 use Rattle.hp_states.specs.declared.limits.TheConstants.{ONLINE}
 use Rattle.hp_event.specs.declared.event.Key.{Key}
 use Rattle.hp_event.specs.declared.event.Op.{Op}
@@ -14,7 +13,8 @@ use Rattle.hp_model.specs.Suspend.{disabled, frozen}
 use Rattle.hp_model.specs.Registrations.{Registration, registration}
 use Rattle.hp_model.specs.Registered.{Registered, registered, instances}
 use Rattle.hp_model.specs.Calls.{sites}
-use Rattle.hp_model.specs.Summary.{entered, hook_faults, answered_by, ok, refused, fault, stuck, full}
+use Rattle.hp_model.specs.Net.{entered}
+use Rattle.hp_model.specs.Summary.{hook_faults, answered_by, ok, refused, fault, stuck, full}
 use Rattle.hp_print.specs.declared.keys.KeyCount.{KeyCount}
 use Rattle.hp_print.specs.declared.states.Asked.{Asked}
 use Rattle.hp_print.specs.Counts.{AreInOrder}

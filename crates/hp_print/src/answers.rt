@@ -1,7 +1,8 @@
 //! How operations were answered.
 
 ghost use Rattle.std.specs.Prelude.{◌≡◌, Option};
-ghost use Rattle.hp_model.specs.Summary.{answer_by, ok, refused, fault, stuck, full};
+ghost use Rattle.hp_model.specs.Events.{answer_by};
+ghost use Rattle.hp_model.specs.Summary.{ok, refused, fault, stuck, full};
 ghost use Rattle.hp_print.specs.Steps.{answers_after};
 
 use hp_event::{Answer, Event};

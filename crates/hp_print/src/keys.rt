@@ -1,7 +1,7 @@
 //! How often the entries of each key are done.
 
 ghost use Rattle.std.specs.Prelude.{◌≡◌, ◌≤◌, ◌<◌, ◌++◌, ◌∷◌, [], List, OnOk, IfOk, length, vec_len};
-ghost use Rattle.hp_model.specs.Summary.{is_before as is_before_of};
+ghost use Rattle.hp_model.specs.Net.{is_before as is_before_of};
 ghost use Rattle.hp_print.specs.Counts.{AreInOrder, place, with_count, counted, no_count, is_key};
 
 use hp_event::Key;

@@ -39,6 +39,8 @@ pub const MAX_CPUS: u32 = 64;
 pub const MAX_SUBS: u32 = 128;
 /// The most rules of a callback's plan.
 pub const MAX_RULES: u32 = 8;
+/// The highest processor that a rule speaks of.
+pub const MAX_RULE_CPU: u32 = 255;
 /// The most bytes of a subsystem's or an actor's name.
 pub const MAX_NAME_LEN: u32 = 32;
 /// The highest code that a callback answers.

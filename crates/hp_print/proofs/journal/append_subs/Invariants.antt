@@ -1,4 +1,4 @@
-use Rattle.std.proofs.Common.{◌≡◌, ◌++◌, take, map, decimal}
+use Rattle.std.proofs.Common.{◌≡◌, ◌++◌, take}
 use Rattle.std.specs.List.{flat_map}
 use Rattle.hp_model.specs.JournalText.{sub_lines}
 use Rattle.hp_print.proofs.journal.append_subs.Given as goal

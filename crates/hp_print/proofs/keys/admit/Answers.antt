@@ -1,5 +1,4 @@
-use Rattle.std.proofs.Common.{arith, rules, ◌∙◌, sym, ap, ◌≡◌, ◌<◌, ◌≤◌, length, true, false}
-use Rattle.hp_model.specs.Summary.{is_before}
+use Rattle.std.proofs.Common.{arith, rules, ◌∙◌, sym, ap, ◌≡◌, length}
 use Rattle.hp_print.specs.Counts.{place, with_count, no_count}
 use Rattle.std.specs.Prelude.{insert}
 use Rattle.hp_print.proofs.KeyOrder.{there_at, new_between, new_end}

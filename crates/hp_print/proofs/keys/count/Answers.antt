@@ -1,7 +1,4 @@
-use Rattle.std.proofs.Common.{arith, rules, ◌≡◌, refl}
 use Rattle.hp_states.specs.declared.section.Dir.TheVariants.{Up, Down}
-use Rattle.hp_print.specs.declared.keys.KeyCount.{KeyCount}
-use Rattle.hp_print.specs.Counts.{raised}
 use Rattle.hp_print.proofs.KeyOrder.{counted_at}
 use Rattle.hp_print.proofs.keys.count.Goals as goal
 

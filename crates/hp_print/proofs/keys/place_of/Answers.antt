@@ -1,4 +1,4 @@
-use Rattle.std.proofs.Common.{arith, ◌∙◌, sym, ◌≤◌, ◌<◌, ◌+◌, ◌-◌, ◌/◌, length, ℕ}
+use Rattle.std.proofs.Common.{arith, ◌∙◌, sym, ◌<◌, ◌+◌, ◌-◌, ◌/◌, length, ℕ}
 use Rattle.hp_print.proofs.KeyOrder.{place_within, place_above, place_below}
 use Rattle.hp_print.proofs.keys.place_of.Goals as goal
 

@@ -1,4 +1,3 @@
-use Rattle.std.proofs.Common.{rules}
 use Rattle.hp_print.specs.Tallies.{IsTally}
 use Rattle.hp_print.proofs.SummaryText.{tally_same}
 use Rattle.hp_print.proofs.summary_lines.summary.Goals as goal
