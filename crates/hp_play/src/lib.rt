@@ -20,4 +20,8 @@ mod top;
 mod words;
 
 pub use error::{ParseError, ScriptKind, refusal_line};
+#[cfg(test)]
+use reader::parse;
+#[cfg(test)]
+use script::Script;
 pub use top::{NO_MEMORY, hp_main};
