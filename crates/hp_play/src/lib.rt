@@ -15,6 +15,8 @@ mod record;
 mod run;
 mod script;
 #[cfg(test)]
+mod tests;
+#[cfg(test)]
 mod tests_reader;
 mod top;
 mod words;
