@@ -15,9 +15,15 @@ mod record;
 mod run;
 mod script;
 #[cfg(test)]
+mod tests;
+#[cfg(test)]
 mod tests_reader;
 mod top;
 mod words;
 
 pub use error::{ParseError, ScriptKind, refusal_line};
+#[cfg(test)]
+use reader::parse;
+#[cfg(test)]
+use script::Script;
 pub use top::{NO_MEMORY, hp_main};
