@@ -148,14 +148,14 @@ entry_belongs : (op : Op) (e : Event) → is_call e ≡ true → BelongsTo op e
 entry_belongs op (Call seat cpu state inst dir how) h = tt
 entry_belongs op e h = absurd (true≢false (sym h))
 
-abbrev IsOfActor : Option Op → Event → Type 0
+abbrev pub IsOfActor : Option Op → Event → Type 0
 IsOfActor next e = (is_call e ≡ true) ⊎ ((op : Op) × (next ≡ Some op) × BelongsTo op e)
 
 of_op : (next : Option Op) (e : Event) → IsFor (task_of next) e → IsOfActor next e
 of_op None e h = elim h [ ]
 of_op (Some op) e h = inr (op, refl, h)
 
-of_actor : (head : Head) (ops : List Op) (xs : List Event) (k : ℕ) (e : Event) → IsFor (task head (ops ∷ []) xs k) e →
+pub of_actor : (head : Head) (ops : List Op) (xs : List Event) (k : ℕ) (e : Event) → IsFor (task head (ops ∷ []) xs k) e →
     IsOfActor (slice_get ops (answered (length (present head)) xs)) e
 of_actor head ops xs k e h = go (ltb k (length (present head))) refl h
   where

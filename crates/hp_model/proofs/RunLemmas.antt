@@ -19,7 +19,7 @@ use Rattle.hp_model.proofs.Laws.{admits_push, ap_push}
 use Rattle.hp_model.proofs.ListLemmas.{occurs-filter, occurs-numbers}
 use Rattle.hp_model.proofs.HeadlineProof.{lawful_more}
 
-EachAfter-append : (Rule : List Event → Event → Type 0) (before xs ys : List Event) → EachAfter Rule before xs →
+pub EachAfter-append : (Rule : List Event → Event → Type 0) (before xs ys : List Event) → EachAfter Rule before xs →
     EachAfter Rule (before ++ xs) ys → EachAfter Rule before (xs ++ ys)
 EachAfter-append Rule before [] ys h k = rw append-nil at k
 EachAfter-append Rule before (x ∷ xs) ys h k =

@@ -11,3 +11,14 @@ pub mod Answered
 pub mod ReadSteps
 pub mod Playable
 pub mod Refusing
+pub mod WalkRows
+pub mod TieFolds
+pub mod TieLists
+pub mod TieWalk
+pub mod TieCrossing
+pub mod PlaysLaws
+pub mod TieRegistration
+pub mod Placed
+pub mod Seated
+pub mod PlayedRun
+pub mod FormHeads

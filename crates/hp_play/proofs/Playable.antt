@@ -35,7 +35,7 @@ each_other : (P Q : Op → Type 0) (xs : List Op) → ((op : Op) → P op → Q 
 each_other P Q xs f all = All-from_get_or Q xs (Up 0) (λ i inside. f (get_or xs i (Up 0)) (All-get_or P xs i (Up 0) inside all))
 
 setup_playable : (n : ℕ) (op : Op) → IsSetup n op → IsPlayableIn n op
-setup_playable n (Setup state sub form) h = (omega (arith, h.1), h.3, h.4, refl)
+setup_playable n (Setup state sub form) h = (h, refl)
 setup_playable n _ h = absurd h
 
 up_playable : (n : ℕ) (op : Op) → IsUp op → IsPlayableIn n op

@@ -5,5 +5,7 @@ pub mod Parsed
 pub mod Kept
 pub mod Machine
 pub mod Tied
+pub mod Plays
+pub mod Parts
 pub mod Main
 pub mod Stops

@@ -2,14 +2,18 @@
 use Rattle.std.specs.Prelude.{◌≡◌, ℕ, ◌+◌, ◌-◌, ◌<◌, ◌≤◌, Bool, true, false, Option, Some, None, IsSome, IsTrue, List, [], ◌∷◌, ◌++◌, length, slice_get}
 use Rattle.hp_states.specs.declared.limits.TheConstants.{MAX_CPUS, MAX_EVENTS, ONLINE}
 use Rattle.hp_states.specs.declared.plan.Rule.{Rule}
+use Rattle.hp_states.specs.Sections.{is_ap_state, is_dynamic}
 use Rattle.hp_states.specs.Rules.{Site, counts_of, raised, counted_answer}
 use Rattle.hp_event.specs.Story.{Story}
 use Rattle.hp_event.specs.declared.event.Event.{Event}
 use Rattle.hp_event.specs.declared.event.Op.{Op}
 use Rattle.hp_event.specs.declared.event.Op.TheVariants.{Setup, Up}
+use Rattle.hp_model.specs.Events.{is_registration_op}
+use Rattle.hp_model.specs.MapLock.{is_map_op}
 use Rattle.hp_hook.specs.Counted.{faults_after}
 use Rattle.hp_play.specs.declared.due.Due.{Due}
 use Rattle.hp_play.specs.declared.due.Due.TheVariants.{Operation, Adding, Added, Walk, Crossing, Crossed, End}
+use Rattle.hp_play.specs.Form.{IsSetup}
 use Rattle.hp_play.specs.Kept.{Kept}
 
 -- what is kept at a state
@@ -80,9 +84,19 @@ abbrev pub is_in_flight : Due → Bool
 is_in_flight Operation = false
 is_in_flight _ = true
 
--- the operations that the machine plays: a setup of one of the subsystems, with its hook, and an up
+-- whether what comes next is of an operation
+abbrev pub is_of : Op → Due → Bool
+is_of op Operation = true
+is_of op (Adding state cpu) = is_registration_op op
+is_of op (Added state) = is_registration_op op
+is_of op (Walk cpu) = is_map_op op
+is_of op (Crossing cpu state) = is_map_op op
+is_of op (Crossed cpu) = is_map_op op
+is_of op End = is_map_op op
+
+-- the operations that the machine plays: a setup of the form, with its hook, and an up
 abbrev pub IsPlayable : Op → (subs : ℕ) → (hook : Bool) → Type 0
-IsPlayable (Setup state sub form) subs hook = (state ≤ ONLINE) × (1 ≤ sub) × (sub ≤ subs) × IsTrue hook
+IsPlayable (Setup state sub form) subs hook = IsSetup subs (Setup state sub form) × IsTrue hook
 IsPlayable (Up cpu) subs hook = Unit {0}
 IsPlayable _ subs hook = ⊥
 
@@ -104,6 +118,11 @@ IsInRange (Crossing cpu state) cpus places = (cpu < cpus) × (state ≤ ONLINE) 
 IsInRange (Crossed cpu) cpus places = cpu < cpus
 IsInRange End cpus places = Unit {0}
 
+-- the entries of a taken place are made by the processors' own seats, and its setup asked for that state
+abbrev pub IsPlaced : (state : ℕ) → Option Kept → Type 0
+IsPlaced s None = Unit {0}
+IsPlaced s (Some kept) = (is_ap_state s ≡ true) × (is_dynamic s ≡ false)
+
 pub record IsReady (journal : Story) (settled : List ℕ) (places : List (Option Kept)) (due : Due) : Type 0 where
   pub cpus : length settled ≡ journal.head.possible
   pub few_cpus : length settled ≤ MAX_CPUS
@@ -111,3 +130,4 @@ pub record IsReady (journal : Story) (settled : List ℕ) (places : List (Option
   pub in_range : IsInRange due (length settled) places
   pub room : events_left due (length settled) ≤ journal.promised
   pub counted : (s : ℕ) → IsCounted (length journal.events) (place_at places s)
+  pub placed : (s : ℕ) → IsPlaced s (place_at places s)

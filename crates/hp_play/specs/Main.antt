@@ -6,6 +6,8 @@ use Rattle.hp_event.specs.declared.event.Event.{Event}
 use Rattle.hp_event.specs.declared.head.Head.{Head}
 use Rattle.hp_model.specs.JournalText.{journal_text}
 use Rattle.hp_model.specs.Summary.{summary}
+use Rattle.hp_model.specs.Run.{IsRun}
+use Rattle.hp_model.specs.Lawful.{IsLawful}
 use Rattle.hp_play.specs.declared.error.ScriptKind.TheVariants.{NotBuilt}
 use Rattle.hp_play.specs.Refusals.{refusal_line}
 use Rattle.hp_play.specs.Form.{Lines, IsScript, head_of}
@@ -21,11 +23,14 @@ usage_line = codes "usage: hp play|replay|states|report|gen|bench [--seed N] [--
 abbrev pub output : Head → List Event → List ℕ
 output head events = journal_text head events ++ summary head events
 
--- the script that the bytes are, and the journal whose text and summary are written
+-- The script that the bytes are, and the journal whose text and summary are written: it is the one run of the
+-- script's actor, by rounds, and each of its events stands after those before it.
 pub record IsPlayed (hooks : ℕ) (script output_bytes : List ℕ) : Type 0 where
   pub lines : Lines
   pub of_form : IsScript hooks script lines
   pub events : List Event
+  pub run : IsRun (head_of lines) (lines.ops ∷ []) events
+  pub lawful : IsLawful (head_of lines) events
   pub written : output_bytes ≡ output (head_of lines) events
 
 -- the bytes were read: all that there were, or one past the limit

@@ -1,7 +1,7 @@
 -- What the parts of the machine say of the events of its journal: where processors stand, what is registered, who
 -- sits, and what is in flight. This project's own.
-use Rattle.std.specs.Prelude.{◌≡◌, ℕ, ◌+◌, ◌-◌, ◌<◌, ◌≤◌, pos, Bool, true, false, ◌&&◌, ◌==◌, nat_le, Option, Some, None, IfSome, List, [], ◌∷◌, ◌++◌, filter, length, slice_index, All}
-use Rattle.hp_states.specs.declared.limits.TheConstants.{ONLINE}
+use Rattle.std.specs.Prelude.{◌≡◌, ℕ, ◌+◌, ◌-◌, ◌<◌, ◌≤◌, pos, Bool, true, false, ◌&&◌, ◌==◌, nat_le, if◌then◌else◌, Option, Some, None, IfSome, List, [], ◌∷◌, ◌++◌, filter, length, slice_index, All}
+use Rattle.hp_states.specs.declared.limits.TheConstants.{ONLINE, OFFLINE}
 use Rattle.hp_states.specs.declared.section.Dir.TheVariants.{Up}
 use Rattle.hp_states.specs.declared.section.Place.TheVariants as placed
 use Rattle.hp_event.specs.declared.event.Op.{Op}
@@ -176,3 +176,9 @@ pub record IsTied (head : Head) (events : List Event) (stands : List ℕ) (place
   pub kept : (s : ℕ) → IfSome (place_at places s) (IsKept events s)
   pub subs : (s : ℕ) → IfSome (place_at places s) (λ kept. (1 ≤ kept.sub) × (kept.sub ≤ length head.subs))
   pub due_is : IsDue head events places due
+
+-- processor 0 is up, the others are down, and nothing is registered
+pub record IsNew (head : Head) (stands : List ℕ) (places : List (Option Kept)) : Type 0 where
+  pub at_start : (c : ℕ) → c < head.possible → slice_index stands c ≡ (if c == 0 then ONLINE else OFFLINE)
+  pub highest : (c : ℕ) → slice_index stands c ≤ ONLINE
+  pub vacant : (s : ℕ) → place_at places s ≡ None

@@ -1,17 +1,35 @@
 //! The machine: one event a step, made by the seat that it is due from.
+//!
+//! Each function that makes an event keeps the machine tied to its journal (`specs/Tied.antt`): the
+//! event stands after those before it, and what the machine remembers is what the events say.
 
-ghost use Rattle.std.specs.Prelude.{◌≡◌, ℕ, ◌+◌, ◌-◌, ◌*◌, ◌<◌, ◌≤◌, ◌↔◌, Some, None, IfOk, IfSome, IfNone, IsSome, IsTrue, [], length, slice_get, slice_index, slice_set, OnOk, OnErr, is_some, ◌||◌, true, false};
-ghost use Rattle.hp_play.specs.Machine.{IsReady, IsCounted, IsPlayable, events_left, work, is_entry, is_in_flight, place_at, pushed, called, fresh};
+ghost use Rattle.std.specs.Prelude.{◌≡◌, ℕ, ◌+◌, ◌-◌, ◌<◌, ◌≤◌, ◌↔◌, ◌||◌, Some, None, true, false, IfOk, IfSome, IfNone, IsSome, IsTrue, OnOk, OnErr, List, [], ◌∷◌, is_some, length, slice_get, slice_index, slice_set};
 ghost use Rattle.hp_states.specs.Rules.{site_at};
+ghost use Rattle.hp_states.specs.Sections.{name_of_builtin};
+ghost use Rattle.hp_event.specs.declared.event.Op.{Op as AnOp};
+ghost use Rattle.hp_model.specs.Events.{is_registration_op};
+ghost use Rattle.hp_model.specs.MapLock.{is_map_op};
+ghost use Rattle.hp_model.specs.Subsystems.{names_sub};
+ghost use Rattle.hp_model.specs.Refusals.{refusal};
+ghost use Rattle.hp_play.specs.Form.{IsSetup, plain};
+ghost use Rattle.hp_play.specs.Machine.{IsReady, IsCounted, IsPlayable, events_left, is_entry, is_in_flight, is_of, place_at, pushed, called, fresh};
+ghost use Rattle.hp_play.specs.Tied.{IsPlainHead, IsNew};
+ghost use Rattle.hp_model.specs.Heads.{IsHead};
+ghost use Rattle.hp_model.specs.Run.{admissions};
+ghost use Rattle.hp_play.specs.Parts.{Ready, Tied, Keeps, GoesOn, work_of};
 
-use crate::due::Due;
-use crate::record::Record;
 use hp_event::{Answer, Event, Head, How, Journal, JournalError, NoMemory, Op, Role};
 use hp_hook::{Hook, Rack};
 use hp_states::{
     Dir, EBUSY, EINVAL, HookPlan, MAX_CPUS, MAX_EVENTS, OFFLINE, ONLINE, builtin_name,
 };
 use std::alloc::Global;
+
+use crate::due::Due;
+use crate::record::Record;
+
+/// The most events of an operation: an `up` makes one for each state and four besides.
+pub const OPERATION_ROOM: u32 = ONLINE + 4;
 
 /// A machine of present processors: where each stands, what is registered, and the journal.
 #[derive(Drop)]
@@ -26,8 +44,9 @@ impl<H: Hook> Machine<H> {
     /// The machine of this head: processor 0 is up, the others are down, nothing is registered.
     pub fn new(alloc: Global, head: Head) -> Result<Machine<H>, NoMemory>
         requires { head.possible ≤ MAX_CPUS }
-        ensures ready { IfOk result (λ m. IsReady m.journal m.settled.items m.places.items m.due) }
+        ensures ready { IfOk result (λ m. Ready m) }
         ensures journal { IfOk result (λ m. m.journal ≡ record { head = head; events = []; promised = 0 }) }
+        ensures new { IfOk result (λ m. IsNew head m.settled.items m.places.items) }
         ensures due { IfOk result (λ m. m.due ≡ Due.Operation) }
     {
         let mut settled = Vec::new(alloc);
@@ -48,10 +67,16 @@ impl<H: Hook> Machine<H> {
 
     /// Admits the processors' seats, in rising number, and then the client's.
     pub fn admit_all(&mut self) -> Result<(), NoMemory>
-        requires ready { IsReady self.old.journal self.old.settled.items self.old.places.items self.old.due }
+        requires ready { Ready self.old }
+        requires head { IsHead self.old.journal.head }
+        requires plain { IsPlainHead self.old.journal.head }
+        requires new { IsNew self.old.journal.head self.old.settled.items self.old.places.items }
         requires free { self.old.due ≡ Due.Operation }
-        requires new { (self.old.journal.events ≡ []) × (self.old.journal.promised ≡ 0) }
-        ensures ready { IfOk result (λ _. IsReady self.new.journal self.new.settled.items self.new.places.items self.new.due) }
+        requires empty { (self.old.journal.events ≡ []) × (self.old.journal.promised ≡ 0) }
+        ensures ready { IfOk result (λ _. Ready self.new) }
+        ensures tied { IfOk result (λ _. Tied self.new) }
+        ensures events { (ops : List AnOp) → IfOk result (λ _. self.new.journal.events
+            ≡ admissions self.old.journal.head (ops ∷ [])) }
         ensures free { IfOk result (λ _. self.new.due ≡ Due.Operation) }
         ensures head { self.new.journal.head ≡ self.old.journal.head }
         ensures cpus { length self.new.settled.items ≡ length self.old.settled.items }
@@ -80,11 +105,20 @@ impl<H: Hook> Machine<H> {
         self.settled.len() as u32
     }
 
+    /// Where a processor stands.
+    fn state(&self, cpu: u32) -> u32
+        requires { cpu < length self.now.settled.items }
+        ensures { result ≡ slice_index self.now.settled.items cpu }
+    {
+        self.settled[cpu as usize]
+    }
+
     /// Whether something is registered at a state.
     fn is_registered(&self, state: u32) -> bool
         requires states { length self.now.places.items ≡ ONLINE + 1 }
         requires state { state ≤ ONLINE }
-        ensures { IsTrue result ↔ IsSome (place_at self.now.places.items state) }
+        ensures yes { IsTrue result → IsSome (place_at self.now.places.items state) }
+        ensures no { result ≡ false → place_at self.now.places.items state ≡ None }
     {
         self.places[state as usize].is_some()
     }
@@ -94,6 +128,8 @@ impl<H: Hook> Machine<H> {
         requires states { length self.now.places.items ≡ ONLINE + 1 }
         requires at { at ≤ ONLINE }
         ensures found { IfSome result (λ s. (at < s) × (s ≤ ONLINE) × IsSome (place_at self.now.places.items s)) }
+        ensures first { IfSome result (λ s. (t : ℕ) → at < t → t < s → place_at self.now.places.items t ≡ None) }
+        ensures none { IfNone result ((t : ℕ) → at < t → t ≤ ONLINE → place_at self.now.places.items t ≡ None) }
     {
         for state in at + 1..ONLINE + 1 {
             if self.is_registered(state) {
@@ -106,7 +142,11 @@ impl<H: Hook> Machine<H> {
     /// The first processor from one on that stands at a state or above it, if there is one.
     fn next_cpu(&self, state: u32, from: u32) -> Option<u32>
         requires cpus { length self.now.settled.items ≤ MAX_CPUS }
-        ensures found { IfSome result (λ c. (from ≤ c) × (c < length self.now.settled.items)) }
+        ensures found { IfSome result (λ c. (from ≤ c) × (c < length self.now.settled.items)
+            × (state ≤ slice_index self.now.settled.items c)) }
+        ensures first { IfSome result (λ c. (d : ℕ) → from ≤ d → d < c → slice_index self.now.settled.items d < state) }
+        ensures none { IfNone result ((d : ℕ) → from ≤ d → d < length self.now.settled.items →
+            slice_index self.now.settled.items d < state) }
     {
         for cpu in from..self.client() {
             if self.settled[cpu as usize] >= state {
@@ -116,7 +156,8 @@ impl<H: Hook> Machine<H> {
         None
     }
 
-    /// Makes one entry: calls the hook of a state for a processor, upwards, and writes it down.
+    /// Makes one entry: calls the hook of a state for a processor, upwards, and writes it down. The
+    /// hook has no rules, so it answers 0.
     fn call(&mut self, cpu: u32, state: u32)
         requires states { length self.old.places.items ≡ ONLINE + 1 }
         requires state { state ≤ ONLINE }
@@ -147,55 +188,81 @@ impl<H: Hook> Machine<H> {
         });
     }
 
-    /// A turn of the processor's seat from which an entry is due: it makes the entry. Where none is due, no seat of a
-    /// processor does anything.
+    /// The entry of the registration on a processor, made by the processor's own seat.
+    fn add(&mut self, state: u32, cpu: u32)
+        requires ready { Ready self.old }
+        requires tied { Tied self.old }
+        requires due { self.old.due ≡ Due.Adding state cpu }
+        ensures ready { Ready self.new }
+        ensures tied { Tied self.new }
+        ensures keeps { Keeps self.old self.new }
+        ensures goes { (op : AnOp) → GoesOn op false self.old self.new }
+        ensures of { (op : AnOp) → is_of op self.old.due ≡ true → is_of op self.new.due ≡ true }
+        ensures flight { is_in_flight self.new.due ≡ true }
+        ensures less { work_of self.new < work_of self.old }
+    {
+        self.call(cpu, state);
+        self.due = match self.next_cpu(state, cpu + 1) {
+            Some(next) => Due::Adding { state, cpu: next },
+            None => Due::Added { state },
+        };
+    }
+
+    /// The entry of the walk at a state, made by the processor's own seat.
+    fn cross(&mut self, cpu: u32, state: u32)
+        requires ready { Ready self.old }
+        requires tied { Tied self.old }
+        requires due { self.old.due ≡ Due.Crossing cpu state }
+        ensures ready { Ready self.new }
+        ensures tied { Tied self.new }
+        ensures keeps { Keeps self.old self.new }
+        ensures goes { (op : AnOp) → GoesOn op false self.old self.new }
+        ensures of { (op : AnOp) → is_of op self.old.due ≡ true → is_of op self.new.due ≡ true }
+        ensures flight { is_in_flight self.new.due ≡ true }
+        ensures less { work_of self.new < work_of self.old }
+    {
+        self.call(cpu, state);
+        self.due = match self.next_state(state) {
+            Some(next) => Due::Crossing { cpu, state: next },
+            None => Due::Crossed { cpu },
+        };
+    }
+
+    /// A turn of the processor's seat from which an entry is due: it makes the entry. Where none is
+    /// due, no seat of a processor does anything.
     fn serve(&mut self)
-        requires ready { IsReady self.old.journal self.old.settled.items self.old.places.items self.old.due }
-        ensures ready { IsReady self.new.journal self.new.settled.items self.new.places.items self.new.due }
-        ensures head { self.new.journal.head ≡ self.old.journal.head }
-        ensures total { length self.new.journal.events + self.new.journal.promised
-            ≡ length self.old.journal.events + self.old.journal.promised }
-        ensures cpus { length self.new.settled.items ≡ length self.old.settled.items }
+        requires ready { Ready self.old }
+        requires tied { Tied self.old }
+        ensures ready { Ready self.new }
+        ensures tied { Tied self.new }
+        ensures keeps { Keeps self.old self.new }
+        ensures goes { (op : AnOp) → GoesOn op false self.old self.new }
+        ensures of { (op : AnOp) → is_of op self.old.due ≡ true → is_of op self.new.due ≡ true }
         ensures idle { is_entry self.old.due ≡ false → self.new ≡ self.old }
-        ensures less { is_entry self.old.due ≡ true → work self.new.due (length self.new.settled.items) < work self.old.due (length self.old.settled.items) }
+        ensures less { is_entry self.old.due ≡ true → work_of self.new < work_of self.old }
         ensures flight { is_in_flight self.new.due ≡ is_in_flight self.old.due }
     {
         match self.due {
-            Due::Adding { state, cpu } => {
-                self.call(cpu, state);
-                self.due = match self.next_cpu(state, cpu + 1) {
-                    Some(next) => Due::Adding { state, cpu: next },
-                    None => Due::Added { state },
-                };
-            }
-            Due::Crossing { cpu, state } => {
-                self.call(cpu, state);
-                self.due = match self.next_state(state) {
-                    Some(next) => Due::Crossing { cpu, state: next },
-                    None => Due::Crossed { cpu },
-                };
-            }
+            Due::Adding { state, cpu } => self.add(state, cpu),
+            Due::Crossing { cpu, state } => self.cross(cpu, state),
             _ => {}
         }
     }
 
-    /// Where a processor stands.
-    fn state(&self, cpu: u32) -> u32
-        requires { cpu < length self.now.settled.items }
-        ensures { result ≡ slice_index self.now.settled.items cpu }
-    {
-        self.settled[cpu as usize]
-    }
-
-    /// The operation is refused, which one event says.
+    /// Refuses an operation, which one event says.
     fn refuse(&mut self, errno: u32, op: Op)
-        requires ready { IsReady self.old.journal self.old.settled.items self.old.places.items self.old.due }
-        requires promised { events_left self.old.due (length self.old.settled.items) < self.old.journal.promised }
-        ensures ready { IsReady self.new.journal self.new.settled.items self.new.places.items self.new.due }
-        ensures same { (self.new.settled ≡ self.old.settled) × (self.new.due ≡ self.old.due) }
-        ensures head { self.new.journal.head ≡ self.old.journal.head }
-        ensures total { length self.new.journal.events + self.new.journal.promised
-            ≡ length self.old.journal.events + self.old.journal.promised }
+        requires ready { Ready self.old }
+        requires tied { Tied self.old }
+        requires free { self.old.due ≡ Due.Operation }
+        requires promised { 0 < self.old.journal.promised }
+        requires names_sub { names_sub self.old.journal.head op ≡ true }
+        requires refused { refusal self.old.journal.head self.old.journal.events self.old.journal.head.possible op
+            ≡ Some errno }
+        ensures ready { Ready self.new }
+        ensures tied { Tied self.new }
+        ensures keeps { Keeps self.old self.new }
+        ensures goes { GoesOn op true self.old self.new }
+        ensures free { self.new.due ≡ Due.Operation }
     {
         let seat = self.client();
         self.journal.push(Event::Refused { seat, errno, op });
@@ -216,8 +283,8 @@ impl<H: Hook> Machine<H> {
         requires states { length self.old.places.items ≡ ONLINE + 1 }
         requires state { state ≤ ONLINE }
         requires sub { (1 ≤ sub) × (sub ≤ length self.old.journal.head.subs) }
-        ensures places { IfSome (slice_get self.old.journal.head.subs (sub - 1)) (λ s.
-            self.new.places.items ≡ slice_set self.old.places.items state (Some (fresh sub s.plan))) }
+        requires plain { IsPlainHead self.old.journal.head }
+        ensures places { self.new.places.items ≡ slice_set self.old.places.items state (Some (fresh sub [])) }
         ensures settled { self.new.settled ≡ self.old.settled }
         ensures due { self.new.due ≡ self.old.due }
         ensures journal { self.new.journal ≡ self.old.journal }
@@ -226,83 +293,92 @@ impl<H: Hook> Machine<H> {
         self.places[state as usize] = Some(Record { sub, hook });
     }
 
-    /// Begins a setup, which takes the hook: or refuses it where the state has a name. Whether the operation is answered.
-    fn begin_setup(&mut self, op: Op, state: u32, sub: u32, hook: &mut Option<H>) -> bool
-        requires ready { IsReady self.old.journal self.old.settled.items self.old.places.items self.old.due }
-        requires promised { MAX_CPUS + 2 ≤ self.old.journal.promised }
+    /// Begins a setup of a state that has no name.
+    fn begin_registration(&mut self, op: Op, state: u32, sub: u32, hook: H)
+        requires ready { Ready self.old }
+        requires tied { Tied self.old }
         requires free { self.old.due ≡ Due.Operation }
-        requires state { state ≤ ONLINE }
-        requires sub { (1 ≤ sub) × (sub ≤ length self.old.journal.head.subs) }
-        requires hook { IsSome hook.old }
-        ensures ready { IsReady self.new.journal self.new.settled.items self.new.places.items self.new.due }
-        ensures head { self.new.journal.head ≡ self.old.journal.head }
-        ensures total { length self.new.journal.events + self.new.journal.promised
-            ≡ length self.old.journal.events + self.old.journal.promised }
-        ensures cpus { length self.new.settled.items ≡ length self.old.settled.items }
-        ensures answered { IsTrue result → self.new.due ≡ Due.Operation }
-        ensures begun { result ≡ false → is_in_flight self.new.due ≡ true }
-        ensures less { result ≡ false → work self.new.due (length self.new.settled.items) < work self.old.due (length self.old.settled.items) }
+        requires promised { MAX_CPUS + 2 ≤ self.old.journal.promised }
+        requires op { (op ≡ AnOp.Setup state sub plain) × IsSetup (length self.old.journal.head.subs) op }
+        requires vacant { place_at self.old.places.items state ≡ None }
+        requires unnamed { name_of_builtin state ≡ None }
+        ensures ready { Ready self.new }
+        ensures tied { Tied self.new }
+        ensures keeps { Keeps self.old self.new }
+        ensures goes { GoesOn op false self.old self.new }
+        ensures of { is_of op self.new.due ≡ true }
+        ensures flight { is_in_flight self.new.due ≡ true }
+        ensures less { work_of self.new < work_of self.old }
     {
-        if self.is_registered(state) || builtin_name(state).is_some() {
-            self.refuse(EBUSY, op);
-            return true;
-        }
-        let Some(taken) = hook.take() else {
-            unreachable!()
-        };
-        self.register(state, sub, taken);
+        self.register(state, sub, hook);
         let seat = self.client();
         self.journal.push(Event::RegBegin { seat, state, op });
         self.due = match self.next_cpu(state, 0) {
             Some(cpu) => Due::Adding { state, cpu },
             None => Due::Added { state },
         };
-        false
     }
 
-    /// Begins to bring a processor up, or refuses it where it isn't possible. Whether the operation is answered.
-    fn enter_up(&mut self, cpu: u32) -> bool
-        requires ready { IsReady self.old.journal self.old.settled.items self.old.places.items self.old.due }
-        requires promised { ONLINE + 4 ≤ self.old.journal.promised }
-        requires free { self.old.due ≡ Due.Operation }
-        ensures ready { IsReady self.new.journal self.new.settled.items self.new.places.items self.new.due }
-        ensures head { self.new.journal.head ≡ self.old.journal.head }
-        ensures total { length self.new.journal.events + self.new.journal.promised
-            ≡ length self.old.journal.events + self.old.journal.promised }
-        ensures cpus { length self.new.settled.items ≡ length self.old.settled.items }
-        ensures answered { IsTrue result → self.new.due ≡ Due.Operation }
-        ensures begun { result ≡ false → is_in_flight self.new.due ≡ true }
-        ensures less { result ≡ false → work self.new.due (length self.new.settled.items) < work self.old.due (length self.old.settled.items) }
+    /// Ends the registration: the operation is answered.
+    fn end_registration(&mut self, state: u32, op: Op)
+        requires ready { Ready self.old }
+        requires tied { Tied self.old }
+        requires due { self.old.due ≡ Due.Added state }
+        requires op { is_registration_op op ≡ true }
+        ensures ready { Ready self.new }
+        ensures tied { Tied self.new }
+        ensures keeps { Keeps self.old self.new }
+        ensures goes { GoesOn op true self.old self.new }
+        ensures free { self.new.due ≡ Due.Operation }
     {
-        let op = Op::Up(cpu);
         let seat = self.client();
-        if cpu >= seat {
-            self.refuse(EINVAL, op);
-            return true;
-        }
-        self.journal.push(Event::Enter { seat, op });
-        self.due = Due::Walk { cpu };
-        false
+        self.journal.push(Event::RegEnd {
+            seat,
+            answer: Answer::Ok(0),
+        });
+        self.due = Due::Operation;
     }
 
-    /// Begins the walk of a processor, or ends the operation where the processor is up. Whether it is answered.
-    fn begin_walk(&mut self, cpu: u32) -> bool
-        requires ready { IsReady self.old.journal self.old.settled.items self.old.places.items self.old.due }
+    /// Begins to bring a possible processor up.
+    fn enter(&mut self, cpu: u32)
+        requires ready { Ready self.old }
+        requires tied { Tied self.old }
+        requires free { self.old.due ≡ Due.Operation }
+        requires promised { OPERATION_ROOM ≤ self.old.journal.promised }
+        requires cpu { cpu < length self.old.settled.items }
+        ensures ready { Ready self.new }
+        ensures tied { Tied self.new }
+        ensures keeps { Keeps self.old self.new }
+        ensures goes { GoesOn (AnOp.Up cpu) false self.old self.new }
+        ensures of { is_of (AnOp.Up cpu) self.new.due ≡ true }
+        ensures flight { is_in_flight self.new.due ≡ true }
+        ensures less { work_of self.new < work_of self.old }
+    {
+        let seat = self.client();
+        self.journal.push(Event::Enter {
+            seat,
+            op: Op::Up(cpu),
+        });
+        self.due = Due::Walk { cpu };
+    }
+
+    /// Begins the walk of a processor that isn't up.
+    fn begin_walk(&mut self, cpu: u32, op: Op)
+        requires ready { Ready self.old }
+        requires tied { Tied self.old }
         requires due { self.old.due ≡ Due.Walk cpu }
-        ensures ready { IsReady self.new.journal self.new.settled.items self.new.places.items self.new.due }
-        ensures head { self.new.journal.head ≡ self.old.journal.head }
-        ensures total { length self.new.journal.events + self.new.journal.promised
-            ≡ length self.old.journal.events + self.old.journal.promised }
-        ensures cpus { length self.new.settled.items ≡ length self.old.settled.items }
-        ensures answered { IsTrue result → self.new.due ≡ Due.Operation }
-        ensures begun { result ≡ false → is_in_flight self.new.due ≡ true }
-        ensures less { result ≡ false → work self.new.due (length self.new.settled.items) < work self.old.due (length self.old.settled.items) }
+        requires op { is_map_op op ≡ true }
+        requires low { slice_index self.old.settled.items cpu < ONLINE }
+        ensures ready { Ready self.new }
+        ensures tied { Tied self.new }
+        ensures keeps { Keeps self.old self.new }
+        ensures goes { GoesOn op false self.old self.new }
+        ensures of { is_of op self.new.due ≡ true }
+        ensures flight { is_in_flight self.new.due ≡ true }
+        ensures less { work_of self.new < work_of self.old }
     {
         let seat = self.client();
         let from = self.state(cpu);
-        if from >= ONLINE {
-            return self.end();
-        }
         self.journal.push(Event::WalkBegin {
             seat,
             cpu,
@@ -313,19 +389,21 @@ impl<H: Hook> Machine<H> {
             Some(state) => Due::Crossing { cpu, state },
             None => Due::Crossed { cpu },
         };
-        false
     }
 
     /// Ends the walk of a processor, which is up then.
-    fn end_walk(&mut self, cpu: u32)
-        requires ready { IsReady self.old.journal self.old.settled.items self.old.places.items self.old.due }
+    fn end_walk(&mut self, cpu: u32, op: Op)
+        requires ready { Ready self.old }
+        requires tied { Tied self.old }
         requires due { self.old.due ≡ Due.Crossed cpu }
-        ensures ready { IsReady self.new.journal self.new.settled.items self.new.places.items self.new.due }
-        ensures head { self.new.journal.head ≡ self.old.journal.head }
-        ensures total { length self.new.journal.events + self.new.journal.promised
-            ≡ length self.old.journal.events + self.old.journal.promised }
-        ensures cpus { length self.new.settled.items ≡ length self.old.settled.items }
-        ensures due { self.new.due ≡ Due.End }
+        requires op { is_map_op op ≡ true }
+        ensures ready { Ready self.new }
+        ensures tied { Tied self.new }
+        ensures keeps { Keeps self.old self.new }
+        ensures goes { GoesOn op false self.old self.new }
+        ensures of { is_of op self.new.due ≡ true }
+        ensures flight { is_in_flight self.new.due ≡ true }
+        ensures less { work_of self.new < work_of self.old }
     {
         let seat = self.client();
         self.journal.push(Event::WalkEnd {
@@ -337,16 +415,18 @@ impl<H: Hook> Machine<H> {
         self.due = Due::End;
     }
 
-    /// Ends the operation: it is answered.
-    fn end(&mut self) -> bool
-        requires ready { IsReady self.old.journal self.old.settled.items self.old.places.items self.old.due }
-        requires promised { 0 < self.old.journal.promised }
-        ensures ready { IsReady self.new.journal self.new.settled.items self.new.places.items self.new.due }
-        ensures head { self.new.journal.head ≡ self.old.journal.head }
-        ensures total { length self.new.journal.events + self.new.journal.promised
-            ≡ length self.old.journal.events + self.old.journal.promised }
-        ensures cpus { length self.new.settled.items ≡ length self.old.settled.items }
-        ensures answered { IsTrue result × (self.new.due ≡ Due.Operation) }
+    /// Ends the operation of a processor that is up already: it is answered.
+    fn end_at_top(&mut self, cpu: u32, op: Op)
+        requires ready { Ready self.old }
+        requires tied { Tied self.old }
+        requires due { self.old.due ≡ Due.Walk cpu }
+        requires op { is_map_op op ≡ true }
+        requires high { ONLINE ≤ slice_index self.old.settled.items cpu }
+        ensures ready { Ready self.new }
+        ensures tied { Tied self.new }
+        ensures keeps { Keeps self.old self.new }
+        ensures goes { GoesOn op true self.old self.new }
+        ensures free { self.new.due ≡ Due.Operation }
     {
         let seat = self.client();
         self.journal.push(Event::OpEnd {
@@ -354,100 +434,204 @@ impl<H: Hook> Machine<H> {
             answer: Answer::Ok(0),
         });
         self.due = Due::Operation;
-        true
     }
 
-    /// Ends the registration: the operation is answered.
-    fn end_registration(&mut self, state: u32) -> bool
-        requires ready { IsReady self.old.journal self.old.settled.items self.old.places.items self.old.due }
-        requires due { self.old.due ≡ Due.Added state }
-        ensures ready { IsReady self.new.journal self.new.settled.items self.new.places.items self.new.due }
-        ensures head { self.new.journal.head ≡ self.old.journal.head }
-        ensures total { length self.new.journal.events + self.new.journal.promised
-            ≡ length self.old.journal.events + self.old.journal.promised }
-        ensures cpus { length self.new.settled.items ≡ length self.old.settled.items }
-        ensures answered { IsTrue result × (self.new.due ≡ Due.Operation) }
+    /// Ends the operation after its walk: it is answered.
+    fn end(&mut self, op: Op)
+        requires ready { Ready self.old }
+        requires tied { Tied self.old }
+        requires due { self.old.due ≡ Due.End }
+        requires op { is_map_op op ≡ true }
+        ensures ready { Ready self.new }
+        ensures tied { Tied self.new }
+        ensures keeps { Keeps self.old self.new }
+        ensures goes { GoesOn op true self.old self.new }
+        ensures free { self.new.due ≡ Due.Operation }
     {
         let seat = self.client();
-        self.journal.push(Event::RegEnd {
+        self.journal.push(Event::OpEnd {
             seat,
             answer: Answer::Ok(0),
         });
         self.due = Due::Operation;
-        true
     }
 
-    /// A turn of the client: the event of its operation that comes next, if it is the client's. Whether the operation is
-    /// answered.
-    fn turn(&mut self, op: Op, hook: &mut Option<H>) -> bool
-        requires ready { IsReady self.old.journal self.old.settled.items self.old.places.items self.old.due }
-        requires op { IsPlayable op (length self.old.journal.head.subs) (is_some hook.old || is_in_flight self.old.due) }
-        requires promised { work self.old.due (length self.old.settled.items) ≤ self.old.journal.promised }
-        ensures ready { IsReady self.new.journal self.new.settled.items self.new.places.items self.new.due }
-        ensures head { self.new.journal.head ≡ self.old.journal.head }
-        ensures total { length self.new.journal.events + self.new.journal.promised
-            ≡ length self.old.journal.events + self.old.journal.promised }
-        ensures cpus { length self.new.settled.items ≡ length self.old.settled.items }
-        ensures idle { is_entry self.old.due ≡ true → (self.new ≡ self.old) × (result ≡ false) }
-        ensures answered { IsTrue result → self.new.due ≡ Due.Operation }
-        ensures begun { result ≡ false → is_in_flight self.new.due ≡ true }
-        ensures less { result ≡ false → is_entry self.old.due ≡ false → work self.new.due (length self.new.settled.items) < work self.old.due (length self.old.settled.items) }
+    /// Begins a setup, which takes the hook, or refuses it where the state is registered or has a
+    /// name. Whether the operation is answered.
+    fn begin_setup(&mut self, op: Op, state: u32, sub: u32, hook: &mut Option<H>) -> bool
+        requires ready { Ready self.old }
+        requires tied { Tied self.old }
+        requires free { self.old.due ≡ Due.Operation }
+        requires promised { OPERATION_ROOM ≤ self.old.journal.promised }
+        requires op { (op ≡ AnOp.Setup state sub plain) × IsSetup (length self.old.journal.head.subs) op }
+        requires hook { IsSome hook.old }
+        ensures ready { Ready self.new }
+        ensures tied { Tied self.new }
+        ensures keeps { Keeps self.old self.new }
+        ensures goes { GoesOn op result self.old self.new }
+        ensures of { is_of op self.new.due ≡ true }
+        ensures free { IsTrue result → self.new.due ≡ Due.Operation }
+        ensures flight { result ≡ false → is_in_flight self.new.due ≡ true }
+        ensures less { result ≡ false → work_of self.new < work_of self.old }
     {
-        match self.due {
-            Due::Operation => match op {
-                Op::Setup { state, sub, .. } => self.begin_setup(op, state, sub, hook),
-                Op::Up(cpu) => self.enter_up(cpu),
-                _ => unreachable!(),
-            },
-            Due::Adding { .. } | Due::Crossing { .. } => false,
-            Due::Added { state } => self.end_registration(state),
-            Due::Walk { cpu } => self.begin_walk(cpu),
-            Due::Crossed { cpu } => {
-                self.end_walk(cpu);
-                false
-            }
-            Due::End => self.end(),
+        if self.is_registered(state) || builtin_name(state).is_some() {
+            self.refuse(EBUSY, op);
+            return true;
+        }
+        match hook.take() {
+            Some(taken) => self.begin_registration(op, state, sub, taken),
+            None => unreachable!(),
+        }
+        false
+    }
+
+    /// Begins to bring a processor up, or refuses it where it isn't possible. Whether the operation
+    /// is answered.
+    fn begin_up(&mut self, cpu: u32) -> bool
+        requires ready { Ready self.old }
+        requires tied { Tied self.old }
+        requires free { self.old.due ≡ Due.Operation }
+        requires promised { OPERATION_ROOM ≤ self.old.journal.promised }
+        ensures ready { Ready self.new }
+        ensures tied { Tied self.new }
+        ensures keeps { Keeps self.old self.new }
+        ensures goes { GoesOn (AnOp.Up cpu) result self.old self.new }
+        ensures of { is_of (AnOp.Up cpu) self.new.due ≡ true }
+        ensures free { IsTrue result → self.new.due ≡ Due.Operation }
+        ensures flight { result ≡ false → is_in_flight self.new.due ≡ true }
+        ensures less { result ≡ false → work_of self.new < work_of self.old }
+    {
+        if cpu >= self.client() {
+            self.refuse(EINVAL, Op::Up(cpu));
+            return true;
+        }
+        self.enter(cpu);
+        false
+    }
+
+    /// The client's first turn in an operation: it begins, or it is refused. Whether it is answered.
+    fn begin(&mut self, op: Op, hook: &mut Option<H>) -> bool
+        requires ready { Ready self.old }
+        requires tied { Tied self.old }
+        requires free { self.old.due ≡ Due.Operation }
+        requires promised { OPERATION_ROOM ≤ self.old.journal.promised }
+        requires op { IsPlayable op (length self.old.journal.head.subs) (is_some hook.old) }
+        ensures ready { Ready self.new }
+        ensures tied { Tied self.new }
+        ensures keeps { Keeps self.old self.new }
+        ensures goes { GoesOn op result self.old self.new }
+        ensures of { is_of op self.new.due ≡ true }
+        ensures free { IsTrue result → self.new.due ≡ Due.Operation }
+        ensures flight { result ≡ false → is_in_flight self.new.due ≡ true }
+        ensures less { result ≡ false → work_of self.new < work_of self.old }
+    {
+        match op {
+            Op::Setup { state, sub, .. } => self.begin_setup(op, state, sub, hook),
+            Op::Up(cpu) => self.begin_up(cpu),
+            _ => unreachable!(),
         }
     }
 
-    /// One round: a turn for each seat, the processors' first. Only the seat from which the next event is due makes one,
-    /// so that the turns of the others are no steps. Whether the operation is answered.
-    fn round(&mut self, op: Op, hook: &mut Option<H>) -> bool
-        requires ready { IsReady self.old.journal self.old.settled.items self.old.places.items self.old.due }
-        requires op { IsPlayable op (length self.old.journal.head.subs) (is_some hook.old || is_in_flight self.old.due) }
-        requires promised { work self.old.due (length self.old.settled.items) ≤ self.old.journal.promised }
-        ensures ready { IsReady self.new.journal self.new.settled.items self.new.places.items self.new.due }
-        ensures head { self.new.journal.head ≡ self.old.journal.head }
-        ensures total { length self.new.journal.events + self.new.journal.promised
-            ≡ length self.old.journal.events + self.old.journal.promised }
-        ensures cpus { length self.new.settled.items ≡ length self.old.settled.items }
-        ensures answered { IsTrue result → self.new.due ≡ Due.Operation }
-        ensures begun { result ≡ false → is_in_flight self.new.due ≡ true }
-        ensures less { result ≡ false →
-            work self.new.due (length self.new.settled.items) < work self.old.due (length self.old.settled.items) }
+    /// The client's turn in a walk's operation that may begin its walk, or end. Whether it is answered.
+    fn walk_or_end(&mut self, cpu: u32, op: Op) -> bool
+        requires ready { Ready self.old }
+        requires tied { Tied self.old }
+        requires due { self.old.due ≡ Due.Walk cpu }
+        requires op { is_map_op op ≡ true }
+        ensures ready { Ready self.new }
+        ensures tied { Tied self.new }
+        ensures keeps { Keeps self.old self.new }
+        ensures goes { GoesOn op result self.old self.new }
+        ensures of { is_of op self.new.due ≡ true }
+        ensures free { IsTrue result → self.new.due ≡ Due.Operation }
+        ensures flight { result ≡ false → is_in_flight self.new.due ≡ true }
+        ensures less { result ≡ false → work_of self.new < work_of self.old }
+    {
+        if self.state(cpu) < ONLINE {
+            self.begin_walk(cpu, op);
+            return false;
+        }
+        self.end_at_top(cpu, op);
+        true
+    }
+
+    /// The client's turn in an operation that has begun: it makes its event, unless an entry is due.
+    /// Whether the operation is answered.
+    fn turn(&mut self, op: Op) -> bool
+        requires ready { Ready self.old }
+        requires tied { Tied self.old }
+        requires flight { is_in_flight self.old.due ≡ true }
+        requires of { is_of op self.old.due ≡ true }
+        ensures ready { Ready self.new }
+        ensures tied { Tied self.new }
+        ensures keeps { Keeps self.old self.new }
+        ensures goes { GoesOn op result self.old self.new }
+        ensures of { is_of op self.new.due ≡ true }
+        ensures idle { is_entry self.old.due ≡ true → self.new ≡ self.old }
+        ensures free { IsTrue result → self.new.due ≡ Due.Operation }
+        ensures flight { result ≡ false → is_in_flight self.new.due ≡ true }
+        ensures less { result ≡ false → is_entry self.old.due ≡ false → work_of self.new < work_of self.old }
+    {
+        match self.due {
+            Due::Operation => unreachable!(),
+            Due::Adding { .. } | Due::Crossing { .. } => false,
+            Due::Added { state } => {
+                self.end_registration(state, op);
+                true
+            }
+            Due::Walk { cpu } => self.walk_or_end(cpu, op),
+            Due::Crossed { cpu } => {
+                self.end_walk(cpu, op);
+                false
+            }
+            Due::End => {
+                self.end(op);
+                true
+            }
+        }
+    }
+
+    /// One round of an operation that has begun: a turn for each seat, the processors' first. Only
+    /// the seat from which the next event is due makes one, so that the turns of the others are no
+    /// steps. Whether the operation is answered.
+    fn round(&mut self, op: Op) -> bool
+        requires ready { Ready self.old }
+        requires tied { Tied self.old }
+        requires flight { is_in_flight self.old.due ≡ true }
+        requires of { is_of op self.old.due ≡ true }
+        ensures ready { Ready self.new }
+        ensures tied { Tied self.new }
+        ensures keeps { Keeps self.old self.new }
+        ensures goes { GoesOn op result self.old self.new }
+        ensures of { is_of op self.new.due ≡ true }
+        ensures free { IsTrue result → self.new.due ≡ Due.Operation }
+        ensures flight { result ≡ false → is_in_flight self.new.due ≡ true }
+        ensures less { result ≡ false → work_of self.new < work_of self.old }
     {
         self.serve();
-        self.turn(op, hook)
+        self.turn(op)
     }
 
     /// Plays an operation until it is answered. A setup that isn't answered Ok leaves its hook.
     pub fn operate(&mut self, op: Op, hook: &mut Option<H>) -> Result<(), NoMemory>
-        requires ready { IsReady self.old.journal self.old.settled.items self.old.places.items self.old.due }
-        requires op { IsPlayable op (length self.old.journal.head.subs) (is_some hook.old) }
+        requires ready { Ready self.old }
+        requires tied { Tied self.old }
         requires free { self.old.due ≡ Due.Operation }
-        requires room { length self.old.journal.events + (ONLINE + 4) ≤ MAX_EVENTS }
+        requires op { IsPlayable op (length self.old.journal.head.subs) (is_some hook.old) }
+        requires room { length self.old.journal.events + OPERATION_ROOM ≤ MAX_EVENTS }
         requires none { self.old.journal.promised ≡ 0 }
-        ensures ready { IfOk result (λ _. IsReady self.new.journal self.new.settled.items self.new.places.items self.new.due) }
+        ensures ready { IfOk result (λ _. Ready self.new) }
+        ensures tied { IfOk result (λ _. Tied self.new) }
         ensures free { IfOk result (λ _. self.new.due ≡ Due.Operation) }
         ensures none { IfOk result (λ _. self.new.journal.promised ≡ 0) }
         ensures head { self.new.journal.head ≡ self.old.journal.head }
-        ensures cpus { length self.new.settled.items ≡ length self.old.settled.items }
-        ensures few { IfOk result (λ _. length self.new.journal.events ≤ length self.old.journal.events + (ONLINE + 4)) }
+        ensures goes { IfOk result (λ _. GoesOn op true self.old self.new) }
+        ensures few { IfOk result (λ _. length self.new.journal.events ≤ length self.old.journal.events + OPERATION_ROOM) }
     {
-        self.promise(ONLINE + 4)?;
-        let mut answered = self.round(op, hook);
+        self.promise(OPERATION_ROOM)?;
+        let mut answered = self.begin(op, hook);
         while !answered {
-            answered = self.round(op, hook);
+            answered = self.round(op);
         }
         self.give_back();
         Ok(())
@@ -455,13 +639,14 @@ impl<H: Hook> Machine<H> {
 
     /// Promises room to so many events more, which the journal has.
     pub fn promise(&mut self, events: u32) -> Result<(), NoMemory>
-        requires ready { IsReady self.old.journal self.old.settled.items self.old.places.items self.old.due }
+        requires ready { Ready self.old }
         requires room { length self.old.journal.events + self.old.journal.promised + events ≤ MAX_EVENTS }
-        ensures ready { IsReady self.new.journal self.new.settled.items self.new.places.items self.new.due }
+        ensures ready { Ready self.new }
         ensures ok { OnOk result (self.new.journal
             ≡ record self.old.journal { promised = self.old.journal.promised + events }) }
         ensures err { OnErr result (self.new.journal ≡ self.old.journal) }
-        ensures same { (self.new.settled ≡ self.old.settled) × (self.new.due ≡ self.old.due) }
+        ensures same { (self.new.settled ≡ self.old.settled) × (self.new.places ≡ self.old.places)
+            × (self.new.due ≡ self.old.due) }
     {
         match self.journal.reserve(events) {
             Ok(()) => Ok(()),
@@ -472,11 +657,12 @@ impl<H: Hook> Machine<H> {
 
     /// Gives back the room that was promised and not used.
     pub fn give_back(&mut self)
-        requires ready { IsReady self.old.journal self.old.settled.items self.old.places.items self.old.due }
+        requires ready { Ready self.old }
         requires free { is_in_flight self.old.due ≡ false }
-        ensures ready { IsReady self.new.journal self.new.settled.items self.new.places.items self.new.due }
+        ensures ready { Ready self.new }
         ensures journal { self.new.journal ≡ record self.old.journal { promised = 0 } }
-        ensures same { (self.new.settled ≡ self.old.settled) × (self.new.due ≡ self.old.due) }
+        ensures same { (self.new.settled ≡ self.old.settled) × (self.new.places ≡ self.old.places)
+            × (self.new.due ≡ self.old.due) }
     {
         self.journal.give_back(self.journal.promised());
     }

@@ -1,7 +1,11 @@
 //! The run of a script.
 
-ghost use Rattle.std.specs.Prelude.{◌≡◌, ℕ, ◌+◌, ◌*◌, ◌<◌, ◌≤◌, IfOk, All, length, count_by, vec_len, is_some, true, if◌then◌else◌};
+ghost use Rattle.std.specs.Prelude.{◌≡◌, ℕ, ◌+◌, ◌*◌, ◌<◌, ◌≤◌, IfOk, All, [], ◌∷◌, length, count_by, vec_len, is_some, true, if◌then◌else◌};
+ghost use Rattle.hp_model.specs.Heads.{IsHead};
+ghost use Rattle.hp_model.specs.Lawful.{IsLawful};
+ghost use Rattle.hp_model.specs.Run.{IsRun};
 ghost use Rattle.hp_play.specs.Machine.{IsPlayableIn, is_setup};
+ghost use Rattle.hp_play.specs.Tied.{IsPlainHead};
 
 use crate::limits::MAX_PLAYED;
 use crate::machine::Machine;
@@ -32,7 +36,11 @@ pub fn play<H: Hook>(alloc: Global, script: Script, rack: &mut Rack<H>) -> Resul
     requires ops { vec_len script.ops ≤ MAX_PLAYED }
     requires playable { All (IsPlayableIn (length script.head.subs)) script.ops.items }
     requires hooks { count_by is_setup script.ops.items ≤ length rack.old.hooks.items }
+    requires head { IsHead script.head }
+    requires plain { IsPlainHead script.head }
     ensures head { IfOk result (λ journal. journal.head ≡ script.head) }
+    ensures run { IfOk result (λ journal. IsRun script.head (script.ops.items ∷ []) journal.events) }
+    ensures lawful { IfOk result (λ journal. IsLawful script.head journal.events) }
 {
     let Script { head, ops } = script;
     let mut machine = Machine::new(alloc, head)?;

@@ -1,17 +1,37 @@
--- Each operation is playable, and the hooks are enough for the setups that are left.
-use Rattle.std.proofs.Common.{◌≡◌, ◌+◌, ◌*◌, ◌≤◌, ap, ◌∙◌, length, arith}
+-- Each operation is playable and its hook is there; together they are the actor's run.
+use Rattle.std.proofs.Common.{rules, ◌≡◌, ◌+◌, ◌*◌, ◌≤◌, ap, ◌∙◌, [], ◌∷◌, length, arith}
+use Rattle.hp_event.specs.Story.{Story}
 use Rattle.hp_event.specs.declared.event.Op.{Op}
+use Rattle.hp_model.specs.Lawful.{IsLawful}
+use Rattle.hp_model.specs.Run.{IsRun}
 use Rattle.hp_play.proofs.Playable.{playable_at, setups_left}
+use Rattle.hp_play.proofs.PlayedRun.{played_first, played_more, played_all, op_at, kept_on}
 use Rattle.hp_play.proofs.run.play.Goals as goal
 
 pub operate-requires-clause-op : goal.operate-requires-clause-op
 operate-requires-clause-op g c =
     playable_at _ _ _ _ _ _ _ c.loop-op.invariant.items (ap (λ h. length h.subs) c.loop-op.invariant.head) c.requires.playable c.loop-op-test.true c.hook_for-hook.ensures.setup
 
+pub loop-op-init : goal.loop-op-init
+loop-op-init g c =
+    record {
+      ready = c.in_ok-admit_all.ensures.ready;
+      tied = c.in_ok-admit_all.ensures.tied;
+      played = played_first _ _ _ c.requires.plain.all_present (rw c.in_ok-machine.ensures.journal at c.in_ok-admit_all.ensures.events c.args.script.ops.items);
+      free = search rules;
+      none = search rules;
+      head = search rules;
+      few = search rules;
+      items = search rules;
+      hooks = search rules;
+    }
+
 pub loop-op-preserved : goal.loop-op-preserved
 loop-op-preserved g c =
     record {
       ready = c.in_ok-operate.ensures.ready;
+      tied = c.in_ok-operate.ensures.tied;
+      played = played_more _ _ _ _ _ _ c.loop-op.invariant.played (rw c.as_slice-op-items.ensures.value (op_at _ _ _ (rw c.as_slice-op-items.ensures.value at c.loop-op-test.true))) (rw c.loop-op.invariant.head at c.in_ok-operate.ensures.goes);
       free = c.in_ok-operate.ensures.free;
       none = c.in_ok-operate.ensures.none;
       head = c.in_ok-operate.ensures.head ∙ c.loop-op.invariant.head;
@@ -19,3 +39,15 @@ loop-op-preserved g c =
       items = c.loop-op.invariant.items;
       hooks = setups_left _ _ _ _ _ c.loop-op-test.true c.loop-op.invariant.hooks c.hook_for-hook.ensures.rest;
     }
+
+pub returns-clause-run : goal.returns-clause-run
+returns-clause-run g c =
+    let last : c.loop-op.op-index ≡ length c.args.script.ops.items =
+    omega (arith, c.loop-op-test.false, c.loop-op.auto.op-index-end, ap length c.as_slice-op-items.ensures.value) in
+    kept_on (λ (j : Story). IsRun c.args.script.head (c.args.script.ops.items ∷ []) j.events) _ _ c.retire.ensures
+    (played_all _ _ _ _ _ (rw last at c.loop-op.invariant.played) (rw (c.loop-op.invariant.head, c.loop-op.invariant.free) at c.loop-op.invariant.tied))
+
+pub returns-clause-lawful : goal.returns-clause-lawful
+returns-clause-lawful g c =
+    kept_on (λ (j : Story). IsLawful c.args.script.head j.events) _ _ c.retire.ensures
+    (rw c.loop-op.invariant.head at c.loop-op.invariant.tied.lawful)

@@ -1,13 +1,17 @@
 use Rattle.std.proofs.Common.{◌≡◌, ◌+◌, ◌*◌, ◌≤◌, length, drop, count_by}
 use Rattle.hp_states.specs.declared.limits.TheConstants.{MAX_CPUS, ONLINE}
 use Rattle.hp_play.specs.declared.due.Due.TheVariants.{Operation}
-use Rattle.hp_play.specs.Machine.{IsReady, is_setup}
+use Rattle.hp_play.specs.Machine.{is_setup}
+use Rattle.hp_play.specs.Parts.{Ready, Tied}
+use Rattle.hp_play.specs.Plays.{HasPlayed}
 use Rattle.hp_play.proofs.run.play.Given as goal
 
 abbrev pub invariant-loop-op : goal.invariant-loop-op
 invariant-loop-op g l =
     record {
-      ready : IsReady l.machine.journal l.machine.settled.items l.machine.places.items l.machine.due;
+      ready : Ready l.machine;
+      tied : Tied l.machine;
+      played : HasPlayed l.fn.script.head l.fn.script.ops.items l.op-index l.machine.journal.events;
       free : l.machine.due ≡ Operation;
       none : l.machine.journal.promised ≡ 0;
       head : l.machine.journal.head ≡ l.fn.script.head;

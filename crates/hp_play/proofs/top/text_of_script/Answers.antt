@@ -7,6 +7,10 @@ use Rattle.hp_play.specs.Machine.{IsPlayableIn, is_setup}
 use Rattle.hp_play.specs.Parsed.{Reads}
 use Rattle.hp_play.specs.Form.{head_of}
 use Rattle.hp_play.proofs.Playable.{form_playable, form_hooks}
+use Rattle.hp_event.specs.declared.head.Head.{Head}
+use Rattle.hp_model.specs.Heads.{IsHead}
+use Rattle.hp_play.specs.Tied.{IsPlainHead}
+use Rattle.hp_play.proofs.FormHeads.{head_is, plain_head}
 use Rattle.hp_play.proofs.top.text_of_script.Goals as goal
 
 playable : (hooks : ℕ) (bytes : List ℕ) (script : Script) → Reads hooks bytes script
@@ -28,3 +32,13 @@ play-requires-clause-playable g c = playable _ _ _ c.in-Ok.ensures.found
 pub play-requires-clause-hooks : goal.play-requires-clause-hooks
 play-requires-clause-hooks g c =
     let some = enough _ _ _ c.in-Ok.ensures.found in omega (arith, some, c.min-hooks.ensures, c.len.ensures)
+
+pub play-requires-clause-head : goal.play-requires-clause-head
+play-requires-clause-head g c =
+    let reads = c.in-Ok.ensures.found in
+    let P : Head → Type 0 = λ h. IsHead h in subst P (sym reads.says.head) (head_is _ reads.lines reads.of_form.form)
+
+pub play-requires-clause-plain : goal.play-requires-clause-plain
+play-requires-clause-plain g c =
+    let reads = c.in-Ok.ensures.found in
+    let P : Head → Type 0 = λ h. IsPlainHead h in subst P (sym reads.says.head) (plain_head _ reads.lines reads.of_form.form)

@@ -1,4 +1,6 @@
 use Rattle.std.proofs.Common.{◌≡◌, ◌+◌, length}
+use Rattle.hp_model.specs.Lists.{numbers}
+use Rattle.hp_model.specs.Run.{ap_admits}
 use Rattle.hp_play.specs.Machine.{IsReady}
 use Rattle.hp_play.proofs.machine.Machine.admit_all.Given as goal
 
@@ -10,5 +12,7 @@ invariant-loop-cpu g l =
       head : l.self.journal.head ≡ l.fn.self.journal.head;
       promised : l.self.journal.promised + l.cpu ≡ l.client + 1;
       settled_same : l.self.settled ≡ l.fn.self.settled;
+      places_same : l.self.places ≡ l.fn.self.places;
+      events : l.self.journal.events ≡ ap_admits 0 (numbers l.cpu);
       total : length l.self.journal.events ≡ l.cpu;
     }

@@ -1,4 +1,4 @@
-use Rattle.std.proofs.Common.{◌≡◌, ℕ, ◌+◌, ◌<◌, None, length, slice_index, if◌then◌else◌}
+use Rattle.std.proofs.Common.{◌≡◌, ℕ, ◌+◌, ◌<◌, ◌≤◌, None, length, slice_index, if◌then◌else◌}
 use Rattle.std.specs.Prelude.{◌==◌}
 use Rattle.hp_states.specs.declared.limits.TheConstants.{ONLINE, OFFLINE}
 use Rattle.hp_play.specs.Machine.{place_at}
@@ -9,6 +9,7 @@ invariant-loop-cpu g l =
     record {
       count : length l.settled.items ≡ l.cpu;
       settled : (c : ℕ) → c < l.cpu → slice_index l.settled.items c ≡ (if c == 0 then ONLINE else OFFLINE);
+      highest : (c : ℕ) → slice_index l.settled.items c ≤ ONLINE;
     }
 
 abbrev pub invariant-loop : goal.invariant-loop

@@ -1,0 +1,110 @@
+-- One event more: the notions that only the machine asks for, and what its events leave as it was.
+use Rattle.std.proofs.Common.{◌≡◌, ℕ, ◌+◌, Bool, true, false, ◌&&◌, cond, eqb, Option, Some, None, List, [], ◌∷◌, ◌++◌, refl, sym, ◌∙◌}
+use Rattle.std.specs.List.{count_by}
+use Rattle.std.proofs.lemmas.List.Sums.{fold-append}
+use Rattle.hp_event.specs.declared.event.How.TheVariants.{RanOk}
+use Rattle.hp_event.specs.declared.event.Op.TheVariants.{Up}
+use Rattle.hp_event.specs.declared.event.Role.{Role}
+use Rattle.hp_event.specs.declared.head.Head.{Head}
+use Rattle.hp_event.specs.declared.event.Event.{Event}
+use Rattle.hp_event.specs.declared.event.Event.TheVariants.{Admit, Leave, Enter, Refused, WalkBegin, Call, WalkEnd, OpEnd, RegBegin, RegEnd, ReadLock, ReadUnlock, Armed, Shown, Wakeup}
+use Rattle.hp_model.specs.Armed.{armed, armed_step}
+use Rattle.hp_model.specs.Suspend.{disabled, disabled_step}
+use Rattle.hp_model.specs.Sequence.{answers, answers_step}
+use Rattle.hp_model.specs.Calls.{sites, sites_step}
+use Rattle.hp_model.specs.Events.{is_answer, seat_of, answered}
+use Rattle.hp_model.specs.MapLock.{Operation, operation}
+use Rattle.hp_model.specs.Readers.{readers, readers_step, reading_since, reading_since_step}
+use Rattle.hp_model.specs.Seats.{role_of, role_step, ap_seat, ap_step}
+use Rattle.hp_model.proofs.Laws.{over_from_push, readers_push, reading_since_push, role_push, ap_push}
+use Rattle.hp_play.specs.Tied.{IsQuiet, IsSeated}
+
+pub armed_push : (c : ℕ) (xs : List Event) (e : Event) → armed c (xs ++ e ∷ []) ≡ armed_step c (armed c xs) xs e
+unfolding armed
+armed_push c xs e = over_from_push (armed_step c) None [] xs e
+
+pub disabled_push : (xs : List Event) (e : Event) → disabled (xs ++ e ∷ []) ≡ disabled_step (disabled xs) xs e
+unfolding disabled
+disabled_push xs e = over_from_push disabled_step 0 [] xs e
+
+pub answers_push : (xs : List Event) (e : Event) → answers (xs ++ e ∷ []) ≡ answers_step (answers xs) xs e
+unfolding answers
+answers_push xs e = over_from_push answers_step [] [] xs e
+
+pub sites_push : (s : ℕ) (xs : List Event) (e : Event) → sites s (xs ++ e ∷ []) ≡ sites_step s (sites s xs) xs e
+unfolding sites
+sites_push s xs e = over_from_push (sites_step s) [] [] xs e
+
+count_by-push : (p : Event → Bool) (xs : List Event) (e : Event) →
+    ◌≡◌ {A = ℕ} (count_by p (xs ++ e ∷ [])) (count_by p xs + cond (p e) 1 0)
+count_by-push p xs e = fold-append (λ (n : ℕ) (x : Event). n + cond (p x) 1 0) 0 xs (e ∷ [])
+
+-- an answer of the seat is one more
+pub answered_push : (k : ℕ) (xs : List Event) (e : Event) →
+    ◌≡◌ {A = ℕ} (answered k (xs ++ e ∷ [])) (answered k xs + cond (is_answer e && eqb (seat_of e) k) 1 0)
+answered_push k xs e = count_by-push (λ x. is_answer x && eqb (seat_of x) k) xs e
+
+-- the events that the machine makes once its seats are in
+abbrev pub IsOurs : List Event → Event → Type 0
+IsOurs es (Enter seat op) = (c : ℕ) × (op ≡ Up c)
+IsOurs es (Refused seat errno op) = Unit {0}
+IsOurs es (WalkBegin seat cpu from to) = Unit {0}
+IsOurs es (Call seat cpu state inst dir how) = how ≡ RanOk
+IsOurs es (WalkEnd seat cpu answer) = Unit {0}
+IsOurs es (OpEnd seat answer) = (o : Operation) × (c : ℕ) × (operation es ≡ Some o) × (o.op ≡ Up c)
+IsOurs es (RegBegin seat state op) = Unit {0}
+IsOurs es (RegEnd seat answer) = Unit {0}
+IsOurs es _ = ⊥
+
+readers_same : (es : List Event) (e : Event) (found : List ℕ) → IsOurs es e → readers_step found es e ≡ found
+readers_same es (ReadLock seat) found h = elim h [ ]
+readers_same es (ReadUnlock seat) found h = elim h [ ]
+readers_same es e found h = refl
+
+reading_same : (k : ℕ) (es : List Event) (e : Event) (found : Option (List Event)) → IsOurs es e →
+    reading_since_step k found es e ≡ found
+reading_same k es (ReadLock seat) found h = elim h [ ]
+reading_same k es (ReadUnlock seat) found h = elim h [ ]
+reading_same k es e found h = refl
+
+disabled_same : (es : List Event) (e : Event) (n : ℕ) → IsOurs es e → disabled_step n es e ≡ n
+disabled_same es (Enter seat op) n h = rw h.1 refl
+disabled_same es (OpEnd seat answer) n h = rw (h.2, h.3) refl
+disabled_same es e n h = refl
+
+disarmed_ran : (b : Bool) (found : Option ℕ) → cond b found found ≡ found
+disarmed_ran true found = refl
+disarmed_ran false found = refl
+
+armed_same : (c : ℕ) (es : List Event) (e : Event) (found : Option ℕ) → IsOurs es e → armed_step c found es e ≡ found
+armed_same c es (Armed seat cpu value) found h = elim h [ ]
+armed_same c es (Call seat cpu state inst dir how) found h = rw h (disarmed_ran (eqb cpu c) found)
+armed_same c es e found h = refl
+
+role_same : (k : ℕ) (es : List Event) (e : Event) (found : Option Role) → IsOurs es e → role_step k found es e ≡ found
+role_same k es (Admit seat role) found h = elim h [ ]
+role_same k es (Leave seat) found h = elim h [ ]
+role_same k es e found h = refl
+
+ap_same : (c : ℕ) (es : List Event) (e : Event) (found : Option ℕ) → IsOurs es e → ap_step c found es e ≡ found
+ap_same c es (Admit seat role) found h = elim h [ ]
+ap_same c es (Leave seat) found h = elim h [ ]
+ap_same c es e found h = refl
+
+-- nobody begins to read, hotplug stays enabled, no processor is armed
+pub quiet_more : (es : List Event) (e : Event) → IsOurs es e → IsQuiet es → IsQuiet (es ++ e ∷ [])
+quiet_more es e ours quiet = record {
+  no_readers = readers_push es e ∙ readers_same es e (readers es) ours ∙ quiet.no_readers;
+  none_reads = λ k. reading_since_push k es e ∙ reading_same k es e (reading_since k es) ours ∙ quiet.none_reads k;
+  enabled = disabled_push es e ∙ disabled_same es e (disabled es) ours ∙ quiet.enabled;
+  disarmed = λ c. armed_push c es e ∙ armed_same c es e (armed c es) ours ∙ quiet.disarmed c;
+}
+
+-- who sits stays
+pub seated_more : (head : Head) (es : List Event) (e : Event) → IsOurs es e → IsSeated head es → IsSeated head (es ++ e ∷ [])
+seated_more head es e ours seated = record {
+  aps = λ c below. ap_push c es e ∙ ap_same c es e (ap_seat c es) ours ∙ seated.aps c below;
+  client = role_push head.possible es e ∙ role_same head.possible es e (role_of head.possible es) ours ∙ seated.client;
+  one_client = λ k is.
+      seated.one_client k (sym (role_push k es e ∙ role_same k es e (role_of k es) ours) ∙ is);
+}

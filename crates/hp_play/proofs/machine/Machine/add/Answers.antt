@@ -1,0 +1,47 @@
+-- The entry of the registration stands, and leaves the machine tied to its journal.
+use Rattle.std.proofs.Common.{◌≡◌, ℕ, ◌<◌, ◌+◌, ◌≤◌, false, ◌++◌, ◌∷◌, [], List, length, slice_index, refl, sym, ap, ◌∙◌, inl, inr, arith}
+use Rattle.hp_states.specs.declared.section.Dir.TheVariants.{Up}
+use Rattle.hp_event.specs.declared.event.How.TheVariants.{RanOk}
+use Rattle.hp_event.specs.declared.event.Event.TheVariants.{Call}
+use Rattle.hp_play.proofs.Placed.{ap_at, kept_at}
+use Rattle.hp_play.proofs.TieRegistration.{adding_called, adding_called_last}
+use Rattle.hp_play.proofs.TieRegistration.{call_stands}
+use Rattle.hp_play.proofs.PlaysLaws.{plays_one}
+use Rattle.hp_play.proofs.machine.Machine.add.Goals as goal
+use Rattle.hp_play.proofs.machine.Machine.add.Goals.{in-Some, in-None}
+
+pub returns-clause-tied : goal.returns-clause-tied
+returns-clause-tied g c =
+    let range = rw c.requires.due at c.requires.ready.in_range in
+    let there : c.args.cpu < c.args.self.now.journal.head.possible = omega (arith, range.0, c.requires.ready.cpus) in
+    let tied = rw c.requires.due at c.requires.tied in
+    let kept = kept_at _ range.2 in
+    let ap_is = ap_at c.args.state _ range.2 (c.requires.ready.placed c.args.state) in
+    let written = rw kept.1 at c.call.ensures.called in
+    elim c.match-next_cpu.branch [
+        in-Some w ↦
+            let found = rw c.call.ensures.same.0 at w.in-Some.ensures.found in
+            let first = rw c.call.ensures.same.0 at w.in-Some.ensures.first in
+            let after : c.args.cpu < w.in-Some.next = omega (arith, found.0) in
+            let next_there : w.in-Some.next < c.args.self.now.journal.head.possible = omega (arith, found.1, c.requires.ready.cpus) in
+            rw (w.self-is, c.call.ensures.event, c.call.ensures.same.0)
+            (adding_called _ _ _ _ _ c.args.state c.args.cpu w.in-Some.next kept.0 tied c.requires.ready.states there range.1 ap_is
+            kept.1 written after next_there found.2
+            (λ d above below. first d (omega (arith, above)) below)).1
+        | in-None w ↦
+            let none = rw c.call.ensures.same.0 at w.in-None.ensures.none in
+            rw (w.self-is, c.call.ensures.event, c.call.ensures.same.0)
+            (adding_called_last _ _ _ _ _ c.args.state c.args.cpu kept.0 tied c.requires.ready.states there range.1 ap_is kept.1 written
+            (λ d above below. none d (omega (arith, above)) (omega (arith, below, c.requires.ready.cpus)))).1
+    ]
+
+pub returns-clause-goes : goal.returns-clause-goes
+returns-clause-goes g c =
+    let range = rw c.requires.due at c.requires.ready.in_range in
+    let there : c.args.cpu < c.args.self.now.journal.head.possible = omega (arith, range.0, c.requires.ready.cpus) in
+    let tied = rw c.requires.due at c.requires.tied in
+    let ap_is = ap_at c.args.state _ range.2 (c.requires.ready.placed c.args.state) in
+    λ op.
+    plays_one _ _ _ _ _ _ op false (Call c.args.cpu c.args.cpu c.args.state 0 Up RanOk) tied
+    (inr (call_stands _ _ _ _ c.args.state c.args.cpu tied there ap_is)) (inl (there, refl)) refl
+    (ap (λ j. j.events) c.call.ensures.event)
