@@ -22,3 +22,4 @@ pub mod Placed
 pub mod Seated
 pub mod PlayedRun
 pub mod FormHeads
+pub mod RackLaws

@@ -16,9 +16,11 @@ use Rattle.hp_model.specs.Processors.{present}
 use Rattle.hp_model.specs.Events.{is_call, answered, BelongsTo}
 use Rattle.hp_model.specs.Walks.{Walk, walk}
 use Rattle.hp_model.specs.Registrations.{Registration, registration}
-use Rattle.hp_model.specs.Lawful.{Stands}
+use Rattle.hp_model.specs.Lawful.{Stands, IsLawful}
 use Rattle.hp_model.specs.Run.{ap_admits, admissions, CanTake, all_answered, IsRun}
 use Rattle.hp_model.specs.Steps.{IsStep}
+use Rattle.hp_model.proofs.HeadlineProof.{headline_of_front}
+use Rattle.hp_model.proofs.KeyLaw.{keys_at_rest}
 use Rattle.hp_model.proofs.InFlight.{walk_none}
 use Rattle.hp_model.proofs.OneActor.{of_actor, IsOfActor}
 use Rattle.hp_model.proofs.Rounds.{steps_make_run}
@@ -26,6 +28,7 @@ use Rattle.hp_model.proofs.RunLemmas.{EachAfter-append}
 use Rattle.hp_play.specs.Kept.{Kept}
 use Rattle.hp_play.specs.declared.due.Due.TheVariants.{Operation as Idle}
 use Rattle.hp_play.specs.Tied.{IsTied, IsPlainHead, IsIdle}
+use Rattle.hp_play.specs.Played.{IsJournalOf}
 use Rattle.hp_play.specs.Plays.{Plays, HasPlayed}
 use Rattle.hp_play.proofs.PlaysLaws.{seats_are}
 use Rattle.hp_play.proofs.Seated.{admissions_are}
@@ -88,9 +91,9 @@ still head ops es k e idle all take =
     go (inr b) = no_op b.0 (ap (slice_get ops) all ∙ past_end ops) b.1
 
 -- all operations were answered: the run is finished
-pub played_all : (head : Head) (ops : List Op) (events : List Event) (stands : List ℕ) (places : List (Option Kept)) →
+finished_run : (head : Head) (ops : List Op) (events : List Event) (stands : List ℕ) (places : List (Option Kept)) →
     HasPlayed head ops (length ops) events → IsTied head events stands places Idle → IsRun head (ops ∷ []) events
-played_all head ops events stands places h t =
+finished_run head ops events stands places h t =
     let seats = seats_are head t.plain in
     let start : List Event = admissions head (ops ∷ []) in
     let all : answered (length (present head)) events ≡ length ops = ap (λ k. answered k events) seats ∙ h.count_is in
@@ -104,6 +107,19 @@ played_all head ops events stands places h t =
   where
     at_most : (n : ℕ) → leb n n ≡ true
     at_most n = grind (arith, nat_tests)
+
+-- that run is a lawful journal, which has the headline, and at its end every processor is at rest
+pub played_all : (head : Head) (ops : List Op) (events : List Event) (stands : List ℕ) (places : List (Option Kept)) →
+    HasPlayed head ops (length ops) events → IsTied head events stands places Idle → IsJournalOf head ops events
+played_all head ops events stands places h t =
+    record {
+      run = finished_run head ops events stands places h t;
+      lawful = t.lawful;
+      headline = λ front rest parts.
+          let P : List Event → Type 0 = λ es. IsLawful head es in
+          headline_of_front head front rest (subst P (sym parts) t.lawful);
+      keys = λ cpu. keys_at_rest head events cpu t.lawful (walk_none events (rw t.due_is.no_walk refl) cpu) t.due_is.no_registration;
+    }
 
 -- the operation at a place of the list
 pub op_at : (ops : List Op) (i : ℕ) (d : Op) → i < length ops → slice_get ops i ≡ Some (get_or ops i d)

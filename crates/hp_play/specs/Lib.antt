@@ -9,3 +9,5 @@ pub mod Plays
 pub mod Parts
 pub mod Main
 pub mod Stops
+pub mod Racked
+pub mod Played

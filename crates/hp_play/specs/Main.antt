@@ -1,15 +1,15 @@
 -- What the program answers: a status, and what it writes. This project's own.
 use Rattle.std.specs.Prelude.{◌≡◌, ℕ, ◌+◌, ◌<◌, ◌≤◌, ◌⊎◌, Option, Some, None, IfSome, List, [], ◌∷◌, ◌++◌, take, length, codes}
 use Rattle.std.specs.Io.KnownBytes.{prepend_known, append_known, IsAtEnd}
-use Rattle.hp_states.specs.declared.limits.TheConstants.{MAX_SCRIPT_BYTES}
+use Rattle.hp_states.specs.declared.limits.TheConstants.{MAX_SCRIPT_BYTES, ONLINE}
 use Rattle.hp_event.specs.declared.event.Event.{Event}
 use Rattle.hp_event.specs.declared.head.Head.{Head}
 use Rattle.hp_model.specs.JournalText.{journal_text}
 use Rattle.hp_model.specs.Summary.{summary}
-use Rattle.hp_model.specs.Run.{IsRun}
-use Rattle.hp_model.specs.Lawful.{IsLawful}
 use Rattle.hp_play.specs.declared.error.ScriptKind.TheVariants.{NotBuilt}
 use Rattle.hp_play.specs.Refusals.{refusal_line}
+use Rattle.hp_play.specs.Played.{IsJournalOf}
+use Rattle.hp_play.specs.Racked.{EndsWith, calls_below}
 use Rattle.hp_play.specs.Form.{Lines, IsScript, head_of}
 
 -- the one word of the command
@@ -23,14 +23,14 @@ usage_line = codes "usage: hp play|replay|states|report|gen|bench [--seed N] [--
 abbrev pub output : Head → List Event → List ℕ
 output head events = journal_text head events ++ summary head events
 
--- The script that the bytes are, and the journal whose text and summary are written: it is the one run of the
--- script's actor, by rounds, and each of its events stands after those before it.
-pub record IsPlayed (hooks : ℕ) (script output_bytes : List ℕ) : Type 0 where
+-- The script that the bytes are, the journal of it whose text and summary are written, and how often the last hooks of
+-- the rack were called: those of the registered states, in rising number.
+pub record IsPlayed (hooks : ℕ) (made : List ℕ) (script output_bytes : List ℕ) : Type 0 where
   pub lines : Lines
   pub of_form : IsScript hooks script lines
   pub events : List Event
-  pub run : IsRun (head_of lines) (lines.ops ∷ []) events
-  pub lawful : IsLawful (head_of lines) events
+  pub journal : IsJournalOf (head_of lines) lines.ops events
+  pub rack : EndsWith made (calls_below (head_of lines) events (ONLINE + 1))
   pub written : output_bytes ≡ output (head_of lines) events
 
 -- the bytes were read: all that there were, or one past the limit
@@ -57,11 +57,11 @@ pub record IsRefusal (words : List (List ℕ)) (hooks : ℕ) (left now : Option 
   pub line : bytes ≡ refusal_line 0 NotBuilt
 
 -- The text and the summary of the script's journal answer a script.
-pub record IsDone (words : List (List ℕ)) (hooks : ℕ) (left now : Option (List ℕ)) (bytes : List ℕ) : Type 0 where
+pub record IsDone (words : List (List ℕ)) (hooks : ℕ) (made : List ℕ) (left now : Option (List ℕ)) (bytes : List ℕ) : Type 0 where
   pub command : IsPlay words
   pub script : List ℕ
   pub read : WasRead left now script
-  pub played : IsPlayed hooks script bytes
+  pub played : IsPlayed hooks made script bytes
 
 pub data Answer : Type 0 where
   done : Answer
@@ -69,24 +69,24 @@ pub data Answer : Type 0 where
   refusal : Answer
 
 -- what is to be written, where no write fails
-abbrev pub IsAnswer : Answer → (words : List (List ℕ)) (hooks : ℕ) (left now : Option (List ℕ)) (bytes : List ℕ) → Type 0
-IsAnswer done words hooks left now bytes = IsDone words hooks left now bytes
-IsAnswer usage words hooks left now bytes = IsUsage words left now bytes
-IsAnswer refusal words hooks left now bytes = IsRefusal words hooks left now bytes
+abbrev pub IsAnswer : Answer → (words : List (List ℕ)) (hooks : ℕ) (made : List ℕ) (left now : Option (List ℕ)) (bytes : List ℕ) → Type 0
+IsAnswer done words hooks made left now bytes = IsDone words hooks made left now bytes
+IsAnswer usage words hooks made left now bytes = IsUsage words left now bytes
+IsAnswer refusal words hooks made left now bytes = IsRefusal words hooks left now bytes
 
 -- the answer is what the sink took
 pub record Writes
-    (answer : Answer) (words : List (List ℕ)) (hooks : ℕ) (left now taken taken_now : Option (List ℕ)) : Type 0
+    (answer : Answer) (words : List (List ℕ)) (hooks : ℕ) (made : List ℕ) (left now taken taken_now : Option (List ℕ)) : Type 0
   where
     pub bytes : List ℕ
-    pub is_answer : IsAnswer answer words hooks left now bytes
+    pub is_answer : IsAnswer answer words hooks made left now bytes
     pub all : taken_now ≡ append_known taken bytes
 
 -- the first bytes of some answer are what the sink took, and not all of them
-pub record WritesPart (words : List (List ℕ)) (hooks : ℕ) (left now taken taken_now : Option (List ℕ)) : Type 0 where
+pub record WritesPart (words : List (List ℕ)) (hooks : ℕ) (made : List ℕ) (left now taken taken_now : Option (List ℕ)) : Type 0 where
   pub answer : Answer
   pub bytes : List ℕ
-  pub is_answer : IsAnswer answer words hooks left now bytes
+  pub is_answer : IsAnswer answer words hooks made left now bytes
   pub count : ℕ
   pub not_all : count < length bytes
   pub part : taken_now ≡ append_known taken (take count bytes)

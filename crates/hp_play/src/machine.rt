@@ -3,7 +3,7 @@
 //! Each function that makes an event keeps the machine tied to its journal (`specs/Tied.antt`): the
 //! event stands after those before it, and what the machine remembers is what the events say.
 
-ghost use Rattle.std.specs.Prelude.{◌≡◌, ℕ, ◌+◌, ◌-◌, ◌<◌, ◌≤◌, ◌↔◌, ◌||◌, Some, None, true, false, IfOk, IfSome, IfNone, IsSome, IsTrue, OnOk, OnErr, List, [], ◌∷◌, is_some, length, slice_get, slice_index, slice_set};
+ghost use Rattle.std.specs.Prelude.{◌≡◌, ℕ, ◌+◌, ◌-◌, ◌<◌, ◌≤◌, ◌↔◌, ◌||◌, Some, None, true, false, IfOk, IfSome, IfNone, IsSome, IsTrue, OnOk, OnErr, List, [], ◌∷◌, ◌++◌, map, is_some, length, slice_get, slice_index, slice_set};
 ghost use Rattle.hp_states.specs.Rules.{site_at};
 ghost use Rattle.hp_states.specs.Sections.{name_of_builtin};
 ghost use Rattle.hp_event.specs.declared.event.Op.{Op as AnOp};
@@ -16,6 +16,7 @@ ghost use Rattle.hp_play.specs.Machine.{IsReady, IsCounted, IsPlayable, events_l
 ghost use Rattle.hp_play.specs.Tied.{IsPlainHead, IsNew};
 ghost use Rattle.hp_model.specs.Heads.{IsHead};
 ghost use Rattle.hp_model.specs.Run.{admissions};
+ghost use Rattle.hp_play.specs.Racked.{made_of};
 ghost use Rattle.hp_play.specs.Parts.{Ready, Tied, Keeps, GoesOn, work_of};
 
 use hp_event::{Answer, Event, Head, How, Journal, JournalError, NoMemory, Op, Role};
@@ -669,7 +670,9 @@ impl<H: Hook> Machine<H> {
 
     /// The journal; the hooks of the registered states go behind those of the rack, in rising state.
     pub fn retire(self, rack: &mut Rack<H>) -> Result<Journal, NoMemory>
-        ensures { IfOk result (λ journal. journal ≡ self.journal) }
+        ensures journal { IfOk result (λ journal. journal ≡ self.journal) }
+        ensures rack { IfOk result (λ _. map (λ h. H.made h) rack.new.hooks.items
+            ≡ map (λ h. H.made h) rack.old.hooks.items ++ made_of self.places.items) }
     {
         let Machine {
             journal,

@@ -1,10 +1,10 @@
 //! The run of a script.
 
-ghost use Rattle.std.specs.Prelude.{◌≡◌, ℕ, ◌+◌, ◌*◌, ◌<◌, ◌≤◌, IfOk, All, [], ◌∷◌, length, count_by, vec_len, is_some, true, if◌then◌else◌};
+ghost use Rattle.std.specs.Prelude.{◌≡◌, ℕ, ◌+◌, ◌*◌, ◌<◌, ◌≤◌, IfOk, All, map, length, count_by, vec_len, is_some, true, if◌then◌else◌};
 ghost use Rattle.hp_model.specs.Heads.{IsHead};
-ghost use Rattle.hp_model.specs.Lawful.{IsLawful};
-ghost use Rattle.hp_model.specs.Run.{IsRun};
 ghost use Rattle.hp_play.specs.Machine.{IsPlayableIn, is_setup};
+ghost use Rattle.hp_play.specs.Played.{IsJournalOf};
+ghost use Rattle.hp_play.specs.Racked.{EndsWith, calls_below};
 ghost use Rattle.hp_play.specs.Tied.{IsPlainHead};
 
 use crate::limits::MAX_PLAYED;
@@ -39,8 +39,9 @@ pub fn play<H: Hook>(alloc: Global, script: Script, rack: &mut Rack<H>) -> Resul
     requires head { IsHead script.head }
     requires plain { IsPlainHead script.head }
     ensures head { IfOk result (λ journal. journal.head ≡ script.head) }
-    ensures run { IfOk result (λ journal. IsRun script.head (script.ops.items ∷ []) journal.events) }
-    ensures lawful { IfOk result (λ journal. IsLawful script.head journal.events) }
+    ensures journal { IfOk result (λ journal. IsJournalOf script.head script.ops.items journal.events) }
+    ensures rack { IfOk result (λ journal. EndsWith (map (λ h. H.made h) rack.new.hooks.items)
+        (calls_below script.head journal.events (ONLINE + 1))) }
 {
     let Script { head, ops } = script;
     let mut machine = Machine::new(alloc, head)?;

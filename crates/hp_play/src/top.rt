@@ -95,7 +95,8 @@ fn read<S: Source>(alloc: Global, source: &mut S) -> Result<Vec<u8>, Stop>
 
 /// The text and the summary of the journal of the script that these bytes are.
 fn text_of_script<H: Hook>(alloc: Global, bytes: &[u8], rack: &mut Rack<H>) -> Result<Vec<u8>, Stop>
-    ensures played { IfOk result (λ text. IsPlayed (length rack.old.hooks.items) bytes.now text.items) }
+    ensures played { IfOk result (λ text. IsPlayed (length rack.old.hooks.items)
+        (map (λ h. H.made h) rack.new.hooks.items) bytes.now text.items) }
     ensures stop { IfErr result (Refuses (length rack.old.hooks.items) bytes.now) }
 {
     let hooks = rack.hooks.len().min(MAX_PLAYED as usize) as u32;
@@ -117,7 +118,8 @@ fn played<S: Source, H: Hook>(
 ) -> Result<Vec<u8>, Stop>
     requires { S.faults source.old < u64.MAX }
     ensures played { IfOk result (λ text. (script : List ℕ) × WasRead (S.left source.old) (S.left source.new) script
-        × IsPlayed (length rack.old.hooks.items) script text.items) }
+        × IsPlayed (length rack.old.hooks.items) (map (λ h. H.made h) rack.new.hooks.items)
+        script text.items) }
     ensures faults { OnOk result (S.faults source.new ≡ S.faults source.old) }
     ensures stop { IfErr result (Stops (length rack.old.hooks.items)
         (S.left source.old) (S.left source.new) (S.faults source.old) (S.faults source.new)) }
@@ -143,7 +145,9 @@ fn played<S: Source, H: Hook>(
 /// | 5 | memory was wanting | nothing |
 ///
 /// For the statuses 0 and 2 the source was read to its end, or to one byte past the most bytes that
-/// a script has. The statuses are this project's own.
+/// a script has. The journal of status 0 is the run of the script's actor by rounds, and lawful:
+/// `specs/Played.antt` says what is so of it. The rack ends with the hooks of the registered states,
+/// in rising state, each called as often as the journal says. The statuses are this project's own.
 pub fn hp_main<S: Source, K: Sink, H: Hook>(
     alloc: Global,
     words: &Vec<String>,
@@ -158,19 +162,22 @@ pub fn hp_main<S: Source, K: Sink, H: Hook>(
     ensures statuses { result ≤ NO_MEMORY }
 
     // What is written under 0, 1 and 2.
-    ensures done { result ≡ DONE → Writes Answer.done (map string_bytes words.now.items) (length rack.old.hooks.items)
+    ensures done { result ≡ DONE → Writes Answer.done (map string_bytes words.now.items)
+        (length rack.old.hooks.items) (map (λ h. H.made h) rack.new.hooks.items)
         (S.left source.old) (S.left source.new) (K.taken sink.old) (K.taken sink.new) }
     ensures bad_words { result ≡ BAD_WORDS → Writes Answer.usage (map string_bytes words.now.items)
-        (length rack.old.hooks.items) (S.left source.old) (S.left source.new) (K.taken sink.old) (K.taken sink.new) }
+        (length rack.old.hooks.items) (map (λ h. H.made h) rack.new.hooks.items)
+        (S.left source.old) (S.left source.new) (K.taken sink.old) (K.taken sink.new) }
     ensures bad_script { result ≡ BAD_SCRIPT → Writes Answer.refusal (map string_bytes words.now.items)
-        (length rack.old.hooks.items) (S.left source.old) (S.left source.new) (K.taken sink.old) (K.taken sink.new) }
+        (length rack.old.hooks.items) (map (λ h. H.made h) rack.new.hooks.items)
+        (S.left source.old) (S.left source.new) (K.taken sink.old) (K.taken sink.new) }
 
     // A fault has its cause in the object that failed.
     ensures read_fault { result ≡ READ_FAULT → IsPlay (map string_bytes words.now.items)
         × (S.faults source.new ≡ S.faults source.old + 1) × (K.taken sink.new ≡ K.taken sink.old) }
     ensures write_fault { result ≡ WRITE_FAULT → (K.faults sink.new ≡ K.faults sink.old + 1)
         × WritesPart (map string_bytes words.now.items) (length rack.old.hooks.items)
-        (S.left source.old) (S.left source.new) (K.taken sink.old) (K.taken sink.new) }
+        (map (λ h. H.made h) rack.new.hooks.items) (S.left source.old) (S.left source.new) (K.taken sink.old) (K.taken sink.new) }
     ensures no_memory { result ≡ NO_MEMORY → IsPlay (map string_bytes words.now.items)
         × (K.taken sink.new ≡ K.taken sink.old) }
     ensures source_faults { (result ≡ READ_FAULT → ⊥) → S.faults source.new ≡ S.faults source.old }

@@ -2,10 +2,10 @@
 use Rattle.std.proofs.Common.{rules, ◌≡◌, ◌+◌, ◌*◌, ◌≤◌, ap, ◌∙◌, [], ◌∷◌, length, arith}
 use Rattle.hp_event.specs.Story.{Story}
 use Rattle.hp_event.specs.declared.event.Op.{Op}
-use Rattle.hp_model.specs.Lawful.{IsLawful}
-use Rattle.hp_model.specs.Run.{IsRun}
+use Rattle.hp_play.specs.Played.{IsJournalOf}
 use Rattle.hp_play.proofs.Playable.{playable_at, setups_left}
 use Rattle.hp_play.proofs.PlayedRun.{played_first, played_more, played_all, op_at, kept_on}
+use Rattle.hp_play.proofs.RackLaws.{made_as_told, rack_ends}
 use Rattle.hp_play.proofs.run.play.Goals as goal
 
 pub operate-requires-clause-op : goal.operate-requires-clause-op
@@ -40,14 +40,14 @@ loop-op-preserved g c =
       hooks = setups_left _ _ _ _ _ c.loop-op-test.true c.loop-op.invariant.hooks c.hook_for-hook.ensures.rest;
     }
 
-pub returns-clause-run : goal.returns-clause-run
-returns-clause-run g c =
+pub returns-clause-journal : goal.returns-clause-journal
+returns-clause-journal g c =
     let last : c.loop-op.op-index ≡ length c.args.script.ops.items =
     omega (arith, c.loop-op-test.false, c.loop-op.auto.op-index-end, ap length c.as_slice-op-items.ensures.value) in
-    kept_on (λ (j : Story). IsRun c.args.script.head (c.args.script.ops.items ∷ []) j.events) _ _ c.retire.ensures
+    kept_on (λ (j : Story). IsJournalOf c.args.script.head c.args.script.ops.items j.events) _ _ c.retire.ensures.journal
     (played_all _ _ _ _ _ (rw last at c.loop-op.invariant.played) (rw (c.loop-op.invariant.head, c.loop-op.invariant.free) at c.loop-op.invariant.tied))
 
-pub returns-clause-lawful : goal.returns-clause-lawful
-returns-clause-lawful g c =
-    kept_on (λ (j : Story). IsLawful c.args.script.head j.events) _ _ c.retire.ensures
-    (rw c.loop-op.invariant.head at c.loop-op.invariant.tied.lawful)
+pub returns-clause-rack : goal.returns-clause-rack
+returns-clause-rack g c =
+    let told = made_as_told _ _ _ _ (rw (c.loop-op.invariant.head, c.loop-op.invariant.free) at c.loop-op.invariant.tied) c.loop-op.invariant.ready.states in
+    rack_ends _ _ _ _ _ _ c.retire.ensures.journal c.retire.ensures.rack told
