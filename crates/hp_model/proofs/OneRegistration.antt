@@ -23,11 +23,11 @@ failing-each : (p : Place) (d : Dir) (s i : ℕ) (cs : List ℕ) → failing (ea
 failing-each p d s i [] = refl
 failing-each p d s i (c ∷ cs) = failing-each p d s i cs
 
-abbrev outcome_of : List ℕ → Registering
+abbrev pub outcome_of : List ℕ → Registering
 outcome_of [] = made
 outcome_of (s ∷ ss) = undone
 
-shape_outcome : (adding : Bool) (s : ℕ) (key : Option ℕ) (cs : List ℕ) (xs : List Slot) (o : Registering) →
+pub shape_outcome : (adding : Bool) (s : ℕ) (key : Option ℕ) (cs : List ℕ) (xs : List Slot) (o : Registering) →
     IsRegistrationShape adding s key cs xs o → o ≡ outcome_of (failing xs)
 shape_outcome adding s None cs xs made h = rw h refl
 shape_outcome adding s None cs xs undone h = elim h [ ]

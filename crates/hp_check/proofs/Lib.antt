@@ -1,0 +1,17 @@
+pub mod AddSteps
+pub mod CallRow
+pub mod EachRow
+pub mod FirstFree
+pub mod Firsts
+pub mod Folds
+pub mod HeadSteps
+pub mod LeaveRow
+pub mod OperationRows
+pub mod Reach
+pub mod RegistrationRow
+pub mod Rising
+pub mod SiteSteps
+pub mod TableFull
+pub mod Visits
+pub mod WalkEnd
+pub mod WalkRow

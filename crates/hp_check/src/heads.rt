@@ -1,0 +1,137 @@
+//! Which heads a machine can be started with.
+
+ghost use Rattle.std.specs.Prelude.{◌≡◌, ◌↔◌, ◌<◌, ◌≤◌, IsTrue, All, IfSome, codes};
+ghost use Rattle.std.specs.List.{AllPass};
+ghost use Rattle.std.specs.List.Sorted.{IsStrictlyIncreasing};
+ghost use Rattle.hp_model.specs.Heads.{is_name_byte as is_name_byte_of, IsName, IsRule, IsSub, IsHead};
+
+use crate::processors::is_present;
+use hp_event::{Head, Sub};
+use hp_states::{
+    MAX_CODE, MAX_CPUS, MAX_EVENTS, MAX_INSTANCE, MAX_NAME_LEN, MAX_RULES, MAX_SUBS, Rule,
+};
+
+/// Whether a byte can stand in a name.
+fn is_name_byte(byte: u8) -> bool
+    ensures { result ≡ is_name_byte_of byte }
+{
+    (97 <= byte && byte <= 122)
+        || (65 <= byte && byte <= 90)
+        || (48 <= byte && byte <= 57)
+        || byte == 58
+        || byte == 95
+        || byte == 47
+        || byte == 46
+        || byte == 45
+}
+
+/// Whether all bytes can stand in a name.
+fn are_name_bytes(bytes: &[u8]) -> bool
+    ensures { IsTrue result ↔ AllPass is_name_byte_of bytes.now }
+{
+    match bytes.split_first() {
+        None => true,
+        Some((byte, rest)) => is_name_byte(*byte) && are_name_bytes(rest),
+    }
+}
+
+/// Whether some bytes are a dash alone.
+fn is_dash(bytes: &[u8]) -> bool
+    ensures { IsTrue result ↔ (bytes.now ≡ codes "-") }
+{
+    match bytes.split_first() {
+        None => false,
+        Some((byte, rest)) => *byte == 45 && rest.is_empty(),
+    }
+}
+
+/// Whether some bytes are a name.
+fn is_name(bytes: &[u8]) -> bool
+    ensures { IsTrue result ↔ IsName bytes.now }
+{
+    bytes.len() <= MAX_NAME_LEN as usize && are_name_bytes(bytes) && !is_dash(bytes)
+}
+
+/// Whether a number is absent or in a range.
+fn is_within(number: Option<u32>, low: u32, high: u32) -> bool
+    ensures { IsTrue result ↔ (IfSome number (λ n. low ≤ n) × IfSome number (λ n. n ≤ high)) }
+{
+    match number {
+        None => true,
+        Some(number) => low <= number && number <= high,
+    }
+}
+
+/// Whether a rule has the form of one.
+fn is_rule(rule: &Rule) -> bool
+    ensures { IsTrue result ↔ IsRule rule.now }
+{
+    is_within(rule.cpu, 0, 255)
+        && is_within(rule.inst, 0, MAX_INSTANCE)
+        && is_within(rule.nth, 1, MAX_EVENTS)
+        && (0 < rule.code && rule.code <= MAX_CODE)
+}
+
+/// Whether all rules have.
+fn are_rules(rules: &[Rule]) -> bool
+    ensures { IsTrue result ↔ All IsRule rules.now }
+{
+    match rules.split_first() {
+        None => true,
+        Some((rule, rest)) => is_rule(rule) && are_rules(rest),
+    }
+}
+
+/// Whether a subsystem has the form of one.
+fn is_sub(sub: &Sub) -> bool
+    ensures { IsTrue result ↔ IsSub sub.now }
+{
+    let rules = sub.plan.rules();
+    is_name(sub.name.as_slice()) && rules.len() <= MAX_RULES as usize && are_rules(rules)
+}
+
+/// Whether all subsystems have.
+fn are_subs(subs: &[Sub]) -> bool
+    ensures { IsTrue result ↔ All IsSub subs.now }
+{
+    match subs.split_first() {
+        None => true,
+        Some((sub, rest)) => is_sub(sub) && are_subs(rest),
+    }
+}
+
+/// Whether some numbers rise.
+fn is_rising(numbers: &[u32]) -> bool
+    ensures { IsTrue result ↔ IsStrictlyIncreasing numbers.now }
+{
+    match numbers.split_first() {
+        None => true,
+        Some((first, rest)) => match rest.split_first() {
+            None => true,
+            Some((second, _)) => *first < *second && is_rising(rest),
+        },
+    }
+}
+
+/// Whether some numbers are all below another.
+fn are_below(numbers: &[u32], end: u32) -> bool
+    ensures { IsTrue result ↔ All (λ c. c < end) numbers.now }
+{
+    match numbers.split_first() {
+        None => true,
+        Some((first, rest)) => *first < end && are_below(rest, end),
+    }
+}
+
+/// Whether a machine can be started with a head.
+pub fn is_head(head: &Head) -> bool
+    ensures { IsTrue result ↔ IsHead head.now }
+{
+    let absent = head.absent.as_slice();
+    let subs = head.subs.as_slice();
+    0 < head.possible
+        && head.possible <= MAX_CPUS
+        && (is_rising(absent) && are_below(absent, head.possible))
+        && is_present(head, 0)
+        && (subs.len() <= MAX_SUBS as usize && are_subs(subs))
+}

@@ -1,0 +1,111 @@
+//! The state that a processor's `state` file shows.
+
+ghost use Rattle.std.specs.Prelude.{◌≡◌, option_map, fold, IfOk};
+ghost use Rattle.hp_model.specs.Crossing.{far as far_of};
+ghost use Rattle.hp_model.specs.Entries.{is_done as is_done_of};
+ghost use Rattle.hp_model.specs.Registered.{keys as keys_of};
+ghost use Rattle.hp_model.specs.Shown.{is_last as is_last_of, shown_after as shown_after_of, shown as shown_of};
+
+use crate::registered::keys;
+use crate::settled::settled;
+use crate::walks::{walk_entries, walk_of};
+use hp_event::{Event, Head, How, NoMemory};
+use hp_states::Dir;
+use std::alloc::Global;
+
+/// Whether an entry that is made so is done.
+pub fn is_done(how: &How) -> bool
+    ensures { result ≡ is_done_of how.now }
+{
+    match how {
+        How::RanOk | How::Empty | How::Presumed | How::Overruled(_) => true,
+        How::RanFault(_) | How::Injected => false,
+    }
+}
+
+/// The state after a done crossing.
+pub fn far(dir: Dir, state: u32) -> u32
+    ensures { result ≡ far_of dir state }
+{
+    match dir {
+        Dir::Up => state,
+        Dir::Down => state.saturating_sub(1),
+    }
+}
+
+/// Whether an instance is the last of a list.
+fn is_last(insts: &[u32], inst: u32) -> bool
+    ensures { result ≡ is_last_of insts.now inst }
+{
+    match insts.split_first() {
+        None => false,
+        Some((first, rest)) => {
+            if rest.is_empty() {
+                *first == inst
+            } else {
+                is_last(rest, inst)
+            }
+        }
+    }
+}
+
+/// What is shown after one entry more.
+fn shown_after(
+    alloc: Global,
+    head: &Head,
+    before: &[Event],
+    at: u32,
+    entry: &Event,
+) -> Result<u32, NoMemory>
+    ensures { IfOk result (λ s. s ≡ shown_after_of (keys_of head.now before.now) at entry.now) }
+{
+    match entry {
+        Event::Call {
+            state,
+            inst,
+            dir,
+            how,
+            ..
+        } => {
+            let insts = keys(alloc, head, before, *state)?;
+            if is_done(how) && is_last(insts.as_slice(), *inst) {
+                Ok(far(*dir, *state))
+            } else {
+                Ok(at)
+            }
+        }
+        _ => Ok(at),
+    }
+}
+
+/// What is shown after some entries, where the walk began after some events.
+fn shown_from(
+    alloc: Global,
+    head: &Head,
+    before: &[Event],
+    at: u32,
+    entries: &[Event],
+) -> Result<u32, NoMemory>
+    ensures { IfOk result (λ s. s ≡ fold (shown_after_of (keys_of head.now before.now)) at entries.now) }
+{
+    match entries.split_first() {
+        None => Ok(at),
+        Some((entry, more)) => {
+            let now = shown_after(alloc, head, before, at, entry)?;
+            shown_from(alloc, head, before, now, more)
+        }
+    }
+}
+
+/// The state that is shown for a processor.
+pub fn shown(alloc: Global, head: &Head, cpu: u32, events: &[Event]) -> Result<u32, NoMemory>
+    ensures { IfOk result (λ s. s ≡ shown_of head.now cpu events.now) }
+{
+    match walk_of(cpu, events) {
+        None => Ok(settled(cpu, events)),
+        Some(walk) => {
+            let entries = walk_entries(alloc, cpu, events)?;
+            shown_from(alloc, head, walk.before, walk.from, entries.as_slice())
+        }
+    }
+}

@@ -1,0 +1,203 @@
+//! The notation of the tests: a function for each line of a journal's text.
+
+use crate::{can_stand, is_lawful};
+use hp_event::{Answer, Event, Form, Head, How, Name, Numbers, Op, Role, Sub, Subs};
+use hp_states::{Dir, HookPlan, Rule};
+use std::alloc::Global;
+use std::test::Fail;
+
+pub const OK: Answer = Answer::Ok(0);
+
+pub fn admit_ap(seat: u32) -> Event {
+    Event::Admit {
+        seat,
+        role: Role::Ap(seat),
+    }
+}
+
+pub fn admit_client(seat: u32) -> Event {
+    Event::Admit {
+        seat,
+        role: Role::Client,
+    }
+}
+
+pub fn reg(seat: u32, state: u32, op: Op) -> Event {
+    Event::RegBegin { seat, state, op }
+}
+
+pub fn regged(seat: u32, answer: Answer) -> Event {
+    Event::RegEnd { seat, answer }
+}
+
+pub fn enter(seat: u32, op: Op) -> Event {
+    Event::Enter { seat, op }
+}
+
+pub fn refused(seat: u32, errno: u32, op: Op) -> Event {
+    Event::Refused { seat, errno, op }
+}
+
+pub fn walk(seat: u32, cpu: u32, from: u32, to: u32) -> Event {
+    Event::WalkBegin {
+        seat,
+        cpu,
+        from,
+        to,
+    }
+}
+
+pub fn call(seat: u32, cpu: u32, state: u32, inst: u32, dir: Dir, how: How) -> Event {
+    Event::Call {
+        seat,
+        cpu,
+        state,
+        inst,
+        dir,
+        how,
+    }
+}
+
+/// An upward entry, done by the processor's own seat, whose number is the processor's.
+pub fn up(cpu: u32, state: u32, inst: u32) -> Event {
+    call(cpu, cpu, state, inst, Dir::Up, How::RanOk)
+}
+
+/// A downward one.
+pub fn down(cpu: u32, state: u32, inst: u32) -> Event {
+    call(cpu, cpu, state, inst, Dir::Down, How::RanOk)
+}
+
+/// An upward one that answered a code.
+pub fn up_fault(cpu: u32, state: u32, inst: u32, code: u32) -> Event {
+    call(cpu, cpu, state, inst, Dir::Up, How::RanFault(code))
+}
+
+/// A downward one.
+pub fn down_fault(cpu: u32, state: u32, inst: u32, code: u32) -> Event {
+    call(cpu, cpu, state, inst, Dir::Down, How::RanFault(code))
+}
+
+pub fn walked(seat: u32, cpu: u32, answer: Answer) -> Event {
+    Event::WalkEnd { seat, cpu, answer }
+}
+
+pub fn done(seat: u32, answer: Answer) -> Event {
+    Event::OpEnd { seat, answer }
+}
+
+const FORM: Form = Form {
+    nocalls: false,
+    locked: false,
+};
+
+pub fn setup(state: u32, sub: u32) -> Op {
+    Op::Setup {
+        state,
+        sub,
+        form: FORM,
+    }
+}
+
+pub fn setup_nocalls(state: u32, sub: u32) -> Op {
+    Op::Setup {
+        state,
+        sub,
+        form: Form {
+            nocalls: true,
+            locked: false,
+        },
+    }
+}
+
+pub fn remove(state: u32) -> Op {
+    Op::Remove { state, form: FORM }
+}
+
+pub fn add(state: u32, inst: u32) -> Op {
+    Op::Add {
+        state,
+        inst,
+        form: FORM,
+    }
+}
+
+/// A plan of one rule.
+pub fn rule(dir: Dir, cpu: u32, inst: Option<u32>, nth: Option<u32>, code: u32) -> HookPlan {
+    let mut plan = HookPlan::none();
+    plan.add(Rule {
+        dir,
+        cpu: Some(cpu),
+        inst,
+        nth,
+        code,
+    });
+    plan
+}
+
+/// A subsystem with both callbacks.
+pub fn sub(alloc: Global, name: &[u8], plan: HookPlan) -> Result<Sub, Fail> {
+    Ok(Sub {
+        name: Name::from_vec(Vec::from_slice(alloc, name)?),
+        up: true,
+        down: true,
+        multi: false,
+        plan,
+    })
+}
+
+/// A head without absent processors.
+pub fn head(alloc: Global, possible: u32) -> Head {
+    Head {
+        possible,
+        absent: Numbers::new(alloc),
+        subs: Subs::new(alloc),
+    }
+}
+
+/// Whether a journal is refused with the line of a number changed, and that line does not stand.
+pub fn refuses(
+    alloc: Global,
+    head: &Head,
+    events: &[Event],
+    line: usize,
+    event: Event,
+) -> Result<bool, Fail> {
+    let mut front = Vec::new(alloc);
+    let mut changed = Vec::new(alloc);
+    for (at, other) in events.iter().enumerate() {
+        if at < line {
+            front.push(*other)?;
+        }
+        changed.push(if at == line { event } else { *other })?;
+    }
+    let stands = can_stand(alloc, head, front.as_slice(), &event)?;
+    let lawful = is_lawful(alloc, head, changed.as_slice())?;
+    Ok(!stands && !lawful)
+}
+
+/// Whether a journal is refused with the line of a number left out, and the next line does not
+/// stand.
+pub fn refuses_without(
+    alloc: Global,
+    head: &Head,
+    events: &[Event],
+    line: usize,
+) -> Result<bool, Fail> {
+    let mut front = Vec::new(alloc);
+    let mut changed = Vec::new(alloc);
+    let mut stands = true;
+    for (at, event) in events.iter().enumerate() {
+        if at < line {
+            front.push(*event)?;
+        }
+        if at == line.saturating_add(1) {
+            stands = can_stand(alloc, head, front.as_slice(), event)?;
+        }
+        if at != line {
+            changed.push(*event)?;
+        }
+    }
+    let lawful = is_lawful(alloc, head, changed.as_slice())?;
+    Ok(!stands && !lawful)
+}
