@@ -4,8 +4,7 @@ use Rattle.hp_states.specs.declared.section.Dir.TheVariants.{Up}
 use Rattle.hp_event.specs.declared.event.How.TheVariants.{RanOk}
 use Rattle.hp_event.specs.declared.event.Event.TheVariants.{Call}
 use Rattle.hp_play.proofs.Placed.{ap_at, kept_at}
-use Rattle.hp_play.proofs.TieRegistration.{adding_called, adding_called_last}
-use Rattle.hp_play.proofs.TieRegistration.{call_stands}
+use Rattle.hp_play.proofs.RegistrationEntries.{adding_called, adding_called_last, call_stands}
 use Rattle.hp_play.proofs.PlaysLaws.{plays_one}
 use Rattle.hp_play.proofs.machine.Machine.add.Goals as goal
 use Rattle.hp_play.proofs.machine.Machine.add.Goals.{in-Some, in-None}

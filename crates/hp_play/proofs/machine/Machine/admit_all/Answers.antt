@@ -1,13 +1,12 @@
 -- The admissions are the first events of the run, and the machine is tied to them.
-use Rattle.std.proofs.Common.{rules, ◌≡◌, ℕ, ◌+◌, ◌<◌, ◌≤◌, ◌++◌, ◌∷◌, [], List, length, refl, sym, ap, ◌∙◌, arith}
+use Rattle.std.proofs.Common.{rules, ◌≡◌, ℕ, ◌++◌, ◌∷◌, [], List, sym, ap, ◌∙◌, arith}
 use Rattle.std.proofs.lemmas.List.{length-append}
-use Rattle.hp_event.specs.declared.event.Op.{Op as AnOp}
 use Rattle.hp_event.specs.declared.event.Op.TheVariants.{Up}
 use Rattle.hp_event.specs.declared.event.Role.TheVariants.{Client, Ap}
 use Rattle.hp_event.specs.declared.event.Event.{Event}
 use Rattle.hp_event.specs.declared.event.Event.TheVariants.{Admit}
 use Rattle.hp_model.specs.Lists.{numbers}
-use Rattle.hp_model.specs.Run.{ap_admits, admissions}
+use Rattle.hp_model.specs.Run.{ap_admits}
 use Rattle.hp_play.proofs.Seated.{aps_next, admissions_are, admitted_tied}
 use Rattle.hp_play.proofs.machine.Machine.admit_all.Goals as goal
 

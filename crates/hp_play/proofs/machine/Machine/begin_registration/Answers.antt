@@ -4,7 +4,8 @@ use Rattle.hp_event.specs.declared.event.Event.TheVariants.{RegBegin}
 use Rattle.hp_event.specs.declared.event.Op.{Op as AnOp}
 use Rattle.hp_event.specs.declared.event.Op.TheVariants.{Setup}
 use Rattle.hp_play.specs.Form.{IsSetup, plain}
-use Rattle.hp_play.proofs.TieRegistration.{asked_by_form, setup_begins_adding, setup_begins_added, setup_stands}
+use Rattle.hp_play.proofs.SetupRefusal.{asked_by_form}
+use Rattle.hp_play.proofs.RegistrationBegins.{setup_begins_adding, setup_begins_added, setup_stands}
 use Rattle.hp_play.proofs.PlaysLaws.{plays_one}
 use Rattle.hp_play.proofs.machine.Machine.begin_registration.Goals as goal
 use Rattle.hp_play.proofs.machine.Machine.begin_registration.Goals.{in-Some, in-None}

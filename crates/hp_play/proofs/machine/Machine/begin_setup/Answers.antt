@@ -2,7 +2,7 @@
 use Rattle.std.proofs.Common.{◌≡◌, refl, sym, inl, inr}
 use Rattle.hp_play.proofs.Placed.{is_named}
 use Rattle.hp_play.specs.Form.{plain}
-use Rattle.hp_play.proofs.TieRegistration.{asked_by_form, setup_refused}
+use Rattle.hp_play.proofs.SetupRefusal.{asked_by_form, setup_refused}
 use Rattle.hp_play.proofs.machine.Machine.begin_setup.Goals as goal
 use Rattle.hp_play.proofs.machine.Machine.begin_setup.Goals.{then-is_registered-via-then-is_registered, then-is_registered-via-else-is_registered+then-is_some}
 

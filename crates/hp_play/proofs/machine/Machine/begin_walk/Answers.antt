@@ -1,5 +1,5 @@
 -- The begin of the walk stands, and leaves the machine tied to its journal.
-use Rattle.std.proofs.Common.{◌≡◌, ℕ, ◌<◌, false, ◌++◌, ◌∷◌, [], List, length, refl, sym, ap, ◌∙◌, inr, arith}
+use Rattle.std.proofs.Common.{◌≡◌, ℕ, ◌<◌, false, ◌++◌, ◌∷◌, [], refl, ap, ◌∙◌, inr, arith}
 use Rattle.hp_states.specs.declared.limits.TheConstants.{ONLINE}
 use Rattle.hp_event.specs.declared.event.Event.TheVariants.{WalkBegin}
 use Rattle.hp_play.proofs.WalkRows.{walk_stands}

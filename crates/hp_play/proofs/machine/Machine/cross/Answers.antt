@@ -1,9 +1,8 @@
 -- The entry of the walk stands, and leaves the machine tied to its journal.
-use Rattle.std.proofs.Common.{◌≡◌, ℕ, ◌<◌, false, ◌++◌, ◌∷◌, [], List, length, refl, sym, ap, ◌∙◌, inl, arith}
+use Rattle.std.proofs.Common.{◌<◌, false, length, refl, ap, inl, arith}
 use Rattle.hp_states.specs.declared.section.Dir.TheVariants.{Up}
 use Rattle.hp_event.specs.declared.event.How.TheVariants.{RanOk}
 use Rattle.hp_event.specs.declared.event.Event.TheVariants.{Call}
-use Rattle.hp_play.specs.Machine.{place_at}
 use Rattle.hp_play.proofs.Placed.{ap_at, kept_at, still_empty}
 use Rattle.hp_play.proofs.TieCrossing.{crossing_stands, crossing_goes_on, crossing_was_last}
 use Rattle.hp_play.proofs.PlaysLaws.{plays_one}

@@ -1,9 +1,9 @@
 -- The end of the registration stands, and leaves the machine tied to its journal.
-use Rattle.std.proofs.Common.{◌≡◌, ℕ, true, ◌++◌, ◌∷◌, [], List, length, pos, refl, sym, ap, ◌∙◌, inr, Option, Some, None, IsSome}
+use Rattle.std.proofs.Common.{◌≡◌, ℕ, true, ◌++◌, ◌∷◌, [], pos, refl, ap, ◌∙◌, inr}
 use Rattle.std.proofs.lemmas.Bool.{eq-eqb}
 use Rattle.hp_event.specs.declared.event.Event.TheVariants.{RegEnd}
 use Rattle.hp_event.specs.declared.event.Answer.TheVariants.{Ok}
-use Rattle.hp_play.proofs.TieRegistration.{added_ends}
+use Rattle.hp_play.proofs.RegistrationEnds.{added_ends}
 use Rattle.hp_play.proofs.Placed.{fixed_at}
 use Rattle.hp_play.proofs.PlaysLaws.{plays_one}
 use Rattle.hp_play.proofs.machine.Machine.end_registration.Goals as goal

@@ -1,5 +1,5 @@
 -- The end of the walk stands, and leaves the machine tied to its journal.
-use Rattle.std.proofs.Common.{◌≡◌, ℕ, ◌<◌, false, ◌++◌, ◌∷◌, [], List, length, pos, refl, sym, ap, ◌∙◌, inr, arith}
+use Rattle.std.proofs.Common.{◌≡◌, ℕ, false, ◌++◌, ◌∷◌, [], pos, refl, ap, ◌∙◌, inr}
 use Rattle.hp_event.specs.declared.event.Event.TheVariants.{WalkEnd}
 use Rattle.hp_event.specs.declared.event.Answer.TheVariants.{Ok}
 use Rattle.hp_play.proofs.WalkRows.{walked_stands}
