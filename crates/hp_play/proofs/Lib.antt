@@ -14,6 +14,7 @@ pub mod Refusing
 pub mod TieFolds
 pub mod TieLists
 pub mod TieParts
+pub mod CalledPlace
 pub mod WalkRows
 pub mod TieWalk
 pub mod TieCrossing

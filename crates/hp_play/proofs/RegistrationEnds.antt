@@ -25,7 +25,7 @@ use Rattle.hp_play.specs.Kept.{Kept}
 use Rattle.hp_play.specs.Machine.{place_at}
 use Rattle.hp_play.specs.Tied.{registered_by, registered_so, IsRegistering, IsAdded, IsTied}
 use Rattle.hp_play.proofs.TieFolds.{sites_push, quiet_more, seated_more}
-use Rattle.hp_play.proofs.TieParts.{SubFound, sub_found, single_sub, kept_same}
+use Rattle.hp_play.proofs.TieParts.{SubFound, sub_found, single_sub, tied_more}
 use Rattle.hp_play.proofs.RegistrationEntries.{shape_of}
 
 ok_of : (r : Registration) (state sub : ℕ) → r.op ≡ Setup state sub plain → is_dynamic state ≡ false → ok_value r.op r.state ≡ 0
@@ -86,22 +86,13 @@ end_tied head es stands places state tied fixed =
     let e : Event = RegEnd head.possible (Ok (pos 0)) in
     let added : IsAdded head es (place_at places state) state = tied.due_is in
     let r : IsRegistering head es (place_at places state) state = added.registering in
-    record {
-      lawful = lawful_more head es e tied.lawful (end_stands head es stands places state tied fixed);
-      plain = tied.plain;
-      seated = seated_more head es e tt tied.seated;
-      quiet = quiet_more es e tt tied.quiet;
-      settled_is = λ c below. settled_push c es e ∙ tied.settled_is c below;
-      highest = tied.highest;
-      registered_is = λ s. end_registered head es stands places state s tied;
-      kept = λ s. kept_same es (es ++ e ∷ []) s (place_at places s) (sites_push s es e) (tied.kept s);
-      subs = tied.subs;
-      due_is = record {
-        no_operation = operation_push es e ∙ r.no_operation;
-        no_registration = registration_push es e;
-        no_walk = walking_push es e ∙ r.no_walk;
-      };
-    }
+    tied_more head es stands places (Added state) Idle e tied tt (end_stands head es stands places state tied fixed)
+    (λ c. settled_push c es e) (λ s. sites_push s es e) (λ s. end_registered head es stands places state s tied)
+    (record {
+      no_operation = operation_push es e ∙ r.no_operation;
+      no_registration = registration_push es e;
+      no_walk = walking_push es e ∙ r.no_walk;
+    })
 
 -- a registration ends
 pub added_ends : (head : Head) (es : List Event) (stands : List ℕ) (places : List (Option Kept)) (seat state : ℕ) →

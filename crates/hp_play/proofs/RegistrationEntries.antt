@@ -38,7 +38,8 @@ use Rattle.hp_play.specs.Machine.{place_at, called}
 use Rattle.hp_play.specs.Tied.{IsPlainSub, registered_so, is_at, IsKept, IsRegistering, is_reached, IsAdding, IsDue, IsTied}
 use Rattle.hp_play.proofs.TieFolds.{sites_push, quiet_more, seated_more}
 use Rattle.hp_play.proofs.TieLists.{place_at-set_same, at_each, filter_gap, filter_next, filter_split, each-append}
-use Rattle.hp_play.proofs.TieParts.{SubFound, sub_found, single_sub, kept_same}
+use Rattle.hp_play.proofs.TieParts.{SubFound, sub_found, single_sub}
+use Rattle.hp_play.proofs.CalledPlace.{subs_called, kept_called}
 use Rattle.hp_play.proofs.RegistrationBegins.{reached_there, reached_not}
 
 -- the whole of a plain setup has an entry on each processor that is reached
@@ -116,19 +117,6 @@ called_registering head es places state cpu kept r place_is within =
       vacant = r.vacant;
     }
 
--- one call more is counted
-counted_more : (es : List Event) (cpu state : ℕ) (kept : Kept) → IsKept es state kept →
-    IsKept (es ++ Call cpu cpu state 0 Up RanOk ∷ []) state (called kept (site_at cpu 0 Up))
-counted_more es cpu state kept k =
-    let self : eqb state state ≡ true = eq-eqb state state refl in
-    let grown : sites state (es ++ Call cpu cpu state 0 Up RanOk ∷ []) ≡ sites state es ++ site_at cpu 0 Up ∷ [] =
-    sites_push state es (Call cpu cpu state 0 Up RanOk) ∙ rw self refl
-    in
-    let long : length (sites state es ++ site_at cpu 0 Up ∷ []) ≡ length (sites state es) + 1 =
-    length-append (sites state es) (site_at cpu 0 Up ∷ [])
-    in
-    record { made = ap (λ n. n + 1) k.made ∙ sym (ap length grown ∙ long); no_rules = k.no_rules }
-
 -- the machine's parts after an entry, but for what is due
 called_tied : (head : Head) (es : List Event) (stands : List ℕ) (places : List (Option Kept)) (state cpu : ℕ) (kept : Kept) (due : Due) →
     IsTied head es stands places (Adding state cpu) → cpu < head.possible → is_ap_state state ≡ true →
@@ -141,7 +129,6 @@ called_tied head es stands places state cpu kept due tied below ap_state place_i
     let e : Event = Call cpu cpu state 0 Up RanOk in
     let place : Option Kept = Some (called kept (site_at cpu 0 Up)) in
     let self : eqb state state ≡ true = eq-eqb state state refl in
-    let before : IsKept es state kept = rw place_is at (tied.kept state) in
     let none : registered head state es ≡ None = tied.registered_is state ∙ rw self refl in
     record {
       lawful = lawful_more head es e tied.lawful (inr (call_stands head es stands places state cpu tied below ap_state));
@@ -153,13 +140,8 @@ called_tied head es stands places state cpu kept due tied below ap_state place_i
       registered_is = at_each (λ s p. registered head s (es ++ e ∷ []) ≡ registered_so (is_at due s) p) places state place
           within (registered_push head state es e ∙ (rw (at state, self) none))
           (λ s other. registered_push head s es e ∙ (rw (at s) (tied.registered_is s)));
-      kept = at_each (λ s p. IfSome p (IsKept (es ++ e ∷ []) s)) places state place within
-          (counted_more es cpu state kept before)
-          (λ s other.
-          let apart : eqb state s ≡ false = ne_eqb state s other in
-          kept_same es (es ++ e ∷ []) s (place_at places s) (sites_push s es e ∙ rw apart refl) (tied.kept s));
-      subs = at_each (λ s p. IfSome p (λ kept. (1 ≤ kept.sub) × (kept.sub ≤ length head.subs))) places state place within
-          (rw place_is at (tied.subs state)) (λ s other. tied.subs s);
+      kept = λ s. kept_called es places cpu cpu state s kept within place_is (tied.kept s) (tied.kept state);
+      subs = λ s. subs_called (length head.subs) places state s kept (site_at cpu 0 Up) within place_is (tied.subs s) (tied.subs state);
       due_is = is_due;
     }
 

@@ -159,6 +159,12 @@ pub admissions_are : (head : Head) (ops : List Op) → head.absent ≡ [] →
     admissions head (ops ∷ []) ≡ ap_admits 0 (numbers head.possible) ++ Admit head.possible Client ∷ []
 admissions_are head ops none = rw (present_is head none, length-numbers head.possible) refl
 
+-- the events after the client's admission, which is the last
+pub all_admitted : (head : Head) (ops : List Op) (es : List Event) (cpu seat : ℕ) → head.absent ≡ [] →
+    es ≡ ap_admits 0 (numbers cpu) → cpu ≡ head.possible → seat ≡ head.possible →
+    es ++ Admit seat Client ∷ [] ≡ admissions head (ops ∷ [])
+all_admitted head ops es cpu seat none events all is = rw (events, all, is) (sym (admissions_are head ops none))
+
 seated_in : (head : Head) (es : List Event) → AreIn head.possible es → IsSeated head (es ++ Admit head.possible Client ∷ [])
 seated_in head es h = record {
   aps = λ c below. ap_push c es e ∙ h.aps c below;
@@ -177,12 +183,14 @@ seated_in head es h = record {
     only k false same is = absurd (h.no_client k is)
 
 -- the machine that was just made is tied to them
-pub admitted_tied : (head : Head) (ops : List Op) (es : List Event) (stands : List ℕ) (places : List (Option Kept)) → IsHead head →
-    IsPlainHead head → es ≡ admissions head (ops ∷ []) →
+pub admitted_tied : (head : Head) (ops : List Op) (es : List Event) (stands : List ℕ) (places : List (Option Kept)) →
+    IsHead head → IsPlainHead head → es ≡ admissions head (ops ∷ []) →
     IsNew head stands places → IsTied head es stands places Idle
 admitted_tied head ops es stands places h plain is new =
     let n : ℕ = head.possible in
-    let few : length (present head) + 1 ≤ MAX_CPUS + 1 = rw (present_is head plain.all_present, length-numbers n) (omega (arith, h.few_possible)) in
+    let few : length (present head) + 1 ≤ MAX_CPUS + 1 =
+    rw (present_is head plain.all_present, length-numbers n) (omega (arith, h.few_possible))
+    in
     let cpus = cpus_in head n in
     let blank = blank_more head (ap_admits 0 (numbers n)) n Client cpus.1 in
     let lawful = admissions_lawful head (ops ∷ []) h (omega (arith, few)) in

@@ -28,7 +28,7 @@ use Rattle.hp_play.specs.Kept.{Kept}
 use Rattle.hp_play.specs.Machine.{place_at}
 use Rattle.hp_play.specs.Tied.{registered_by, IsTied}
 use Rattle.hp_play.proofs.TieFolds.{sites_push, quiet_more, seated_more}
-use Rattle.hp_play.proofs.TieParts.{SubFound, sub_found, kept_same, idle_free}
+use Rattle.hp_play.proofs.TieParts.{SubFound, sub_found, idle_free, tied_more}
 
 -- an operation is refused
 pub refused_tied : (head : Head) (es : List Event) (stands : List ℕ) (places : List (Option Kept)) (seat errno : ℕ) (op : Op) →
@@ -40,22 +40,13 @@ refused_tied head es stands places seat errno op is tied has_sub refused =
     record { free = rw is (idle_free head es tied.seated tied.due_is); has_sub = has_sub; refused = refused }
     in (
       stood,
-      record {
-        lawful = lawful_more head es e tied.lawful stood;
-        plain = tied.plain;
-        seated = seated_more head es e tt tied.seated;
-        quiet = quiet_more es e tt tied.quiet;
-        settled_is = λ c below. settled_push c es e ∙ tied.settled_is c below;
-        highest = tied.highest;
-        registered_is = λ s. registered_push head s es e ∙ tied.registered_is s;
-        kept = λ s. kept_same es (es ++ e ∷ []) s (place_at places s) (sites_push s es e) (tied.kept s);
-        subs = tied.subs;
-        due_is = record {
-          no_operation = operation_push es e ∙ tied.due_is.no_operation;
-          no_registration = registration_push es e ∙ tied.due_is.no_registration;
-          no_walk = walking_push es e ∙ tied.due_is.no_walk;
-        };
-      },
+      tied_more head es stands places Idle Idle e tied tt stood (λ c. settled_push c es e) (λ s. sites_push s es e)
+          (λ s. registered_push head s es e ∙ tied.registered_is s)
+          (record {
+            no_operation = operation_push es e ∙ tied.due_is.no_operation;
+            no_registration = registration_push es e ∙ tied.due_is.no_registration;
+            no_walk = walking_push es e ∙ tied.due_is.no_walk;
+          }),
     )
 
 -- the checks of a setup outside of read sections, at a state and of a subsystem that can be

@@ -42,39 +42,19 @@ use Rattle.hp_play.specs.Kept.{Kept}
 use Rattle.hp_play.specs.Machine.{place_at, called}
 use Rattle.hp_play.proofs.TieFolds.{sites_push, answers_push, quiet_more, seated_more}
 use Rattle.hp_play.proofs.TieLists.{keyed_none, keyed_gap, keyed_next, keyed_around, place_at-set}
-use Rattle.hp_play.proofs.TieWalk.{kept_same}
-
--- the plain subsystem of a number
-pub record IsThere (head : Head) (number : ℕ) : Type 0 where
-  pub sub : Sub
-  pub numbered : sub_numbered head number ≡ Some sub
-  pub plain : IsPlainSub sub
-
-nth_there : (subs : List Sub) (n : ℕ) (d : Sub) → n < length subs → slice_get subs n ≡ Some (get_or subs n d)
-nth_there [] n d h = absurd (omega arith)
-nth_there (x ∷ xs) zero d h = refl
-nth_there (x ∷ xs) (suc n) d h = nth_there xs n d (omega arith)
-
-pub there : (head : Head) (n : ℕ) → All IsPlainSub head.subs → 1 ≤ n → n ≤ length head.subs → IsThere head n
-there head zero all some most = absurd (omega arith)
-there head (suc n) all some most =
-    let below : n < length head.subs = omega arith in
-    let d : Sub = record { name = []; up = true; down = true; multi = false; plan = [] } in
-    record {
-        sub = get_or head.subs n d;
-        numbered = nth_there head.subs n d below;
-        plain = All-get_or IsPlainSub head.subs n d below all
-    }
+use Rattle.hp_play.proofs.TieParts.{SubFound, sub_found, entered_more}
+use Rattle.hp_play.proofs.CalledPlace.{registered_called, subs_called, kept_called}
+use Rattle.hp_play.proofs.TieWalk.{no_key, one_key}
 
 and_false : (b : Bool) → b && false ≡ false
 and_false true = refl
 and_false false = refl
 
-pub ran_in_walk : (head : Head) (es : List Event) (c s : ℕ) (kept : Kept) → IsThere head kept.sub → registration es ≡ None →
+pub ran_in_walk : (head : Head) (es : List Event) (c s : ℕ) (kept : Kept) → SubFound head kept.sub → registration es ≡ None →
     registered head s es ≡ registered_by (Some kept) → armed c es ≡ None →
     RanOk ≡ how_in_walk head es c s 0 Up placed.Forward true
 ran_in_walk head es c s kept sub idle is disarmed =
-    rw (idle, is, sub.numbered, sub.plain.has_startup, disarmed, and_false (can_fail Up s placed.Forward), sub.plain.no_rules) refl
+    rw (idle, is, sub.is, sub.plain.has_startup, disarmed, and_false (can_fail Up s placed.Forward), sub.plain.no_rules) refl
 
 crossed_slots : (c : ℕ) (K : ℕ → List ℕ) (xs ys : List ℕ) →
     slots c K (crossed placed.Forward Up (xs ++ ys)) ≡ slots c K (crossed placed.Forward Up xs) ++ slots c K (crossed placed.Forward Up ys)
@@ -85,12 +65,6 @@ crossed_slots c K xs ys =
 abbrev slot_at : (c s : ℕ) → Slot
 slot_at c s = record { cpu = c; state = s; inst = 0; dir = Up; place = placed.Forward; first = true; fails = false }
 
--- the key of a taken place, as at the walk's begin
-walk_key : (head : Head) (es before : List Event) (s : ℕ) (place : Option Kept) (kept : Kept) →
-    registered head s before ≡ registered head s es → registered head s es ≡ registered_so false place → place ≡ Some kept →
-    keys head before s ≡ 0 ∷ []
-walk_key head es before s place kept same is some = rw (same, is, some) refl
-
 pub crossing_stands : (head : Head) (es : List Event) (stands : List ℕ) (places : List (Option Kept)) (c s : ℕ) (kept : Kept) →
     IsTied head es stands places (Crossing c s) → c < head.possible → s ≤ ONLINE → is_ap_state s ≡ true →
     place_at places s ≡ Some kept → Stands head es (Call c c s 0 Up RanOk)
@@ -98,7 +72,8 @@ crossing_stands head es stands places c s kept t inside most ap_is some =
     let w = t.due_is.walking in
     let K = keys head w.flight.before in
     let up : nat_lt w.flight.from ONLINE ≡ true = lt-ltb w.flight.from ONLINE w.from_below in
-    let key : K s ≡ 0 ∷ [] = walk_key head es w.flight.before s (place_at places s) kept (w.registered_same s) (t.registered_is s) some in
+    let key : K s ≡ 0 ∷ [] =
+        one_key head w.flight.before s (place_at places s) kept (w.registered_same s ∙ t.registered_is s) some in
     let above : w.flight.from < s = omega (arith, w.from_at, t.due_is.above) in
     let is = rw some at (t.registered_is s) in
     let sub_ok = rw some at (t.subs s) in
@@ -123,61 +98,10 @@ crossing_stands head es stands places c s kept t inside most ap_is some =
             };
         fits = (refl, refl, refl, refl, refl);
         how_is =
-            ran_in_walk head es c s kept (there head kept.sub t.plain.subs sub_ok.0 sub_ok.1) w.entered.no_registration is
+            ran_in_walk head es c s kept (sub_found head kept.sub t.plain sub_ok.0 sub_ok.1) w.entered.no_registration is
             (t.quiet.disarmed c);
         caller_is = rw ap_is (t.seated.aps c inside)
     })
-
--- a called place says the same of what is registered
-pub registered_called : (places : List (Option Kept)) (s t : ℕ) (kept : Kept) (site : Site) → s < length places →
-    place_at places s ≡ Some kept →
-    registered_by (place_at (slice_set places s (Some (called kept site))) t) ≡ registered_by (place_at places t)
-registered_called places s t kept site inside some =
-    ap registered_by (place_at-set places s (Some (called kept site)) t inside) ∙ go (eqb s t) refl
-  where
-    go : (b : Bool) → eqb s t ≡ b → registered_by (cond b (Some (called kept site)) (place_at places t)) ≡ registered_by (place_at places t)
-    go true e = let same : s ≡ t = eqb-true s t e in rw (← same, some) refl
-    go false e = refl
-
--- and of its subsystem
-pub subs_called : (n : ℕ) (places : List (Option Kept)) (s t : ℕ) (kept : Kept) (site : Site) → s < length places →
-    place_at places s ≡ Some kept → IfSome (place_at places t) (λ k. (1 ≤ k.sub) × (k.sub ≤ n)) →
-    IfSome (place_at places s) (λ k. (1 ≤ k.sub) × (k.sub ≤ n)) →
-    IfSome (place_at (slice_set places s (Some (called kept site))) t) (λ k. (1 ≤ k.sub) × (k.sub ≤ n))
-subs_called n places s t kept site inside some h k =
-    let P : Option Kept → Type 0 = λ place. IfSome place (λ k. (1 ≤ k.sub) × (k.sub ≤ n)) in
-    subst P (sym (place_at-set places s (Some (called kept site)) t inside)) (go (eqb s t))
-  where
-    go : (b : Bool) → IfSome (cond b (Some (called kept site)) (place_at places t)) (λ k. (1 ≤ k.sub) × (k.sub ≤ n))
-    go true = rw some at k
-    go false = h
-
--- the count of a called place goes with the journal's
-pub kept_called : (es : List Event) (places : List (Option Kept)) (seat c s t : ℕ) (kept : Kept) → s < length places →
-    place_at places s ≡ Some kept → IfSome (place_at places t) (IsKept es t) → IfSome (place_at places s) (IsKept es s) →
-    IfSome (place_at (slice_set places s (Some (called kept (site_at c 0 Up)))) t) (IsKept (es ++ Call seat c s 0 Up RanOk ∷ []) t)
-kept_called es places seat c s t kept inside some h k =
-    let e : Event = Call seat c s 0 Up RanOk in
-    let P : Option Kept → Type 0 = λ place. IfSome place (IsKept (es ++ e ∷ []) t) in
-    subst P (sym (place_at-set places s (Some (called kept (site_at c 0 Up))) t inside)) (go (eqb s t) refl)
-  where
-    go : (b : Bool) → eqb s t ≡ b →
-        IfSome (cond b (Some (called kept (site_at c 0 Up))) (place_at places t)) (IsKept (es ++ Call seat c s 0 Up RanOk ∷ []) t)
-    go true e =
-        let same : s ≡ t = eqb-true s t e in
-        let old = rw some at k in
-        let more : sites t (es ++ Call seat c s 0 Up RanOk ∷ []) ≡ sites t es ++ site_at c 0 Up ∷ [] =
-            sites_push t es (Call seat c s 0 Up RanOk) ∙ rw e refl in
-        record {
-            made =
-                rw (more, length-append (sites t es) (site_at c 0 Up ∷ []))
-                (let o : kept.made ≡ length (sites t es) = rw same at old.made in ap (λ n. n + 1) o);
-            no_rules = old.no_rules
-        }
-    go false e =
-        let same : sites t (es ++ Call seat c s 0 Up RanOk ∷ []) ≡ sites t es =
-            sites_push t es (Call seat c s 0 Up RanOk) ∙ rw e refl in
-        kept_same es (es ++ Call seat c s 0 Up RanOk ∷ []) t (place_at places t) same h
 
 -- the walk after one entry more, up to a state below which nothing more is registered
 went_on : (head : Head) (es : List Event) (stands : List ℕ) (places : List (Option Kept)) (c s at : ℕ) (kept : Kept) →
@@ -189,24 +113,18 @@ went_on head es stands places c s at kept t some upto none =
     let w = t.due_is.walking in
     let K = keys head w.flight.before in
     let self : eqb c c ≡ true = eq-eqb c c refl in
-    let key : K s ≡ 0 ∷ [] = walk_key head es w.flight.before s (place_at places s) kept (w.registered_same s) (t.registered_is s) some in
+    let key : K s ≡ 0 ∷ [] =
+        one_key head w.flight.before s (place_at places s) kept (w.registered_same s ∙ t.registered_is s) some in
     let above : w.flight.from < s = omega (arith, w.from_at, t.due_is.above) in
     let front = keyed K (rising w.flight.from (s - 1 - w.flight.from)) in
     let row : keyed K (rising w.flight.from (at - w.flight.from)) ≡ front ++ s ∷ [] =
         keyed_gap K w.flight.from s at (omega (arith, above)) upto
-        (λ u over to. empty head w.flight.before es u (w.registered_same u) (t.registered_is u) (none u over to))
+        (λ u over to. no_key head w.flight.before u (place_at places u) (w.registered_same u ∙ t.registered_is u) (none u over to))
         ∙ keyed_next K w.flight.from s above (rw key refl) in
     let entries : walk_entries c (es ++ e ∷ []) ≡ walk_entries c es ++ e ∷ [] = walk_entries_push c es e ∙ rw self refl in
     let last : Fill (slots c K (crossed placed.Forward Up (s ∷ []))) (e ∷ []) = rw key ((refl, refl, refl, refl, refl), tt) in
     record {
-        entered =
-            record {
-                of = w.entered.of;
-                held = operation_push es e ∙ w.entered.held;
-                by_client = w.entered.by_client;
-                up = w.entered.up;
-                no_registration = registration_push es e ∙ w.entered.no_registration
-            };
+        entered = entered_more head es e c (operation_push es e) (registration_push es e) w.entered;
         flight = w.flight;
         in_flight = walk_push c es e ∙ w.in_flight;
         done =
@@ -221,10 +139,6 @@ went_on head es stands places c s at kept t some upto none =
         unanswered = answers_push es e ∙ w.unanswered;
         registered_same = λ u. w.registered_same u ∙ sym (registered_push head u es e)
     }
-  where
-    empty : (head : Head) (before es : List Event) (u : ℕ) → registered head u before ≡ registered head u es →
-        registered head u es ≡ registered_so false (place_at places u) → place_at places u ≡ None → keys head before u ≡ []
-    empty head before es u same is nothing = rw (same, is, nothing) refl
 
 crossing_called : (head : Head) (es : List Event) (stands : List ℕ) (places after : List (Option Kept)) (c s : ℕ) (kept : Kept)
     (next : Due) → IsTied head es stands places (Crossing c s) → c < head.possible → s ≤ ONLINE → is_ap_state s ≡ true →

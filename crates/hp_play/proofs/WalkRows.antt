@@ -33,11 +33,7 @@ use Rattle.hp_play.specs.Tied.{IsTied, IsPlainHead, IsPlainSub, IsIdle, IsEntere
 use Rattle.hp_play.specs.declared.due.Due.TheVariants.{Operation as Idle, Walk as Walking, Crossing, Crossed, End}
 use Rattle.hp_play.specs.Kept.{Kept}
 use Rattle.hp_play.specs.Machine.{place_at}
-
-pub idle_free : (head : Head) (es : List Event) (stands : List ℕ) (places : List (Option Kept)) → IsTied head es stands places Idle →
-    IsFree es head.possible
-idle_free head es stands places t =
-    record { client = t.seated.client; idle = rw (t.due_is.no_operation, t.due_is.no_registration) refl }
+use Rattle.hp_play.proofs.TieParts.{idle_free}
 
 up_passes : (head : Head) (es : List Event) (stands : List ℕ) (places : List (Option Kept)) (c : ℕ) →
     IsTied head es stands places Idle → c < head.possible → Passes head es head.possible (op.Up c)
@@ -56,7 +52,7 @@ up_passes head es stands places c t there =
 pub up_stands : (head : Head) (es : List Event) (stands : List ℕ) (places : List (Option Kept)) (c : ℕ) →
     IsTied head es stands places Idle → c < head.possible → Stands head es (Enter head.possible (op.Up c))
 up_stands head es stands places c t there =
-    record { free = idle_free head es stands places t; takes_map = refl; passes = up_passes head es stands places c t there }
+    record { free = idle_free head es t.seated t.due_is; takes_map = refl; passes = up_passes head es stands places c t there }
 
 not_below : (c n : ℕ) → n ≤ c → nat_lt c n ≡ false
 not_below c n h = grind (arith, nat_tests)

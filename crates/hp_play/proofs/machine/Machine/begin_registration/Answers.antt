@@ -1,9 +1,9 @@
 -- The begin of the registration stands, and leaves the machine tied to its journal.
-use Rattle.std.proofs.Common.{◌≡◌, ℕ, ◌<◌, ◌≤◌, false, ◌++◌, ◌∷◌, [], List, length, slice_index, refl, sym, ap, ◌∙◌, inr, arith}
+use Rattle.std.proofs.Common.{◌≡◌, ℕ, ◌<◌, false, ◌++◌, ◌∷◌, [], refl, ap, ◌∙◌, inr, arith}
 use Rattle.hp_event.specs.declared.event.Event.TheVariants.{RegBegin}
 use Rattle.hp_event.specs.declared.event.Op.{Op as AnOp}
 use Rattle.hp_event.specs.declared.event.Op.TheVariants.{Setup}
-use Rattle.hp_play.specs.Form.{IsSetup, plain}
+use Rattle.hp_play.specs.Form.{plain}
 use Rattle.hp_play.proofs.SetupRefusal.{asked_by_form}
 use Rattle.hp_play.proofs.RegistrationBegins.{setup_begins_adding, setup_begins_added, setup_stands}
 use Rattle.hp_play.proofs.PlaysLaws.{plays_one}

@@ -1,5 +1,5 @@
 -- A setup of a state that is registered, or that has a name, is busy.
-use Rattle.std.proofs.Common.{◌≡◌, refl, sym, inl, inr}
+use Rattle.std.proofs.Common.{refl, sym, inl, inr}
 use Rattle.hp_play.proofs.Placed.{is_named}
 use Rattle.hp_play.specs.Form.{plain}
 use Rattle.hp_play.proofs.SetupRefusal.{asked_by_form, setup_refused}
