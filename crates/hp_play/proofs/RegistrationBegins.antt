@@ -16,7 +16,6 @@ use Rattle.hp_model.specs.Settled.{settled}
 use Rattle.hp_model.specs.Calls.{sites}
 use Rattle.hp_model.specs.Registered.{registered}
 use Rattle.hp_model.specs.Processors.{is_present, processors}
-use Rattle.hp_model.specs.RegistrationShape.{made}
 use Rattle.hp_model.proofs.Laws.{registration_push, registration_entries_push, registered_push, settled_push, operation_push, walking_push}
 use Rattle.hp_model.proofs.HeadlineProof.{lawful_more}
 use Rattle.hp_play.specs.declared.due.Due.{Due}
@@ -70,7 +69,8 @@ begun_registering head es places state sub idle within vacant =
 begun_tied : (head : Head) (es : List Event) (stands : List ℕ) (places : List (Option Kept)) (state sub : ℕ) (due : Due) →
     IsTied head es stands places Idle → IsAsked head state sub → place_at places state ≡ None → name_of_builtin state ≡ None →
     state < length places → ((s : ℕ) → is_at due s ≡ eqb state s) →
-    IsDue head (es ++ RegBegin head.possible state (Setup state sub plain) ∷ []) (slice_set places state (Some (fresh sub []))) due →
+    IsDue head (es ++ RegBegin head.possible state (Setup state sub plain) ∷ [])
+    (slice_set places state (Some (fresh sub []))) due →
     IsTied head (es ++ RegBegin head.possible state (Setup state sub plain) ∷ []) stands
     (slice_set places state (Some (fresh sub []))) due
 begun_tied head es stands places state sub due tied asked vacant unnamed within at is_due =
@@ -103,10 +103,12 @@ begun_tied head es stands places state sub due tied asked vacant unnamed within 
 
 -- every possible processor is present
 all_present : (head : Head) (c : ℕ) → IsPlainHead head → c < head.possible → is_present head c ≡ true
-all_present head c plain below = let b : ltb c head.possible ≡ true = lt-ltb c head.possible below in rw (b, plain.all_present) refl
+all_present head c plain below =
+    let b : ltb c head.possible ≡ true = lt-ltb c head.possible below in
+    rw (b, plain.all_present) refl
 
-pub reached_there : (head : Head) (state : ℕ) (es : List Event) (c : ℕ) → IsPlainHead head → c < head.possible → state ≤ settled c es →
-    is_reached head state es c ≡ true
+pub reached_there : (head : Head) (state : ℕ) (es : List Event) (c : ℕ) → IsPlainHead head → c < head.possible →
+    state ≤ settled c es → is_reached head state es c ≡ true
 reached_there head state es c plain below up =
     let r : leb state (settled c es) ≡ true = le-leb state (settled c es) up in
     let p : is_present head c ≡ true = all_present head c plain below in
@@ -125,12 +127,12 @@ pub setup_begins_adding : (head : Head) (es : List Event) (stands : List ℕ) (p
     ((c : ℕ) → c < cpu → slice_index stands c < state) →
     Stands head es (RegBegin seat state (Setup state sub plain))
     × IsTied head (es ++ RegBegin seat state (Setup state sub plain) ∷ []) stands places' (Adding state cpu)
-setup_begins_adding head es stands places places' seat state sub cpu is tied asked states vacant unnamed written below reached first =
+setup_begins_adding head es stands places places' seat state sub cpu is tied asked states vacant unnamed written below up low =
     let within : state < length places = let top = asked.below in omega arith in
     let none : registered head state es ≡ None = tied.registered_is state ∙ rw vacant refl in
     let empty : filter (is_reached head state es) (numbers cpu) ≡ [] =
     filter_gap (is_reached head state es) 0 cpu (omega arith)
-    (λ c from to. reached_not head state es c (rw (tied.settled_is c (omega arith)) (first c to)))
+    (λ c from to. reached_not head state es c (rw (tied.settled_is c (omega arith)) (low c to)))
     in
     rw (is, written) (
       setup_stands head es stands places state sub tied asked vacant unnamed,
@@ -138,7 +140,7 @@ setup_begins_adding head es stands places places' seat state sub cpu is tied ask
           (record {
             registering = begun_registering head es places state sub tied.due_is within none;
             done = rw (registration_entries_push es (RegBegin head.possible state (Setup state sub plain)), empty) tt;
-            reached = reached_there head state es cpu tied.plain below (rw (tied.settled_is cpu below) reached);
+            reached = reached_there head state es cpu tied.plain below (rw (tied.settled_is cpu below) up);
           }),
     )
 

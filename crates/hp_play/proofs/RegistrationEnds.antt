@@ -1,5 +1,5 @@
 -- A registration ends after its last entry: its end stands, and its state has a name from then on.
-use Rattle.std.proofs.Common.{◌≡◌, ℕ, ◌+◌, Bool, true, false, cond, eqb, Option, Some, List, [], ◌∷◌, ◌++◌, refl, ap, sym, ◌∙◌}
+use Rattle.std.proofs.Common.{◌≡◌, ℕ, Bool, true, false, cond, eqb, Option, Some, List, [], ◌∷◌, ◌++◌, refl, ap, sym, ◌∙◌}
 use Rattle.std.specs.Prelude.{pos}
 use Rattle.std.proofs.lemmas.Bool.{eqb-true}
 use Rattle.hp_states.specs.declared.section.Dir.TheVariants.{Up}
@@ -18,13 +18,12 @@ use Rattle.hp_model.specs.Processors.{processors}
 use Rattle.hp_model.specs.RegistrationShape.{each, made, ok_value}
 use Rattle.hp_model.specs.StandsRegistrations.{RegEnds}
 use Rattle.hp_model.proofs.Laws.{registration_push, registered_push, settled_push, operation_push, walking_push}
-use Rattle.hp_model.proofs.HeadlineProof.{lawful_more}
 use Rattle.hp_play.specs.declared.due.Due.TheVariants.{Operation as Idle, Added}
 use Rattle.hp_play.specs.Form.{plain}
 use Rattle.hp_play.specs.Kept.{Kept}
 use Rattle.hp_play.specs.Machine.{place_at}
 use Rattle.hp_play.specs.Tied.{registered_by, registered_so, IsRegistering, IsAdded, IsTied}
-use Rattle.hp_play.proofs.TieFolds.{sites_push, quiet_more, seated_more}
+use Rattle.hp_play.proofs.TieFolds.{sites_push}
 use Rattle.hp_play.proofs.TieParts.{SubFound, sub_found, single_sub, tied_more}
 use Rattle.hp_play.proofs.RegistrationEntries.{shape_of}
 

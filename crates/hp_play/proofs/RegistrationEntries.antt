@@ -1,8 +1,8 @@
 -- A registration has one entry on each processor that it reaches, in their order: each stands, and is counted.
-use Rattle.std.proofs.Common.{◌≡◌, ℕ, ◌+◌, ◌<◌, ◌≤◌, Bool, true, false, eqb, Option, Some, None, IfSome, List, [], ◌∷◌, ◌++◌, length, length-append, refl, ap, sym, ◌∙◌, inr, arith}
+use Rattle.std.proofs.Common.{◌≡◌, ℕ, ◌+◌, ◌<◌, ◌≤◌, Bool, true, false, eqb, Option, Some, None, List, [], ◌∷◌, ◌++◌, length, refl, ap, sym, ◌∙◌, inr, arith}
 use Rattle.std.specs.Prelude.{slice_index, slice_set}
 use Rattle.std.specs.List.{filter}
-use Rattle.std.proofs.lemmas.Bool.{eq-eqb, ne_eqb}
+use Rattle.std.proofs.lemmas.Bool.{eq-eqb}
 use Rattle.hp_states.specs.declared.limits.TheConstants.{ONLINE}
 use Rattle.hp_states.specs.declared.section.Dir.TheVariants.{Up}
 use Rattle.hp_states.specs.declared.section.Place.TheVariants as placed
@@ -19,7 +19,7 @@ use Rattle.hp_model.specs.Lists.{numbers}
 use Rattle.hp_model.specs.Lawful.{Stands}
 use Rattle.hp_model.specs.Registrations.{Registration, registration, registration_entries}
 use Rattle.hp_model.specs.Settled.{settled}
-use Rattle.hp_model.specs.Calls.{sites, sub_at}
+use Rattle.hp_model.specs.Calls.{sub_at}
 use Rattle.hp_model.specs.Subsystems.{is_multi}
 use Rattle.hp_model.specs.Registered.{registered}
 use Rattle.hp_model.specs.Processors.{processors}
@@ -35,8 +35,8 @@ use Rattle.hp_play.specs.declared.due.Due.TheVariants.{Adding, Added}
 use Rattle.hp_play.specs.Form.{plain}
 use Rattle.hp_play.specs.Kept.{Kept}
 use Rattle.hp_play.specs.Machine.{place_at, called}
-use Rattle.hp_play.specs.Tied.{IsPlainSub, registered_so, is_at, IsKept, IsRegistering, is_reached, IsAdding, IsDue, IsTied}
-use Rattle.hp_play.proofs.TieFolds.{sites_push, quiet_more, seated_more}
+use Rattle.hp_play.specs.Tied.{IsPlainSub, registered_so, is_at, IsRegistering, is_reached, IsAdding, IsDue, IsTied}
+use Rattle.hp_play.proofs.TieFolds.{quiet_more, seated_more}
 use Rattle.hp_play.proofs.TieLists.{place_at-set_same, at_each, filter_gap, filter_next, filter_split, each-append}
 use Rattle.hp_play.proofs.TieParts.{SubFound, sub_found, single_sub}
 use Rattle.hp_play.proofs.CalledPlace.{subs_called, kept_called}
@@ -110,7 +110,8 @@ called_registering head es places state cpu kept r place_is within =
       at_state = r.at_state;
       kept = called kept (site_at cpu 0 Up);
       place_is = place_at-set_same places state (Some (called kept (site_at cpu 0 Up))) within;
-      setup = r.setup ∙ ap (λ (k : Kept). Setup state k.sub plain) (place_same (place_at places state) r.kept kept r.place_is place_is);
+      setup = r.setup
+          ∙ ap (λ (k : Kept). Setup state k.sub plain) (place_same (place_at places state) r.kept kept r.place_is place_is);
       no_operation = operation_push es e ∙ r.no_operation;
       no_walk = walking_push es e ∙ r.no_walk;
       still = λ c. r.still c ∙ sym (settled_push c es e);
@@ -118,7 +119,8 @@ called_registering head es places state cpu kept r place_is within =
     }
 
 -- the machine's parts after an entry, but for what is due
-called_tied : (head : Head) (es : List Event) (stands : List ℕ) (places : List (Option Kept)) (state cpu : ℕ) (kept : Kept) (due : Due) →
+called_tied : (head : Head) (es : List Event) (stands : List ℕ) (places : List (Option Kept)) (state cpu : ℕ)
+    (kept : Kept) (due : Due) →
     IsTied head es stands places (Adding state cpu) → cpu < head.possible → is_ap_state state ≡ true →
     place_at places state ≡ Some kept → state < length places → ((s : ℕ) → is_at due s ≡ eqb state s) →
     IsDue head (es ++ Call cpu cpu state 0 Up RanOk ∷ [])
@@ -141,7 +143,8 @@ called_tied head es stands places state cpu kept due tied below ap_state place_i
           within (registered_push head state es e ∙ (rw (at state, self) none))
           (λ s other. registered_push head s es e ∙ (rw (at s) (tied.registered_is s)));
       kept = λ s. kept_called es places cpu cpu state s kept within place_is (tied.kept s) (tied.kept state);
-      subs = λ s. subs_called (length head.subs) places state s kept (site_at cpu 0 Up) within place_is (tied.subs s) (tied.subs state);
+      subs = λ s.
+          subs_called (length head.subs) places state s kept (site_at cpu 0 Up) within place_is (tied.subs s) (tied.subs state);
       due_is = is_due;
     }
 
@@ -180,7 +183,7 @@ pub adding_called : (head : Head) (es : List Event) (stands : List ℕ) (places 
     state ≤ slice_index stands next → ((c : ℕ) → cpu < c → c < next → slice_index stands c < state) →
     Stands head es (Call cpu cpu state 0 Up RanOk)
     × IsTied head (es ++ Call cpu cpu state 0 Up RanOk ∷ []) stands places' (Adding state next)
-adding_called head es stands places places' state cpu next kept tied states below top ap_state place_is written above few up none =
+adding_called head es stands places places' state cpu next kept tied states below top ap_state place_is is above few up none =
     let adding : IsAdding head es (place_at places state) state cpu = tied.due_is in
     let r : IsRegistering head es (place_at places state) state = adding.registering in
     let within : state < length places = omega arith in
@@ -188,7 +191,7 @@ adding_called head es stands places places' state cpu next kept tied states belo
     λ c low. stood head es stands places (Adding state cpu) (place_at places state) state c tied r low
     in (
       inr (call_stands head es stands places state cpu tied below ap_state),
-      rw written
+      rw is
           (called_tied head es stands places state cpu kept (Adding state next) tied below ap_state place_is within (λ s. refl)
           (record {
             registering = called_registering head es places state cpu kept r place_is within;

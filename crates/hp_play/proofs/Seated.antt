@@ -1,5 +1,5 @@
 -- The seats are in: the machine is tied to the admissions, which are the first events of its run.
-use Rattle.std.proofs.Common.{◌≡◌, ℕ, zero, suc, ◌+◌, ◌<◌, ◌≤◌, Bool, true, false, cond, eqb, Option, Some, None, List, [], ◌∷◌, ◌++◌, length, slice_index, refl, sym, ap, ◌∙◌, subst, append_assoc, arith}
+use Rattle.std.proofs.Common.{◌≡◌, ℕ, zero, suc, ◌+◌, ◌<◌, ◌≤◌, Bool, true, false, cond, eqb, Option, Some, None, List, [], ◌∷◌, ◌++◌, length, refl, sym, ap, ◌∙◌, subst, arith}
 use Rattle.std.proofs.lemmas.Bool.{eq-eqb}
 use Rattle.std.proofs.lemmas.Bool.Decides.{nat_tests}
 use Rattle.hp_states.specs.declared.limits.TheConstants.{MAX_CPUS, ONLINE, OFFLINE}
@@ -17,7 +17,7 @@ use Rattle.hp_model.specs.Suspend.{disabled}
 use Rattle.hp_model.specs.Armed.{armed}
 use Rattle.hp_model.specs.MapLock.{operation}
 use Rattle.hp_model.specs.Registrations.{registration}
-use Rattle.hp_model.specs.Registered.{Registered, registered}
+use Rattle.hp_model.specs.Registered.{registered}
 use Rattle.hp_model.specs.Walks.{walking}
 use Rattle.hp_model.specs.Settled.{settled}
 use Rattle.hp_model.specs.Seats.{role_of, ap_seat}
@@ -25,7 +25,6 @@ use Rattle.hp_model.specs.Run.{ap_admits, admissions}
 use Rattle.hp_model.proofs.Laws.{readers_push, reading_since_push, operation_push, registration_push, registered_push, walking_push, settled_push, role_push, ap_push}
 use Rattle.hp_model.proofs.RunLemmas.{admissions_lawful}
 use Rattle.hp_play.specs.Kept.{Kept}
-use Rattle.hp_play.specs.Machine.{place_at}
 use Rattle.hp_play.specs.declared.due.Due.TheVariants.{Operation as Idle}
 use Rattle.hp_play.specs.Tied.{IsTied, IsPlainHead, IsSeated, IsQuiet, IsIdle, IsNew}
 use Rattle.hp_play.proofs.TieFolds.{armed_push, disabled_push}

@@ -1,5 +1,5 @@
 -- A setup is refused exactly where its state has a name, and a refusal leaves the machine's parts as they were.
-use Rattle.std.proofs.Common.{◌≡◌, ◌≢◌, ℕ, ◌+◌, ◌<◌, ◌≤◌, Bool, true, false, not, ◌&&◌, ◌||◌, cond, eqb, leb, ltb, is_some, is_none, Option, Some, None, List, [], ◌∷◌, ◌++◌, length, refl, ap, ◌∙◌, ◌⊎◌, inl, inr, arith}
+use Rattle.std.proofs.Common.{◌≡◌, ℕ, ◌<◌, ◌≤◌, Bool, true, false, not, ◌&&◌, ◌||◌, cond, eqb, leb, ltb, is_some, is_none, Option, Some, None, List, [], ◌∷◌, ◌++◌, length, refl, ap, ◌∙◌, ◌⊎◌, inl, inr, arith}
 use Rattle.std.specs.Prelude.{IsSome}
 use Rattle.std.proofs.lemmas.Bool.{false≢true, ne_eqb, lt-ltb, lt-leb}
 use Rattle.hp_states.specs.declared.limits.TheConstants.{ONLINE, EBUSY, EINVAL, EDEADLK, EPERM, ENOSPC}
@@ -21,13 +21,12 @@ use Rattle.hp_model.specs.RefusalsAtOnce.{if_so, first_that_holds}
 use Rattle.hp_model.specs.Refusals.{refusal}
 use Rattle.hp_model.specs.StandsOperations.{IsRefused}
 use Rattle.hp_model.proofs.Laws.{registration_push, registered_push, settled_push, operation_push, walking_push}
-use Rattle.hp_model.proofs.HeadlineProof.{lawful_more}
 use Rattle.hp_play.specs.declared.due.Due.TheVariants.{Operation as Idle}
 use Rattle.hp_play.specs.Form.{plain, IsSetup}
 use Rattle.hp_play.specs.Kept.{Kept}
 use Rattle.hp_play.specs.Machine.{place_at}
 use Rattle.hp_play.specs.Tied.{registered_by, IsTied}
-use Rattle.hp_play.proofs.TieFolds.{sites_push, quiet_more, seated_more}
+use Rattle.hp_play.proofs.TieFolds.{sites_push}
 use Rattle.hp_play.proofs.TieParts.{SubFound, sub_found, idle_free, tied_more}
 
 -- an operation is refused

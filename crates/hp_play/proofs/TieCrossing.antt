@@ -1,47 +1,38 @@
 -- The entries of a walk: each stands, and what the machine's parts say stays so.
-use Rattle.std.proofs.Common.{◌≡◌, ◌≢◌, ℕ, zero, suc, ◌+◌, ◌-◌, ◌<◌, ◌≤◌, Bool, true, false, not, ◌&&◌, nat_lt, nat_eq, cond, eqb, Option, Some, None, IfSome, List, [], ◌∷◌, ◌++◌, length, length-append, get_or, slice_index, refl, sym, ap, ◌∙◌, subst, arith, inl, inr, pos}
-use Rattle.std.specs.Prelude.{slice_set, slice_get}
-use Rattle.std.specs.List.{AllZip, All}
-use Rattle.std.proofs.lemmas.List.{append_assoc}
-use Rattle.std.proofs.lemmas.List.Elements.{All-get_or}
-use Rattle.std.proofs.lemmas.Bool.{lt-ltb, eq-eqb, eqb-true, eqb-false}
+use Rattle.std.proofs.Common.{◌≡◌, ℕ, ◌-◌, ◌<◌, ◌≤◌, Bool, true, false, ◌&&◌, nat_lt, eqb, Option, Some, None, List, [], ◌∷◌, ◌++◌, length, refl, sym, ap, ◌∙◌, arith, inl}
+use Rattle.std.specs.Prelude.{slice_set}
+use Rattle.std.proofs.lemmas.Bool.{lt-ltb, eq-eqb}
 use Rattle.hp_states.specs.declared.limits.TheConstants.{ONLINE}
 use Rattle.hp_states.specs.declared.section.Dir.TheVariants.{Up}
 use Rattle.hp_states.specs.declared.section.Place.TheVariants as placed
 use Rattle.hp_states.specs.Sections.{is_ap_state, can_fail}
-use Rattle.hp_states.specs.Rules.{Site, site_at}
+use Rattle.hp_states.specs.Rules.{site_at}
 use Rattle.hp_event.specs.declared.event.How.TheVariants.{RanOk}
-use Rattle.hp_event.specs.declared.head.Sub.{Sub}
 use Rattle.hp_event.specs.declared.head.Head.{Head}
 use Rattle.hp_event.specs.declared.event.Event.{Event}
 use Rattle.hp_event.specs.declared.event.Event.TheVariants.{Call}
 use Rattle.hp_model.specs.Lists.{rising}
-use Rattle.hp_model.specs.Subsystems.{sub_numbered}
-use Rattle.hp_model.specs.Registered.{Registered, keys, registered, insts_of}
+use Rattle.hp_model.specs.Registered.{keys, registered}
 use Rattle.hp_model.specs.Registrations.{registration}
-use Rattle.hp_model.specs.Settled.{settled}
-use Rattle.hp_model.specs.Calls.{sites, sub_at}
 use Rattle.hp_model.specs.Armed.{armed}
 use Rattle.hp_model.specs.How.{how_in_walk}
-use Rattle.hp_model.specs.Caller.{caller}
-use Rattle.hp_model.specs.Walks.{Walk, walk, walking, walk_entries}
+use Rattle.hp_model.specs.Walks.{walk_entries}
 use Rattle.hp_model.specs.Plan.{keyed, plan, direction}
-use Rattle.hp_model.specs.Crossing.{Slot, slots, Fill, Fits, visit}
+use Rattle.hp_model.specs.Crossing.{Slot, slots, Fill}
 use Rattle.hp_model.specs.WalkShape.{crossed, went}
-use Rattle.hp_model.specs.StandsCalls.{InWalk}
 use Rattle.hp_model.specs.Lawful.{Stands}
 use Rattle.hp_model.proofs.Laws.{walk_push, walk_entries_push, walking_push, registration_push, operation_push, registered_push, settled_push}
 use Rattle.hp_model.proofs.HeadlineProof.{lawful_more}
 use Rattle.hp_model.proofs.NextSlot.{slots-append}
 use Rattle.hp_model.proofs.Path.{crossed-append}
 use Rattle.hp_model.proofs.Readings.{Fill-append}
-use Rattle.hp_play.specs.Tied.{IsTied, IsKept, IsPlainSub, IsEntered, IsWalking, IsCrossing, registered_by, registered_so, is_at, IsDue}
+use Rattle.hp_play.specs.Tied.{IsTied, IsWalking, registered_by, is_at, IsDue}
 use Rattle.hp_play.specs.declared.due.Due.{Due}
-use Rattle.hp_play.specs.declared.due.Due.TheVariants.{Operation as Idle, Walk as Walking, Crossing, Crossed, End}
+use Rattle.hp_play.specs.declared.due.Due.TheVariants.{Crossing, Crossed}
 use Rattle.hp_play.specs.Kept.{Kept}
 use Rattle.hp_play.specs.Machine.{place_at, called}
-use Rattle.hp_play.proofs.TieFolds.{sites_push, answers_push, quiet_more, seated_more}
-use Rattle.hp_play.proofs.TieLists.{keyed_none, keyed_gap, keyed_next, keyed_around, place_at-set}
+use Rattle.hp_play.proofs.TieFolds.{answers_push, quiet_more, seated_more}
+use Rattle.hp_play.proofs.TieLists.{keyed_gap, keyed_next, keyed_around}
 use Rattle.hp_play.proofs.TieParts.{SubFound, sub_found, entered_more}
 use Rattle.hp_play.proofs.CalledPlace.{registered_called, subs_called, kept_called}
 use Rattle.hp_play.proofs.TieWalk.{no_key, one_key}
@@ -57,7 +48,8 @@ ran_in_walk head es c s kept sub idle is disarmed =
     rw (idle, is, sub.is, sub.plain.has_startup, disarmed, and_false (can_fail Up s placed.Forward), sub.plain.no_rules) refl
 
 crossed_slots : (c : ℕ) (K : ℕ → List ℕ) (xs ys : List ℕ) →
-    slots c K (crossed placed.Forward Up (xs ++ ys)) ≡ slots c K (crossed placed.Forward Up xs) ++ slots c K (crossed placed.Forward Up ys)
+    slots c K (crossed placed.Forward Up (xs ++ ys))
+    ≡ slots c K (crossed placed.Forward Up xs) ++ slots c K (crossed placed.Forward Up ys)
 crossed_slots c K xs ys =
     ap (slots c K) (crossed-append placed.Forward Up xs ys)
     ∙ slots-append c K (crossed placed.Forward Up xs) (crossed placed.Forward Up ys)
@@ -73,7 +65,7 @@ crossing_stands head es stands places c s kept t inside most ap_is some =
     let K = keys head w.flight.before in
     let up : nat_lt w.flight.from ONLINE ≡ true = lt-ltb w.flight.from ONLINE w.from_below in
     let key : K s ≡ 0 ∷ [] =
-        one_key head w.flight.before s (place_at places s) kept (w.registered_same s ∙ t.registered_is s) some in
+    one_key head w.flight.before s (place_at places s) kept (w.registered_same s ∙ t.registered_is s) some in
     let above : w.flight.from < s = omega (arith, w.from_at, t.due_is.above) in
     let is = rw some at (t.registered_is s) in
     let sub_ok = rw some at (t.subs s) in
@@ -81,26 +73,28 @@ crossing_stands head es stands places c s kept t inside most ap_is some =
     let front = keyed K (rising w.flight.from (s - 1 - w.flight.from)) in
     let rest = keyed K (rising s (ONLINE - s)) in
     inl (record {
-        of = w.flight;
-        in_flight = w.in_flight;
-        outcome = went;
-        crossings = crossed placed.Forward (direction w.flight.from w.flight.to) (plan K w.flight.from w.flight.to);
-        shape = refl;
-        slot = slot_at c s;
-        is_next =
-            record {
-                front = slots c K (crossed placed.Forward Up front);
-                rest = slots c K (crossed placed.Forward Up rest);
-                slots_are =
-                    rw (w.to_top, up) (ap (λ xs. slots c K (crossed placed.Forward Up xs)) parts ∙ crossed_slots c K front (s ∷ rest)
-                    ∙ rw key refl);
-                filled = w.done
-            };
-        fits = (refl, refl, refl, refl, refl);
-        how_is =
-            ran_in_walk head es c s kept (sub_found head kept.sub t.plain sub_ok.0 sub_ok.1) w.entered.no_registration is
-            (t.quiet.disarmed c);
-        caller_is = rw ap_is (t.seated.aps c inside)
+      of = w.flight;
+      in_flight = w.in_flight;
+      outcome = went;
+      crossings = crossed placed.Forward (direction w.flight.from w.flight.to) (plan K w.flight.from w.flight.to);
+      shape = refl;
+      slot = slot_at c s;
+      is_next =
+          record {
+            front = slots c K (crossed placed.Forward Up front);
+            rest = slots c K (crossed placed.Forward Up rest);
+            slots_are =
+                rw (w.to_top, up)
+                (ap (λ xs. slots c K (crossed placed.Forward Up xs)) parts
+                ∙ crossed_slots c K front (s ∷ rest)
+                ∙ rw key refl);
+            filled = w.done;
+          };
+      fits = (refl, refl, refl, refl, refl);
+      how_is =
+          ran_in_walk head es c s kept (sub_found head kept.sub t.plain sub_ok.0 sub_ok.1) w.entered.no_registration is
+          (t.quiet.disarmed c);
+      caller_is = rw ap_is (t.seated.aps c inside);
     })
 
 -- the walk after one entry more, up to a state below which nothing more is registered
@@ -114,30 +108,31 @@ went_on head es stands places c s at kept t some upto none =
     let K = keys head w.flight.before in
     let self : eqb c c ≡ true = eq-eqb c c refl in
     let key : K s ≡ 0 ∷ [] =
-        one_key head w.flight.before s (place_at places s) kept (w.registered_same s ∙ t.registered_is s) some in
+    one_key head w.flight.before s (place_at places s) kept (w.registered_same s ∙ t.registered_is s) some in
     let above : w.flight.from < s = omega (arith, w.from_at, t.due_is.above) in
     let front = keyed K (rising w.flight.from (s - 1 - w.flight.from)) in
     let row : keyed K (rising w.flight.from (at - w.flight.from)) ≡ front ++ s ∷ [] =
-        keyed_gap K w.flight.from s at (omega (arith, above)) upto
-        (λ u over to. no_key head w.flight.before u (place_at places u) (w.registered_same u ∙ t.registered_is u) (none u over to))
-        ∙ keyed_next K w.flight.from s above (rw key refl) in
+    keyed_gap K w.flight.from s at (omega (arith, above)) upto
+    (λ u over to.
+    no_key head w.flight.before u (place_at places u) (w.registered_same u ∙ t.registered_is u) (none u over to))
+    ∙ keyed_next K w.flight.from s above (rw key refl) in
     let entries : walk_entries c (es ++ e ∷ []) ≡ walk_entries c es ++ e ∷ [] = walk_entries_push c es e ∙ rw self refl in
     let last : Fill (slots c K (crossed placed.Forward Up (s ∷ []))) (e ∷ []) = rw key ((refl, refl, refl, refl, refl), tt) in
     record {
-        entered = entered_more head es e c (operation_push es e) (registration_push es e) w.entered;
-        flight = w.flight;
-        in_flight = walk_push c es e ∙ w.in_flight;
-        done =
-            rw (row, entries, crossed_slots c K front (s ∷ []))
-            (Fill-append (slots c K (crossed placed.Forward Up front)) (slots c K (crossed placed.Forward Up (s ∷ [])))
-            (walk_entries c es) (e ∷ []) w.done last);
-        by_client = w.by_client;
-        to_top = w.to_top;
-        from_below = w.from_below;
-        from_at = omega (arith, above, upto);
-        alone = walking_push es e ∙ w.alone;
-        unanswered = answers_push es e ∙ w.unanswered;
-        registered_same = λ u. w.registered_same u ∙ sym (registered_push head u es e)
+      entered = entered_more head es e c (operation_push es e) (registration_push es e) w.entered;
+      flight = w.flight;
+      in_flight = walk_push c es e ∙ w.in_flight;
+      done =
+          rw (row, entries, crossed_slots c K front (s ∷ []))
+          (Fill-append (slots c K (crossed placed.Forward Up front)) (slots c K (crossed placed.Forward Up (s ∷ [])))
+          (walk_entries c es) (e ∷ []) w.done last);
+      by_client = w.by_client;
+      to_top = w.to_top;
+      from_below = w.from_below;
+      from_at = omega (arith, above, upto);
+      alone = walking_push es e ∙ w.alone;
+      unanswered = answers_push es e ∙ w.unanswered;
+      registered_same = λ u. w.registered_same u ∙ sym (registered_push head u es e);
     }
 
 crossing_called : (head : Head) (es : List Event) (stands : List ℕ) (places after : List (Option Kept)) (c s : ℕ) (kept : Kept)
@@ -150,23 +145,24 @@ crossing_called head es stands places after c s kept next t inside most ap_is so
     let e : Event = Call c c s 0 Up RanOk in
     let site = site_at c 0 Up in
     record {
-        lawful = lawful_more head es e t.lawful (crossing_stands head es stands places c s kept t inside most ap_is some);
-        plain = t.plain;
-        seated = seated_more head es e refl t.seated;
-        quiet = quiet_more es e refl t.quiet;
-        settled_is = λ d i. settled_push d es e ∙ t.settled_is d i;
-        highest = t.highest;
-        registered_is = λ u.
-            registered_push head u es e
-            ∙ (t.registered_is u
-            ∙ (rw (elsewhere u, is) (sym (registered_called places s u kept site room some))));
-        kept = λ u. rw is (kept_called es places c c s u kept room some (t.kept u) (t.kept s));
-        subs = λ u. rw is (subs_called (length head.subs) places s u kept site room some (t.subs u) (t.subs s));
-        due_is = due
+      lawful = lawful_more head es e t.lawful (crossing_stands head es stands places c s kept t inside most ap_is some);
+      plain = t.plain;
+      seated = seated_more head es e refl t.seated;
+      quiet = quiet_more es e refl t.quiet;
+      settled_is = λ d i. settled_push d es e ∙ t.settled_is d i;
+      highest = t.highest;
+      registered_is = λ u.
+          registered_push head u es e
+          ∙ (t.registered_is u
+          ∙ (rw (elsewhere u, is) (sym (registered_called places s u kept site room some))));
+      kept = λ u. rw is (kept_called es places c c s u kept room some (t.kept u) (t.kept s));
+      subs = λ u. rw is (subs_called (length head.subs) places s u kept site room some (t.subs u) (t.subs s));
+      due_is = due;
     }
 
 -- the entry of the walk, after which the next registered state comes
-pub crossing_goes_on : (head : Head) (es : List Event) (stands : List ℕ) (places after : List (Option Kept)) (c s next : ℕ) (kept : Kept) →
+pub crossing_goes_on : (head : Head) (es : List Event) (stands : List ℕ) (places after : List (Option Kept))
+    (c s next : ℕ) (kept : Kept) →
     IsTied head es stands places (Crossing c s) → c < head.possible → s ≤ ONLINE → is_ap_state s ≡ true →
     place_at places s ≡ Some kept → s < length places →
     after ≡ slice_set places s (Some (called kept (site_at c 0 Up))) →
@@ -175,14 +171,15 @@ pub crossing_goes_on : (head : Head) (es : List Event) (stands : List ℕ) (plac
 crossing_goes_on head es stands places after c s next kept t inside most ap_is some room is above none =
     crossing_called head es stands places after c s kept (Crossing c next) t inside most ap_is some room is (λ u. refl)
     (record {
-        walking =
-            went_on head es stands places c s (next - 1) kept t some (omega (arith, above))
-            (λ u over to. none u over (omega (arith, to, above)));
-        above = omega (arith, above)
+      walking =
+          went_on head es stands places c s (next - 1) kept t some (omega (arith, above))
+          (λ u over to. none u over (omega (arith, to, above)));
+      above = omega (arith, above);
     })
 
 -- the last entry of the walk
-pub crossing_was_last : (head : Head) (es : List Event) (stands : List ℕ) (places after : List (Option Kept)) (c s : ℕ) (kept : Kept) →
+pub crossing_was_last : (head : Head) (es : List Event) (stands : List ℕ) (places after : List (Option Kept))
+    (c s : ℕ) (kept : Kept) →
     IsTied head es stands places (Crossing c s) → c < head.possible → s ≤ ONLINE → is_ap_state s ≡ true →
     place_at places s ≡ Some kept → s < length places →
     after ≡ slice_set places s (Some (called kept (site_at c 0 Up))) →

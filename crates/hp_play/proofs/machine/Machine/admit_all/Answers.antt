@@ -21,7 +21,8 @@ loop-cpu-preserved g c =
       events =
           ap (λ j. j.events) c.push.ensures ∙ ap (λ es. es ++ Admit cpu (Ap cpu) ∷ []) before.events ∙ sym (aps_next cpu);
       total =
-          rw (c.push.ensures, length-append c.loop-cpu.self.journal.events (Admit cpu (Ap cpu) ∷ [])) (omega (arith, before.total));
+          rw (c.push.ensures, length-append c.loop-cpu.self.journal.events (Admit cpu (Ap cpu) ∷ []))
+          (omega (arith, before.total));
     }
 
 pub returns-clause-events : goal.returns-clause-events

@@ -13,7 +13,8 @@ returns-clause-tied g c =
     let seat : c.client-seat.result ≡ c.args.self.now.journal.head.possible = c.client-seat.ensures ∙ c.requires.ready.cpus in
     let range = rw c.requires.due at c.requires.ready.in_range in
     let tied = rw c.requires.due at c.requires.tied in
-    rw (c.push.ensures, seat) (added_ends _ _ _ _ _ c.args.state refl tied (fixed_at c.args.state _ range.1 (c.requires.ready.placed c.args.state))).1
+    rw (c.push.ensures, seat)
+    (added_ends _ _ _ _ _ c.args.state refl tied (fixed_at c.args.state _ range.1 (c.requires.ready.placed c.args.state))).1
 
 pub returns-clause-goes : goal.returns-clause-goes
 returns-clause-goes g c =
