@@ -1,5 +1,5 @@
 -- The operations of a script are playable one by one, each setup with a hook.
-use Rattle.std.proofs.Common.{◌≡◌, ℕ, suc, ◌+◌, ◌<◌, ◌≤◌, min, map, [], ◌∷◌, ◌++◌, length-append, Bool, true, false, cond, IsTrue, List, length, get_or, drop, count_by, refl, sym, ap, subst, ◌∙◌, arith}
+use Rattle.std.proofs.Common.{◌≡◌, ℕ, suc, ◌+◌, ◌<◌, ◌≤◌, min, map, [], ◌∷◌, length-append, Bool, false, cond, List, length, get_or, drop, count_by, refl, sym, ap, subst, arith}
 use Rattle.std.specs.List.{All}
 use Rattle.std.proofs.lemmas.List.Elements.{All-get_or, All-from_get_or, All-append}
 use Rattle.std.proofs.lemmas.List.{length-map}
@@ -50,7 +50,8 @@ form_playable hooks l form =
     let all : All (IsPlayableIn (length l.subs)) l.ops =
     subst ops (sym form.ops_are)
     (All-append (IsPlayableIn (length l.subs)) form.setups form.ups
-    (each_other (IsSetup (length l.subs)) (IsPlayableIn (length l.subs)) form.setups (setup_playable (length l.subs)) form.all_setups)
+    (each_other (IsSetup (length l.subs)) (IsPlayableIn (length l.subs)) form.setups (setup_playable (length l.subs))
+    form.all_setups)
     (each_other IsUp (IsPlayableIn (length l.subs)) form.ups (up_playable (length l.subs)) form.all_ups)) in
     let P : ℕ → Type 0 = λ n. All (IsPlayableIn n) l.ops in subst P (sym subs) all
 
@@ -68,7 +69,10 @@ no_setups (op ∷ ops) none =
 -- there are hooks enough for the setups of the form
 pub form_hooks : (hooks : ℕ) (l : Lines) → IsForm hooks l → count_by is_setup l.ops ≤ hooks
 form_hooks hooks l form =
-    let none = no_setups form.ups (λ i inside. is_no_setup (get_or form.ups i (Up 0)) (All-get_or IsUp form.ups i (Up 0) inside form.all_ups)) in
+    let none =
+    no_setups form.ups
+    (λ i inside. is_no_setup (get_or form.ups i (Up 0)) (All-get_or IsUp form.ups i (Up 0) inside form.all_ups))
+    in
     let both = sum_by-append (λ (x : Op). cond (is_setup x) 1 0) form.setups form.ups in
     let some = count_by-le-length is_setup form.setups in
     let P : List Op → Type 0 = λ xs. count_by is_setup xs ≤ hooks in

@@ -1,6 +1,5 @@
 -- What was read and is no script of the form shows that the source holds none.
-use Rattle.std.proofs.Common.{◌≡◌, ℕ, ◌+◌, ◌≤◌, Option, Some, None, Result, Ok, Err, IfErr, List, [], ◌∷◌, ◌++◌, length, length-append, append-nil, refl, sym, ap, ◌∙◌, subst, arith, ⊎_elim}
-use Rattle.std.specs.Io.KnownBytes.{prepend_known, IsAtEnd}
+use Rattle.std.proofs.Common.{◌≡◌, ℕ, ◌+◌, Option, Some, None, Result, Ok, Err, IfErr, List, [], ◌++◌, length, length-append, append-nil, ap, ◌∙◌, subst, arith, ⊎_elim}
 use Rattle.hp_states.specs.declared.limits.TheConstants.{MAX_SCRIPT_BYTES}
 use Rattle.hp_play.specs.declared.top.Stop.{Stop}
 use Rattle.hp_play.specs.declared.top.Stop.TheVariants.{Refused, ReadFault, NoMemory}

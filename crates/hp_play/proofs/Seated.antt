@@ -1,5 +1,5 @@
 -- The seats are in: the machine is tied to the admissions, which are the first events of its run.
-use Rattle.std.proofs.Common.{◌≡◌, ℕ, zero, suc, ◌+◌, ◌<◌, ◌≤◌, Bool, true, false, cond, eqb, Option, Some, None, List, [], ◌∷◌, ◌++◌, length, slice_index, refl, sym, ap, ◌∙◌, subst, append_assoc, arith}
+use Rattle.std.proofs.Common.{◌≡◌, ℕ, zero, suc, ◌+◌, ◌<◌, ◌≤◌, Bool, true, false, cond, eqb, Option, Some, None, List, [], ◌∷◌, ◌++◌, length, refl, sym, ap, ◌∙◌, subst, arith}
 use Rattle.std.proofs.lemmas.Bool.{eq-eqb}
 use Rattle.std.proofs.lemmas.Bool.Decides.{nat_tests}
 use Rattle.hp_states.specs.declared.limits.TheConstants.{MAX_CPUS, ONLINE, OFFLINE}
@@ -17,7 +17,7 @@ use Rattle.hp_model.specs.Suspend.{disabled}
 use Rattle.hp_model.specs.Armed.{armed}
 use Rattle.hp_model.specs.MapLock.{operation}
 use Rattle.hp_model.specs.Registrations.{registration}
-use Rattle.hp_model.specs.Registered.{Registered, registered}
+use Rattle.hp_model.specs.Registered.{registered}
 use Rattle.hp_model.specs.Walks.{walking}
 use Rattle.hp_model.specs.Settled.{settled}
 use Rattle.hp_model.specs.Seats.{role_of, ap_seat}
@@ -25,7 +25,6 @@ use Rattle.hp_model.specs.Run.{ap_admits, admissions}
 use Rattle.hp_model.proofs.Laws.{readers_push, reading_since_push, operation_push, registration_push, registered_push, walking_push, settled_push, role_push, ap_push}
 use Rattle.hp_model.proofs.RunLemmas.{admissions_lawful}
 use Rattle.hp_play.specs.Kept.{Kept}
-use Rattle.hp_play.specs.Machine.{place_at}
 use Rattle.hp_play.specs.declared.due.Due.TheVariants.{Operation as Idle}
 use Rattle.hp_play.specs.Tied.{IsTied, IsPlainHead, IsSeated, IsQuiet, IsIdle, IsNew}
 use Rattle.hp_play.proofs.TieFolds.{armed_push, disabled_push}
@@ -159,6 +158,12 @@ pub admissions_are : (head : Head) (ops : List Op) → head.absent ≡ [] →
     admissions head (ops ∷ []) ≡ ap_admits 0 (numbers head.possible) ++ Admit head.possible Client ∷ []
 admissions_are head ops none = rw (present_is head none, length-numbers head.possible) refl
 
+-- the events after the client's admission, which is the last
+pub all_admitted : (head : Head) (ops : List Op) (es : List Event) (cpu seat : ℕ) → head.absent ≡ [] →
+    es ≡ ap_admits 0 (numbers cpu) → cpu ≡ head.possible → seat ≡ head.possible →
+    es ++ Admit seat Client ∷ [] ≡ admissions head (ops ∷ [])
+all_admitted head ops es cpu seat none events all is = rw (events, all, is) (sym (admissions_are head ops none))
+
 seated_in : (head : Head) (es : List Event) → AreIn head.possible es → IsSeated head (es ++ Admit head.possible Client ∷ [])
 seated_in head es h = record {
   aps = λ c below. ap_push c es e ∙ h.aps c below;
@@ -177,12 +182,14 @@ seated_in head es h = record {
     only k false same is = absurd (h.no_client k is)
 
 -- the machine that was just made is tied to them
-pub admitted_tied : (head : Head) (ops : List Op) (es : List Event) (stands : List ℕ) (places : List (Option Kept)) → IsHead head →
-    IsPlainHead head → es ≡ admissions head (ops ∷ []) →
+pub admitted_tied : (head : Head) (ops : List Op) (es : List Event) (stands : List ℕ) (places : List (Option Kept)) →
+    IsHead head → IsPlainHead head → es ≡ admissions head (ops ∷ []) →
     IsNew head stands places → IsTied head es stands places Idle
 admitted_tied head ops es stands places h plain is new =
     let n : ℕ = head.possible in
-    let few : length (present head) + 1 ≤ MAX_CPUS + 1 = rw (present_is head plain.all_present, length-numbers n) (omega (arith, h.few_possible)) in
+    let few : length (present head) + 1 ≤ MAX_CPUS + 1 =
+    rw (present_is head plain.all_present, length-numbers n) (omega (arith, h.few_possible))
+    in
     let cpus = cpus_in head n in
     let blank = blank_more head (ap_admits 0 (numbers n)) n Client cpus.1 in
     let lawful = admissions_lawful head (ops ∷ []) h (omega (arith, few)) in

@@ -1,95 +1,61 @@
 -- The entries of a walk: each stands, and what the machine's parts say stays so.
-use Rattle.std.proofs.Common.{◌≡◌, ◌≢◌, ℕ, zero, suc, ◌+◌, ◌-◌, ◌<◌, ◌≤◌, Bool, true, false, not, ◌&&◌, nat_lt, nat_eq, cond, eqb, Option, Some, None, IfSome, List, [], ◌∷◌, ◌++◌, length, length-append, get_or, slice_index, refl, sym, ap, ◌∙◌, subst, arith, inl, inr, pos}
-use Rattle.std.specs.Prelude.{slice_set, slice_get}
-use Rattle.std.specs.List.{AllZip, All}
-use Rattle.std.proofs.lemmas.List.{append_assoc}
-use Rattle.std.proofs.lemmas.List.Elements.{All-get_or}
-use Rattle.std.proofs.lemmas.Bool.{lt-ltb, eq-eqb, eqb-true, eqb-false}
+use Rattle.std.proofs.Common.{◌≡◌, ℕ, ◌-◌, ◌<◌, ◌≤◌, Bool, true, false, ◌&&◌, nat_lt, eqb, Option, Some, None, List, [], ◌∷◌, ◌++◌, length, refl, sym, ap, ◌∙◌, arith, inl}
+use Rattle.std.specs.Prelude.{slice_set}
+use Rattle.std.proofs.lemmas.Bool.{lt-ltb, eq-eqb}
 use Rattle.hp_states.specs.declared.limits.TheConstants.{ONLINE}
 use Rattle.hp_states.specs.declared.section.Dir.TheVariants.{Up}
 use Rattle.hp_states.specs.declared.section.Place.TheVariants as placed
 use Rattle.hp_states.specs.Sections.{is_ap_state, can_fail}
-use Rattle.hp_states.specs.Rules.{Site, site_at}
+use Rattle.hp_states.specs.Rules.{site_at}
 use Rattle.hp_event.specs.declared.event.How.TheVariants.{RanOk}
-use Rattle.hp_event.specs.declared.head.Sub.{Sub}
 use Rattle.hp_event.specs.declared.head.Head.{Head}
 use Rattle.hp_event.specs.declared.event.Event.{Event}
 use Rattle.hp_event.specs.declared.event.Event.TheVariants.{Call}
 use Rattle.hp_model.specs.Lists.{rising}
-use Rattle.hp_model.specs.Subsystems.{sub_numbered}
-use Rattle.hp_model.specs.Registered.{Registered, keys, registered, insts_of}
+use Rattle.hp_model.specs.Registered.{keys, registered}
 use Rattle.hp_model.specs.Registrations.{registration}
-use Rattle.hp_model.specs.Settled.{settled}
-use Rattle.hp_model.specs.Calls.{sites, sub_at}
 use Rattle.hp_model.specs.Armed.{armed}
 use Rattle.hp_model.specs.How.{how_in_walk}
-use Rattle.hp_model.specs.Caller.{caller}
-use Rattle.hp_model.specs.Walks.{Walk, walk, walking, walk_entries}
+use Rattle.hp_model.specs.Walks.{walk_entries}
 use Rattle.hp_model.specs.Plan.{keyed, plan, direction}
-use Rattle.hp_model.specs.Crossing.{Slot, slots, Fill, Fits, visit}
+use Rattle.hp_model.specs.Crossing.{Slot, slots, Fill}
 use Rattle.hp_model.specs.WalkShape.{crossed, went}
-use Rattle.hp_model.specs.StandsCalls.{InWalk}
 use Rattle.hp_model.specs.Lawful.{Stands}
 use Rattle.hp_model.proofs.Laws.{walk_push, walk_entries_push, walking_push, registration_push, operation_push, registered_push, settled_push}
 use Rattle.hp_model.proofs.HeadlineProof.{lawful_more}
 use Rattle.hp_model.proofs.NextSlot.{slots-append}
 use Rattle.hp_model.proofs.Path.{crossed-append}
 use Rattle.hp_model.proofs.Readings.{Fill-append}
-use Rattle.hp_play.specs.Tied.{IsTied, IsKept, IsPlainSub, IsEntered, IsWalking, IsCrossing, registered_by, registered_so, is_at, IsDue}
+use Rattle.hp_play.specs.Tied.{IsTied, IsWalking, registered_by, is_at, IsDue}
 use Rattle.hp_play.specs.declared.due.Due.{Due}
-use Rattle.hp_play.specs.declared.due.Due.TheVariants.{Operation as Idle, Walk as Walking, Crossing, Crossed, End}
+use Rattle.hp_play.specs.declared.due.Due.TheVariants.{Crossing, Crossed}
 use Rattle.hp_play.specs.Kept.{Kept}
 use Rattle.hp_play.specs.Machine.{place_at, called}
-use Rattle.hp_play.proofs.TieFolds.{sites_push, answers_push, quiet_more, seated_more}
-use Rattle.hp_play.proofs.TieLists.{keyed_none, keyed_gap, keyed_next, keyed_around, place_at-set}
-use Rattle.hp_play.proofs.TieWalk.{kept_same}
-
--- the plain subsystem of a number
-pub record IsThere (head : Head) (number : ℕ) : Type 0 where
-  pub sub : Sub
-  pub numbered : sub_numbered head number ≡ Some sub
-  pub plain : IsPlainSub sub
-
-nth_there : (subs : List Sub) (n : ℕ) (d : Sub) → n < length subs → slice_get subs n ≡ Some (get_or subs n d)
-nth_there [] n d h = absurd (omega arith)
-nth_there (x ∷ xs) zero d h = refl
-nth_there (x ∷ xs) (suc n) d h = nth_there xs n d (omega arith)
-
-pub there : (head : Head) (n : ℕ) → All IsPlainSub head.subs → 1 ≤ n → n ≤ length head.subs → IsThere head n
-there head zero all some most = absurd (omega arith)
-there head (suc n) all some most =
-    let below : n < length head.subs = omega arith in
-    let d : Sub = record { name = []; up = true; down = true; multi = false; plan = [] } in
-    record {
-        sub = get_or head.subs n d;
-        numbered = nth_there head.subs n d below;
-        plain = All-get_or IsPlainSub head.subs n d below all
-    }
+use Rattle.hp_play.proofs.TieFolds.{answers_push, quiet_more, seated_more}
+use Rattle.hp_play.proofs.TieLists.{keyed_gap, keyed_next, keyed_around}
+use Rattle.hp_play.proofs.TieParts.{SubFound, sub_found, entered_more}
+use Rattle.hp_play.proofs.CalledPlace.{registered_called, subs_called, kept_called}
+use Rattle.hp_play.proofs.TieWalk.{no_key, one_key}
 
 and_false : (b : Bool) → b && false ≡ false
 and_false true = refl
 and_false false = refl
 
-pub ran_in_walk : (head : Head) (es : List Event) (c s : ℕ) (kept : Kept) → IsThere head kept.sub → registration es ≡ None →
+pub ran_in_walk : (head : Head) (es : List Event) (c s : ℕ) (kept : Kept) → SubFound head kept.sub → registration es ≡ None →
     registered head s es ≡ registered_by (Some kept) → armed c es ≡ None →
     RanOk ≡ how_in_walk head es c s 0 Up placed.Forward true
 ran_in_walk head es c s kept sub idle is disarmed =
-    rw (idle, is, sub.numbered, sub.plain.has_startup, disarmed, and_false (can_fail Up s placed.Forward), sub.plain.no_rules) refl
+    rw (idle, is, sub.is, sub.plain.has_startup, disarmed, and_false (can_fail Up s placed.Forward), sub.plain.no_rules) refl
 
 crossed_slots : (c : ℕ) (K : ℕ → List ℕ) (xs ys : List ℕ) →
-    slots c K (crossed placed.Forward Up (xs ++ ys)) ≡ slots c K (crossed placed.Forward Up xs) ++ slots c K (crossed placed.Forward Up ys)
+    slots c K (crossed placed.Forward Up (xs ++ ys))
+    ≡ slots c K (crossed placed.Forward Up xs) ++ slots c K (crossed placed.Forward Up ys)
 crossed_slots c K xs ys =
     ap (slots c K) (crossed-append placed.Forward Up xs ys)
     ∙ slots-append c K (crossed placed.Forward Up xs) (crossed placed.Forward Up ys)
 
 abbrev slot_at : (c s : ℕ) → Slot
 slot_at c s = record { cpu = c; state = s; inst = 0; dir = Up; place = placed.Forward; first = true; fails = false }
-
--- the key of a taken place, as at the walk's begin
-walk_key : (head : Head) (es before : List Event) (s : ℕ) (place : Option Kept) (kept : Kept) →
-    registered head s before ≡ registered head s es → registered head s es ≡ registered_so false place → place ≡ Some kept →
-    keys head before s ≡ 0 ∷ []
-walk_key head es before s place kept same is some = rw (same, is, some) refl
 
 pub crossing_stands : (head : Head) (es : List Event) (stands : List ℕ) (places : List (Option Kept)) (c s : ℕ) (kept : Kept) →
     IsTied head es stands places (Crossing c s) → c < head.possible → s ≤ ONLINE → is_ap_state s ≡ true →
@@ -98,7 +64,8 @@ crossing_stands head es stands places c s kept t inside most ap_is some =
     let w = t.due_is.walking in
     let K = keys head w.flight.before in
     let up : nat_lt w.flight.from ONLINE ≡ true = lt-ltb w.flight.from ONLINE w.from_below in
-    let key : K s ≡ 0 ∷ [] = walk_key head es w.flight.before s (place_at places s) kept (w.registered_same s) (t.registered_is s) some in
+    let key : K s ≡ 0 ∷ [] =
+    one_key head w.flight.before s (place_at places s) kept (w.registered_same s ∙ t.registered_is s) some in
     let above : w.flight.from < s = omega (arith, w.from_at, t.due_is.above) in
     let is = rw some at (t.registered_is s) in
     let sub_ok = rw some at (t.subs s) in
@@ -106,78 +73,29 @@ crossing_stands head es stands places c s kept t inside most ap_is some =
     let front = keyed K (rising w.flight.from (s - 1 - w.flight.from)) in
     let rest = keyed K (rising s (ONLINE - s)) in
     inl (record {
-        of = w.flight;
-        in_flight = w.in_flight;
-        outcome = went;
-        crossings = crossed placed.Forward (direction w.flight.from w.flight.to) (plan K w.flight.from w.flight.to);
-        shape = refl;
-        slot = slot_at c s;
-        is_next =
-            record {
-                front = slots c K (crossed placed.Forward Up front);
-                rest = slots c K (crossed placed.Forward Up rest);
-                slots_are =
-                    rw (w.to_top, up) (ap (λ xs. slots c K (crossed placed.Forward Up xs)) parts ∙ crossed_slots c K front (s ∷ rest)
-                    ∙ rw key refl);
-                filled = w.done
-            };
-        fits = (refl, refl, refl, refl, refl);
-        how_is =
-            ran_in_walk head es c s kept (there head kept.sub t.plain.subs sub_ok.0 sub_ok.1) w.entered.no_registration is
-            (t.quiet.disarmed c);
-        caller_is = rw ap_is (t.seated.aps c inside)
+      of = w.flight;
+      in_flight = w.in_flight;
+      outcome = went;
+      crossings = crossed placed.Forward (direction w.flight.from w.flight.to) (plan K w.flight.from w.flight.to);
+      shape = refl;
+      slot = slot_at c s;
+      is_next =
+          record {
+            front = slots c K (crossed placed.Forward Up front);
+            rest = slots c K (crossed placed.Forward Up rest);
+            slots_are =
+                rw (w.to_top, up)
+                (ap (λ xs. slots c K (crossed placed.Forward Up xs)) parts
+                ∙ crossed_slots c K front (s ∷ rest)
+                ∙ rw key refl);
+            filled = w.done;
+          };
+      fits = (refl, refl, refl, refl, refl);
+      how_is =
+          ran_in_walk head es c s kept (sub_found head kept.sub t.plain sub_ok.0 sub_ok.1) w.entered.no_registration is
+          (t.quiet.disarmed c);
+      caller_is = rw ap_is (t.seated.aps c inside);
     })
-
--- a called place says the same of what is registered
-pub registered_called : (places : List (Option Kept)) (s t : ℕ) (kept : Kept) (site : Site) → s < length places →
-    place_at places s ≡ Some kept →
-    registered_by (place_at (slice_set places s (Some (called kept site))) t) ≡ registered_by (place_at places t)
-registered_called places s t kept site inside some =
-    ap registered_by (place_at-set places s (Some (called kept site)) t inside) ∙ go (eqb s t) refl
-  where
-    go : (b : Bool) → eqb s t ≡ b → registered_by (cond b (Some (called kept site)) (place_at places t)) ≡ registered_by (place_at places t)
-    go true e = let same : s ≡ t = eqb-true s t e in rw (← same, some) refl
-    go false e = refl
-
--- and of its subsystem
-pub subs_called : (n : ℕ) (places : List (Option Kept)) (s t : ℕ) (kept : Kept) (site : Site) → s < length places →
-    place_at places s ≡ Some kept → IfSome (place_at places t) (λ k. (1 ≤ k.sub) × (k.sub ≤ n)) →
-    IfSome (place_at places s) (λ k. (1 ≤ k.sub) × (k.sub ≤ n)) →
-    IfSome (place_at (slice_set places s (Some (called kept site))) t) (λ k. (1 ≤ k.sub) × (k.sub ≤ n))
-subs_called n places s t kept site inside some h k =
-    let P : Option Kept → Type 0 = λ place. IfSome place (λ k. (1 ≤ k.sub) × (k.sub ≤ n)) in
-    subst P (sym (place_at-set places s (Some (called kept site)) t inside)) (go (eqb s t))
-  where
-    go : (b : Bool) → IfSome (cond b (Some (called kept site)) (place_at places t)) (λ k. (1 ≤ k.sub) × (k.sub ≤ n))
-    go true = rw some at k
-    go false = h
-
--- the count of a called place goes with the journal's
-pub kept_called : (es : List Event) (places : List (Option Kept)) (seat c s t : ℕ) (kept : Kept) → s < length places →
-    place_at places s ≡ Some kept → IfSome (place_at places t) (IsKept es t) → IfSome (place_at places s) (IsKept es s) →
-    IfSome (place_at (slice_set places s (Some (called kept (site_at c 0 Up)))) t) (IsKept (es ++ Call seat c s 0 Up RanOk ∷ []) t)
-kept_called es places seat c s t kept inside some h k =
-    let e : Event = Call seat c s 0 Up RanOk in
-    let P : Option Kept → Type 0 = λ place. IfSome place (IsKept (es ++ e ∷ []) t) in
-    subst P (sym (place_at-set places s (Some (called kept (site_at c 0 Up))) t inside)) (go (eqb s t) refl)
-  where
-    go : (b : Bool) → eqb s t ≡ b →
-        IfSome (cond b (Some (called kept (site_at c 0 Up))) (place_at places t)) (IsKept (es ++ Call seat c s 0 Up RanOk ∷ []) t)
-    go true e =
-        let same : s ≡ t = eqb-true s t e in
-        let old = rw some at k in
-        let more : sites t (es ++ Call seat c s 0 Up RanOk ∷ []) ≡ sites t es ++ site_at c 0 Up ∷ [] =
-            sites_push t es (Call seat c s 0 Up RanOk) ∙ rw e refl in
-        record {
-            made =
-                rw (more, length-append (sites t es) (site_at c 0 Up ∷ []))
-                (let o : kept.made ≡ length (sites t es) = rw same at old.made in ap (λ n. n + 1) o);
-            no_rules = old.no_rules
-        }
-    go false e =
-        let same : sites t (es ++ Call seat c s 0 Up RanOk ∷ []) ≡ sites t es =
-            sites_push t es (Call seat c s 0 Up RanOk) ∙ rw e refl in
-        kept_same es (es ++ Call seat c s 0 Up RanOk ∷ []) t (place_at places t) same h
 
 -- the walk after one entry more, up to a state below which nothing more is registered
 went_on : (head : Head) (es : List Event) (stands : List ℕ) (places : List (Option Kept)) (c s at : ℕ) (kept : Kept) →
@@ -189,42 +107,33 @@ went_on head es stands places c s at kept t some upto none =
     let w = t.due_is.walking in
     let K = keys head w.flight.before in
     let self : eqb c c ≡ true = eq-eqb c c refl in
-    let key : K s ≡ 0 ∷ [] = walk_key head es w.flight.before s (place_at places s) kept (w.registered_same s) (t.registered_is s) some in
+    let key : K s ≡ 0 ∷ [] =
+    one_key head w.flight.before s (place_at places s) kept (w.registered_same s ∙ t.registered_is s) some in
     let above : w.flight.from < s = omega (arith, w.from_at, t.due_is.above) in
     let front = keyed K (rising w.flight.from (s - 1 - w.flight.from)) in
     let row : keyed K (rising w.flight.from (at - w.flight.from)) ≡ front ++ s ∷ [] =
-        keyed_gap K w.flight.from s at (omega (arith, above)) upto
-        (λ u over to. empty head w.flight.before es u (w.registered_same u) (t.registered_is u) (none u over to))
-        ∙ keyed_next K w.flight.from s above (rw key refl) in
+    keyed_gap K w.flight.from s at (omega (arith, above)) upto
+    (λ u over to.
+    no_key head w.flight.before u (place_at places u) (w.registered_same u ∙ t.registered_is u) (none u over to))
+    ∙ keyed_next K w.flight.from s above (rw key refl) in
     let entries : walk_entries c (es ++ e ∷ []) ≡ walk_entries c es ++ e ∷ [] = walk_entries_push c es e ∙ rw self refl in
     let last : Fill (slots c K (crossed placed.Forward Up (s ∷ []))) (e ∷ []) = rw key ((refl, refl, refl, refl, refl), tt) in
     record {
-        entered =
-            record {
-                of = w.entered.of;
-                held = operation_push es e ∙ w.entered.held;
-                by_client = w.entered.by_client;
-                up = w.entered.up;
-                no_registration = registration_push es e ∙ w.entered.no_registration
-            };
-        flight = w.flight;
-        in_flight = walk_push c es e ∙ w.in_flight;
-        done =
-            rw (row, entries, crossed_slots c K front (s ∷ []))
-            (Fill-append (slots c K (crossed placed.Forward Up front)) (slots c K (crossed placed.Forward Up (s ∷ [])))
-            (walk_entries c es) (e ∷ []) w.done last);
-        by_client = w.by_client;
-        to_top = w.to_top;
-        from_below = w.from_below;
-        from_at = omega (arith, above, upto);
-        alone = walking_push es e ∙ w.alone;
-        unanswered = answers_push es e ∙ w.unanswered;
-        registered_same = λ u. w.registered_same u ∙ sym (registered_push head u es e)
+      entered = entered_more head es e c (operation_push es e) (registration_push es e) w.entered;
+      flight = w.flight;
+      in_flight = walk_push c es e ∙ w.in_flight;
+      done =
+          rw (row, entries, crossed_slots c K front (s ∷ []))
+          (Fill-append (slots c K (crossed placed.Forward Up front)) (slots c K (crossed placed.Forward Up (s ∷ [])))
+          (walk_entries c es) (e ∷ []) w.done last);
+      by_client = w.by_client;
+      to_top = w.to_top;
+      from_below = w.from_below;
+      from_at = omega (arith, above, upto);
+      alone = walking_push es e ∙ w.alone;
+      unanswered = answers_push es e ∙ w.unanswered;
+      registered_same = λ u. w.registered_same u ∙ sym (registered_push head u es e);
     }
-  where
-    empty : (head : Head) (before es : List Event) (u : ℕ) → registered head u before ≡ registered head u es →
-        registered head u es ≡ registered_so false (place_at places u) → place_at places u ≡ None → keys head before u ≡ []
-    empty head before es u same is nothing = rw (same, is, nothing) refl
 
 crossing_called : (head : Head) (es : List Event) (stands : List ℕ) (places after : List (Option Kept)) (c s : ℕ) (kept : Kept)
     (next : Due) → IsTied head es stands places (Crossing c s) → c < head.possible → s ≤ ONLINE → is_ap_state s ≡ true →
@@ -236,23 +145,24 @@ crossing_called head es stands places after c s kept next t inside most ap_is so
     let e : Event = Call c c s 0 Up RanOk in
     let site = site_at c 0 Up in
     record {
-        lawful = lawful_more head es e t.lawful (crossing_stands head es stands places c s kept t inside most ap_is some);
-        plain = t.plain;
-        seated = seated_more head es e refl t.seated;
-        quiet = quiet_more es e refl t.quiet;
-        settled_is = λ d i. settled_push d es e ∙ t.settled_is d i;
-        highest = t.highest;
-        registered_is = λ u.
-            registered_push head u es e
-            ∙ (t.registered_is u
-            ∙ (rw (elsewhere u, is) (sym (registered_called places s u kept site room some))));
-        kept = λ u. rw is (kept_called es places c c s u kept room some (t.kept u) (t.kept s));
-        subs = λ u. rw is (subs_called (length head.subs) places s u kept site room some (t.subs u) (t.subs s));
-        due_is = due
+      lawful = lawful_more head es e t.lawful (crossing_stands head es stands places c s kept t inside most ap_is some);
+      plain = t.plain;
+      seated = seated_more head es e refl t.seated;
+      quiet = quiet_more es e refl t.quiet;
+      settled_is = λ d i. settled_push d es e ∙ t.settled_is d i;
+      highest = t.highest;
+      registered_is = λ u.
+          registered_push head u es e
+          ∙ (t.registered_is u
+          ∙ (rw (elsewhere u, is) (sym (registered_called places s u kept site room some))));
+      kept = λ u. rw is (kept_called es places c c s u kept room some (t.kept u) (t.kept s));
+      subs = λ u. rw is (subs_called (length head.subs) places s u kept site room some (t.subs u) (t.subs s));
+      due_is = due;
     }
 
 -- the entry of the walk, after which the next registered state comes
-pub crossing_goes_on : (head : Head) (es : List Event) (stands : List ℕ) (places after : List (Option Kept)) (c s next : ℕ) (kept : Kept) →
+pub crossing_goes_on : (head : Head) (es : List Event) (stands : List ℕ) (places after : List (Option Kept))
+    (c s next : ℕ) (kept : Kept) →
     IsTied head es stands places (Crossing c s) → c < head.possible → s ≤ ONLINE → is_ap_state s ≡ true →
     place_at places s ≡ Some kept → s < length places →
     after ≡ slice_set places s (Some (called kept (site_at c 0 Up))) →
@@ -261,14 +171,15 @@ pub crossing_goes_on : (head : Head) (es : List Event) (stands : List ℕ) (plac
 crossing_goes_on head es stands places after c s next kept t inside most ap_is some room is above none =
     crossing_called head es stands places after c s kept (Crossing c next) t inside most ap_is some room is (λ u. refl)
     (record {
-        walking =
-            went_on head es stands places c s (next - 1) kept t some (omega (arith, above))
-            (λ u over to. none u over (omega (arith, to, above)));
-        above = omega (arith, above)
+      walking =
+          went_on head es stands places c s (next - 1) kept t some (omega (arith, above))
+          (λ u over to. none u over (omega (arith, to, above)));
+      above = omega (arith, above);
     })
 
 -- the last entry of the walk
-pub crossing_was_last : (head : Head) (es : List Event) (stands : List ℕ) (places after : List (Option Kept)) (c s : ℕ) (kept : Kept) →
+pub crossing_was_last : (head : Head) (es : List Event) (stands : List ℕ) (places after : List (Option Kept))
+    (c s : ℕ) (kept : Kept) →
     IsTied head es stands places (Crossing c s) → c < head.possible → s ≤ ONLINE → is_ap_state s ≡ true →
     place_at places s ≡ Some kept → s < length places →
     after ≡ slice_set places s (Some (called kept (site_at c 0 Up))) →

@@ -7,7 +7,7 @@ use Rattle.hp_event.specs.declared.event.Op.TheVariants.{Up}
 use Rattle.hp_event.specs.declared.event.Role.{Role}
 use Rattle.hp_event.specs.declared.head.Head.{Head}
 use Rattle.hp_event.specs.declared.event.Event.{Event}
-use Rattle.hp_event.specs.declared.event.Event.TheVariants.{Admit, Leave, Enter, Refused, WalkBegin, Call, WalkEnd, OpEnd, RegBegin, RegEnd, ReadLock, ReadUnlock, Armed, Shown, Wakeup}
+use Rattle.hp_event.specs.declared.event.Event.TheVariants.{Admit, Leave, Enter, Refused, WalkBegin, Call, WalkEnd, OpEnd, RegBegin, RegEnd, ReadLock, ReadUnlock, Armed}
 use Rattle.hp_model.specs.Armed.{armed, armed_step}
 use Rattle.hp_model.specs.Suspend.{disabled, disabled_step}
 use Rattle.hp_model.specs.Sequence.{answers, answers_step}

@@ -1,5 +1,5 @@
 -- Lists of processors and states that a test picks out of a rising row, and what a place keeps after a write.
-use Rattle.std.proofs.Common.{◌≡◌, ◌≢◌, ℕ, zero, suc, ◌+◌, ◌-◌, ◌<◌, ◌≤◌, Bool, true, false, not, ◌&&◌, cond, eqb, leb, Option, List, [], ◌∷◌, ◌++◌, length, refl, ap, ◌∙◌, append_assoc, add-one, arith, ⊎_elim}
+use Rattle.std.proofs.Common.{◌≡◌, ◌≢◌, ℕ, zero, suc, ◌+◌, ◌-◌, ◌<◌, ◌≤◌, Bool, true, false, not, ◌&&◌, cond, eqb, leb, Option, List, [], ◌∷◌, ◌++◌, length, refl, ap, sym, ◌∙◌, subst, append_assoc, add-one, arith, ⊎_elim}
 use Rattle.std.specs.Prelude.{slice_set}
 use Rattle.std.specs.List.{filter}
 use Rattle.std.proofs.lemmas.List.{append-nil}
@@ -39,6 +39,18 @@ place_at-set places s place t below = go (eqb s t) refl
     go : (b : Bool) → eqb s t ≡ b → place_at (slice_set places s place) t ≡ cond b place (place_at places t)
     go true e = let same : s ≡ t = eqb-true s t e in rw (← same) (place_at-set_same places s place below)
     go false e = place_at-set_other places s place t (eqb-false s t e)
+
+-- what holds at the place that is written and at each other place
+pub at_each : (P : ℕ → Option Kept → Type 0) (places : List (Option Kept)) (state : ℕ) (place : Option Kept) →
+    state < length places → P state place → ((s : ℕ) → state ≢ s → P s (place_at places s)) →
+    (s : ℕ) → P s (place_at (slice_set places state place) s)
+at_each P places state place below here there s =
+    ⊎_elim
+    (λ (same : state ≡ s).
+    subst (λ t. P t (place_at (slice_set places state place) t)) same
+    (subst (P state) (sym (place_at-set_same places state place below)) here))
+    (λ (other : state ≡ s → ⊥). subst (P s) (sym (place_at-set_other places state place s other)) (there s other))
+    (cases_eq state s)
 
 -- one number more, which the test takes or leaves
 filter_one_out : (p : ℕ → Bool) (xs : List ℕ) (n : ℕ) → p n ≡ false → filter p (xs ++ n ∷ []) ≡ filter p xs

@@ -1,43 +1,24 @@
 -- The events of an `up` stand: its begin or its refusal, its walk and the entries of it, and its ends.
-use Rattle.std.proofs.Common.{◌≡◌, ◌≢◌, ℕ, zero, suc, ◌+◌, ◌-◌, ◌<◌, ◌≤◌, Bool, true, false, not, ◌&&◌, nat_lt, nat_eq, Option, Some, None, List, [], ◌∷◌, ◌++◌, length, get_or, slice_index, refl, sym, ap, ◌∙◌, subst, arith, inl, inr, pos}
+use Rattle.std.proofs.Common.{◌≡◌, ℕ, ◌<◌, ◌≤◌, true, false, nat_lt, nat_eq, Option, Some, List, slice_index, refl, sym, ◌∙◌, arith, pos}
 use Rattle.std.proofs.lemmas.Bool.{lt-ltb}
 use Rattle.std.proofs.lemmas.Bool.Decides.{nat_tests}
-use Rattle.std.specs.List.{All}
-use Rattle.std.proofs.lemmas.List.Elements.{All-get_or}
 use Rattle.hp_states.specs.declared.limits.TheConstants.{ONLINE, EINVAL}
-use Rattle.hp_states.specs.declared.section.Dir.TheVariants.{Up}
 use Rattle.hp_states.specs.declared.section.Place.TheVariants as placed
-use Rattle.hp_states.specs.Sections.{is_ap_state, can_fail}
 use Rattle.hp_event.specs.declared.event.Op.TheVariants as op
-use Rattle.hp_event.specs.declared.event.How.TheVariants.{RanOk}
 use Rattle.hp_event.specs.declared.event.Answer.TheVariants.{Ok}
-use Rattle.hp_event.specs.declared.head.Sub.{Sub}
 use Rattle.hp_event.specs.declared.head.Head.{Head}
 use Rattle.hp_event.specs.declared.event.Event.{Event}
-use Rattle.hp_event.specs.declared.event.Event.TheVariants.{Enter, WalkBegin, WalkEnd, OpEnd, Call}
-use Rattle.hp_model.specs.Lists.{rising}
-use Rattle.hp_model.specs.Seats.{is_busy, IsFree}
-use Rattle.hp_model.specs.Processors.{is_possible, is_present}
-use Rattle.hp_model.specs.Subsystems.{sub_numbered}
+use Rattle.hp_event.specs.declared.event.Event.TheVariants.{Enter, WalkBegin, WalkEnd, OpEnd}
 use Rattle.hp_model.specs.Refusals.{refusal, Passes}
-use Rattle.hp_model.specs.Registered.{keys, registered}
-use Rattle.hp_model.specs.Registrations.{registration}
+use Rattle.hp_model.specs.Registered.{keys}
 use Rattle.hp_model.specs.Settled.{settled}
-use Rattle.hp_model.specs.Plan.{keyed, plan, direction}
-use Rattle.hp_model.specs.Crossing.{Slot, slots, Fill}
+use Rattle.hp_model.specs.Plan.{plan, direction}
 use Rattle.hp_model.specs.WalkShape.{crossed, went}
-use Rattle.hp_model.specs.How.{how_in_walk}
-use Rattle.hp_model.specs.StandsCalls.{InWalk}
 use Rattle.hp_model.specs.Lawful.{Stands}
-use Rattle.hp_play.specs.Tied.{IsTied, IsPlainHead, IsPlainSub, IsIdle, IsEntered}
-use Rattle.hp_play.specs.declared.due.Due.TheVariants.{Operation as Idle, Walk as Walking, Crossing, Crossed, End}
+use Rattle.hp_play.specs.Tied.{IsTied}
+use Rattle.hp_play.specs.declared.due.Due.TheVariants.{Operation as Idle, Walk as Walking, Crossed, End}
 use Rattle.hp_play.specs.Kept.{Kept}
-use Rattle.hp_play.specs.Machine.{place_at}
-
-pub idle_free : (head : Head) (es : List Event) (stands : List ℕ) (places : List (Option Kept)) → IsTied head es stands places Idle →
-    IsFree es head.possible
-idle_free head es stands places t =
-    record { client = t.seated.client; idle = rw (t.due_is.no_operation, t.due_is.no_registration) refl }
+use Rattle.hp_play.proofs.TieParts.{idle_free}
 
 up_passes : (head : Head) (es : List Event) (stands : List ℕ) (places : List (Option Kept)) (c : ℕ) →
     IsTied head es stands places Idle → c < head.possible → Passes head es head.possible (op.Up c)
@@ -45,18 +26,22 @@ up_passes head es stands places c t there =
     let k = head.possible in
     let below : nat_lt c head.possible ≡ true = lt-ltb c head.possible there in
     record {
-        not_refused =
-            rw (
-                t.due_is.no_operation, t.due_is.no_registration, t.quiet.none_reads k, below, t.quiet.enabled,
-                t.plain.all_present
-            ) refl;
-        not_waiting = rw t.due_is.no_operation refl
+      not_refused =
+          rw (
+            t.due_is.no_operation,
+            t.due_is.no_registration,
+            t.quiet.none_reads k,
+            below,
+            t.quiet.enabled,
+            t.plain.all_present,
+          ) refl;
+      not_waiting = rw t.due_is.no_operation refl;
     }
 
 pub up_stands : (head : Head) (es : List Event) (stands : List ℕ) (places : List (Option Kept)) (c : ℕ) →
     IsTied head es stands places Idle → c < head.possible → Stands head es (Enter head.possible (op.Up c))
 up_stands head es stands places c t there =
-    record { free = idle_free head es stands places t; takes_map = refl; passes = up_passes head es stands places c t there }
+    record { free = idle_free head es t.seated t.due_is; takes_map = refl; passes = up_passes head es stands places c t there }
 
 not_below : (c n : ℕ) → n ≤ c → nat_lt c n ≡ false
 not_below c n h = grind (arith, nat_tests)
@@ -78,14 +63,14 @@ walk_stands head es stands places c from t there is low =
     let b = t.due_is in
     let at : settled c es ≡ from = t.settled_is c there ∙ sym is in
     record {
-        of = b.entered.of;
-        held = b.entered.held;
-        seat_is = b.entered.by_client;
-        no_walk = rw b.no_walk refl;
-        gives = rw (b.entered.up, b.unanswered, at, not_top from low) refl;
-        from_is = sym at;
-        no_reader = rw t.quiet.no_readers refl;
-        no_registration = rw b.entered.no_registration refl
+      of = b.entered.of;
+      held = b.entered.held;
+      seat_is = b.entered.by_client;
+      no_walk = rw b.no_walk refl;
+      gives = rw (b.entered.up, b.unanswered, at, not_top from low) refl;
+      from_is = sym at;
+      no_reader = rw t.quiet.no_readers refl;
+      no_registration = rw b.entered.no_registration refl;
     }
 
 pub top_stands : (head : Head) (es : List Event) (stands : List ℕ) (places : List (Option Kept)) (c : ℕ) →
@@ -97,11 +82,11 @@ top_stands head es stands places c t there high =
     let top : slice_index stands c ≡ ONLINE = omega (arith, most) in
     let at : settled c es ≡ ONLINE = t.settled_is c there ∙ top in
     record {
-        of = b.entered.of;
-        held = b.entered.held;
-        seat_is = b.entered.by_client;
-        no_walk = rw b.no_walk refl;
-        gives = rw (b.entered.up, b.unanswered, at) refl
+      of = b.entered.of;
+      held = b.entered.held;
+      seat_is = b.entered.by_client;
+      no_walk = rw b.no_walk refl;
+      gives = rw (b.entered.up, b.unanswered, at) refl;
     }
 
 pub end_stands : (head : Head) (es : List Event) (stands : List ℕ) (places : List (Option Kept)) →
@@ -109,11 +94,11 @@ pub end_stands : (head : Head) (es : List Event) (stands : List ℕ) (places : L
 end_stands head es stands places t =
     let b = t.due_is in
     record {
-        of = b.entered.of;
-        held = b.entered.held;
-        seat_is = b.entered.by_client;
-        no_walk = rw b.no_walk refl;
-        gives = rw (b.entered.up, b.answered) refl
+      of = b.entered.of;
+      held = b.entered.held;
+      seat_is = b.entered.by_client;
+      no_walk = rw b.no_walk refl;
+      gives = rw (b.entered.up, b.answered) refl;
     }
 
 pub walked_stands : (head : Head) (es : List Event) (stands : List ℕ) (places : List (Option Kept)) (c : ℕ) →
@@ -123,15 +108,15 @@ walked_stands head es stands places c t =
     let K = keys head w.flight.before in
     let below : nat_lt w.flight.from ONLINE ≡ true = lt-ltb w.flight.from ONLINE w.from_below in
     record {
-        of = w.flight;
-        in_flight = w.in_flight;
-        seat_is = w.by_client;
-        whole =
-            record {
-                outcome = went;
-                crossings = crossed placed.Forward (direction w.flight.from w.flight.to) (plan K w.flight.from w.flight.to);
-                shape = refl;
-                filled = rw (w.to_top, below) w.done;
-                answered = refl
-            }
+      of = w.flight;
+      in_flight = w.in_flight;
+      seat_is = w.by_client;
+      whole =
+          record {
+            outcome = went;
+            crossings = crossed placed.Forward (direction w.flight.from w.flight.to) (plan K w.flight.from w.flight.to);
+            shape = refl;
+            filled = rw (w.to_top, below) w.done;
+            answered = refl;
+          };
     }

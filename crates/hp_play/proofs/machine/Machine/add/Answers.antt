@@ -1,11 +1,10 @@
 -- The entry of the registration stands, and leaves the machine tied to its journal.
-use Rattle.std.proofs.Common.{◌≡◌, ℕ, ◌<◌, ◌+◌, ◌≤◌, false, ◌++◌, ◌∷◌, [], List, length, slice_index, refl, sym, ap, ◌∙◌, inl, inr, arith}
+use Rattle.std.proofs.Common.{◌<◌, false, refl, ap, inl, inr, arith}
 use Rattle.hp_states.specs.declared.section.Dir.TheVariants.{Up}
 use Rattle.hp_event.specs.declared.event.How.TheVariants.{RanOk}
 use Rattle.hp_event.specs.declared.event.Event.TheVariants.{Call}
 use Rattle.hp_play.proofs.Placed.{ap_at, kept_at}
-use Rattle.hp_play.proofs.TieRegistration.{adding_called, adding_called_last}
-use Rattle.hp_play.proofs.TieRegistration.{call_stands}
+use Rattle.hp_play.proofs.RegistrationEntries.{adding_called, adding_called_last, call_stands}
 use Rattle.hp_play.proofs.PlaysLaws.{plays_one}
 use Rattle.hp_play.proofs.machine.Machine.add.Goals as goal
 use Rattle.hp_play.proofs.machine.Machine.add.Goals.{in-Some, in-None}
@@ -19,20 +18,22 @@ returns-clause-tied g c =
     let ap_is = ap_at c.args.state _ range.2 (c.requires.ready.placed c.args.state) in
     let written = rw kept.1 at c.call.ensures.called in
     elim c.match-next_cpu.branch [
-        in-Some w ↦
-            let found = rw c.call.ensures.same.0 at w.in-Some.ensures.found in
-            let first = rw c.call.ensures.same.0 at w.in-Some.ensures.first in
-            let after : c.args.cpu < w.in-Some.next = omega (arith, found.0) in
-            let next_there : w.in-Some.next < c.args.self.now.journal.head.possible = omega (arith, found.1, c.requires.ready.cpus) in
-            rw (w.self-is, c.call.ensures.event, c.call.ensures.same.0)
-            (adding_called _ _ _ _ _ c.args.state c.args.cpu w.in-Some.next kept.0 tied c.requires.ready.states there range.1 ap_is
-            kept.1 written after next_there found.2
-            (λ d above below. first d (omega (arith, above)) below)).1
-        | in-None w ↦
-            let none = rw c.call.ensures.same.0 at w.in-None.ensures.none in
-            rw (w.self-is, c.call.ensures.event, c.call.ensures.same.0)
-            (adding_called_last _ _ _ _ _ c.args.state c.args.cpu kept.0 tied c.requires.ready.states there range.1 ap_is kept.1 written
-            (λ d above below. none d (omega (arith, above)) (omega (arith, below, c.requires.ready.cpus)))).1
+      | in-Some w ↦
+          let found = rw c.call.ensures.same.0 at w.in-Some.ensures.found in
+          let first = rw c.call.ensures.same.0 at w.in-Some.ensures.first in
+          let after : c.args.cpu < w.in-Some.next = omega (arith, found.0) in
+          let next_there : w.in-Some.next < c.args.self.now.journal.head.possible =
+          omega (arith, found.1, c.requires.ready.cpus)
+          in
+          rw (w.self-is, c.call.ensures.event, c.call.ensures.same.0)
+          (adding_called _ _ _ _ _ c.args.state c.args.cpu w.in-Some.next kept.0 tied c.requires.ready.states there range.1
+          ap_is kept.1 written after next_there found.2
+          (λ d above below. first d (omega (arith, above)) below)).1
+      | in-None w ↦
+          let none = rw c.call.ensures.same.0 at w.in-None.ensures.none in
+          rw (w.self-is, c.call.ensures.event, c.call.ensures.same.0)
+          (adding_called_last _ _ _ _ _ c.args.state c.args.cpu kept.0 tied c.requires.ready.states there range.1 ap_is
+          kept.1 written (λ d above below. none d (omega (arith, above)) (omega (arith, below, c.requires.ready.cpus)))).1
     ]
 
 pub returns-clause-goes : goal.returns-clause-goes

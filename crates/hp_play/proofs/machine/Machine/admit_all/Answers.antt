@@ -1,14 +1,10 @@
 -- The admissions are the first events of the run, and the machine is tied to them.
-use Rattle.std.proofs.Common.{rules, ◌≡◌, ℕ, ◌+◌, ◌<◌, ◌≤◌, ◌++◌, ◌∷◌, [], List, length, refl, sym, ap, ◌∙◌, arith}
+use Rattle.std.proofs.Common.{rules, ◌≡◌, ◌++◌, ◌∷◌, [], sym, ap, ◌∙◌, arith}
 use Rattle.std.proofs.lemmas.List.{length-append}
-use Rattle.hp_event.specs.declared.event.Op.{Op as AnOp}
 use Rattle.hp_event.specs.declared.event.Op.TheVariants.{Up}
-use Rattle.hp_event.specs.declared.event.Role.TheVariants.{Client, Ap}
-use Rattle.hp_event.specs.declared.event.Event.{Event}
+use Rattle.hp_event.specs.declared.event.Role.TheVariants.{Ap}
 use Rattle.hp_event.specs.declared.event.Event.TheVariants.{Admit}
-use Rattle.hp_model.specs.Lists.{numbers}
-use Rattle.hp_model.specs.Run.{ap_admits, admissions}
-use Rattle.hp_play.proofs.Seated.{aps_next, admissions_are, admitted_tied}
+use Rattle.hp_play.proofs.Seated.{aps_next, all_admitted, admitted_tied}
 use Rattle.hp_play.proofs.machine.Machine.admit_all.Goals as goal
 
 pub loop-cpu-preserved : goal.loop-cpu-preserved
@@ -24,7 +20,9 @@ loop-cpu-preserved g c =
       places_same = before.places_same;
       events =
           ap (λ j. j.events) c.push.ensures ∙ ap (λ es. es ++ Admit cpu (Ap cpu) ∷ []) before.events ∙ sym (aps_next cpu);
-      total = rw (c.push.ensures, length-append c.loop-cpu.self.journal.events (Admit cpu (Ap cpu) ∷ [])) (omega (arith, before.total));
+      total =
+          rw (c.push.ensures, length-append c.loop-cpu.self.journal.events (Admit cpu (Ap cpu) ∷ []))
+          (omega (arith, before.total));
     }
 
 pub returns-clause-events : goal.returns-clause-events
@@ -34,10 +32,7 @@ returns-clause-events g c = λ ops.
     let all : c.loop-cpu.cpu ≡ c.args.self.now.journal.head.possible =
     omega (arith, c.loop-cpu.auto.cpu-end, c.loop-cpu-test.false, seat) in
     ap (λ j. j.events) c.push-2.ensures
-    ∙ ap (λ (es : List Event). es ++ Admit c.client-client.result Client ∷ []) before.events
-    ∙ ap (λ (n : ℕ). ap_admits 0 (numbers n) ++ Admit c.client-client.result Client ∷ []) all
-    ∙ ap (λ (n : ℕ). ap_admits 0 (numbers c.args.self.now.journal.head.possible) ++ Admit n Client ∷ []) seat
-    ∙ sym (admissions_are c.args.self.now.journal.head ops c.requires.plain.all_present)
+    ∙ all_admitted c.args.self.now.journal.head ops _ _ _ c.requires.plain.all_present before.events all seat
 
 pub returns-clause-tied : goal.returns-clause-tied
 returns-clause-tied g c =
@@ -47,8 +42,5 @@ returns-clause-tied g c =
     omega (arith, c.loop-cpu.auto.cpu-end, c.loop-cpu-test.false, seat) in
     rw (c.push-2.ensures, before.head, before.settled_same, before.places_same, before.due, c.requires.free)
     (admitted_tied _ (Up 0 ∷ []) _ _ _ c.requires.head c.requires.plain
-    (ap (λ (es : List Event). es ++ Admit c.client-client.result Client ∷ []) before.events
-    ∙ ap (λ (n : ℕ). ap_admits 0 (numbers n) ++ Admit c.client-client.result Client ∷ []) all
-    ∙ ap (λ (n : ℕ). ap_admits 0 (numbers c.args.self.now.journal.head.possible) ++ Admit n Client ∷ []) seat
-    ∙ sym (admissions_are c.args.self.now.journal.head (Up 0 ∷ []) c.requires.plain.all_present))
+    (all_admitted c.args.self.now.journal.head (Up 0 ∷ []) _ _ _ c.requires.plain.all_present before.events all seat)
     c.requires.new)

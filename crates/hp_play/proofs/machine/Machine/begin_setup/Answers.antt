@@ -1,18 +1,24 @@
 -- A setup of a state that is registered, or that has a name, is busy.
-use Rattle.std.proofs.Common.{◌≡◌, refl, sym, inl, inr}
+use Rattle.std.proofs.Common.{refl, sym, inl, inr}
 use Rattle.hp_play.proofs.Placed.{is_named}
 use Rattle.hp_play.specs.Form.{plain}
-use Rattle.hp_play.proofs.TieRegistration.{asked_by_form, setup_refused}
+use Rattle.hp_play.proofs.SetupRefusal.{asked_by_form, setup_refused}
 use Rattle.hp_play.proofs.machine.Machine.begin_setup.Goals as goal
 use Rattle.hp_play.proofs.machine.Machine.begin_setup.Goals.{then-is_registered-via-then-is_registered, then-is_registered-via-else-is_registered+then-is_some}
 
 pub refuse-requires-clause-refused : goal.refuse-requires-clause-refused
 refuse-requires-clause-refused g c =
     let tied = rw c.requires.free at c.requires.tied in
-    let asked = (asked_by_form c.args.self.now.journal.head c.args.state c.args.sub plain (rw c.requires.op.0 at c.requires.op.1)).0 in
+    let asked =
+    (asked_by_form c.args.self.now.journal.head c.args.state c.args.sub plain (rw c.requires.op.0 at c.requires.op.1)).0
+    in
     elim c.then-is_registered.branch [
-        then-is_registered-via-then-is_registered w ↦
-            rw c.requires.op.0 (setup_refused _ _ _ _ _ c.args.state c.args.sub refl tied asked (inl (c.is_registered.ensures.yes w.if-is_registered.true))).1
-        | then-is_registered-via-else-is_registered+then-is_some w ↦
-            rw c.requires.op.0 (setup_refused _ _ _ _ _ c.args.state c.args.sub refl tied asked (inr (is_named _ _ w.builtin_name.ensures (sym w.if-is_some.ensures)))).1
+      | then-is_registered-via-then-is_registered w ↦
+          rw c.requires.op.0
+          (setup_refused _ _ _ _ _ c.args.state c.args.sub refl tied asked
+          (inl (c.is_registered.ensures.yes w.if-is_registered.true))).1
+      | then-is_registered-via-else-is_registered+then-is_some w ↦
+          rw c.requires.op.0
+          (setup_refused _ _ _ _ _ c.args.state c.args.sub refl tied asked
+          (inr (is_named _ _ w.builtin_name.ensures (sym w.if-is_some.ensures)))).1
     ]

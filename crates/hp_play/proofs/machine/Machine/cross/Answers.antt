@@ -1,9 +1,8 @@
 -- The entry of the walk stands, and leaves the machine tied to its journal.
-use Rattle.std.proofs.Common.{◌≡◌, ℕ, ◌<◌, false, ◌++◌, ◌∷◌, [], List, length, refl, sym, ap, ◌∙◌, inl, arith}
+use Rattle.std.proofs.Common.{◌<◌, false, length, refl, ap, inl, arith}
 use Rattle.hp_states.specs.declared.section.Dir.TheVariants.{Up}
 use Rattle.hp_event.specs.declared.event.How.TheVariants.{RanOk}
 use Rattle.hp_event.specs.declared.event.Event.TheVariants.{Call}
-use Rattle.hp_play.specs.Machine.{place_at}
 use Rattle.hp_play.proofs.Placed.{ap_at, kept_at, still_empty}
 use Rattle.hp_play.proofs.TieCrossing.{crossing_stands, crossing_goes_on, crossing_was_last}
 use Rattle.hp_play.proofs.PlaysLaws.{plays_one}
@@ -20,17 +19,17 @@ returns-clause-tied g c =
     let room : c.args.state < length c.args.self.now.places.items = omega (arith, range.1, c.requires.ready.states) in
     let written = rw kept.1 at c.call.ensures.called in
     elim c.match-next_state.branch [
-        in-Some w ↦
-            let next = w.in-Some.ensures in
-            rw (w.self-is, c.call.ensures.event, c.call.ensures.same.0)
-            (crossing_goes_on _ _ _ _ _ c.args.cpu c.args.state w.in-Some.next kept.0 tied there range.1 ap_is kept.1 room written
-            next.found.0
-            (λ t above below. still_empty _ _ c.args.state t _ written above (next.first t above below)))
-        | in-None w ↦
-            let next = w.in-None.ensures in
-            rw (w.self-is, c.call.ensures.event, c.call.ensures.same.0)
-            (crossing_was_last _ _ _ _ _ c.args.cpu c.args.state kept.0 tied there range.1 ap_is kept.1 room written
-            (λ t above to. still_empty _ _ c.args.state t _ written above (next.none t above to)))
+      | in-Some w ↦
+          let next = w.in-Some.ensures in
+          rw (w.self-is, c.call.ensures.event, c.call.ensures.same.0)
+          (crossing_goes_on _ _ _ _ _ c.args.cpu c.args.state w.in-Some.next kept.0 tied there range.1 ap_is kept.1 room written
+          next.found.0
+          (λ t above below. still_empty _ _ c.args.state t _ written above (next.first t above below)))
+      | in-None w ↦
+          let next = w.in-None.ensures in
+          rw (w.self-is, c.call.ensures.event, c.call.ensures.same.0)
+          (crossing_was_last _ _ _ _ _ c.args.cpu c.args.state kept.0 tied there range.1 ap_is kept.1 room written
+          (λ t above to. still_empty _ _ c.args.state t _ written above (next.none t above to)))
     ]
 
 pub returns-clause-goes : goal.returns-clause-goes

@@ -1,7 +1,6 @@
 -- The end of the operation stands, and leaves the machine tied to its journal.
-use Rattle.std.proofs.Common.{◌≡◌, ℕ, true, ◌++◌, ◌∷◌, [], List, pos, refl, ap, ◌∙◌, inr}
+use Rattle.std.proofs.Common.{◌≡◌, ℕ, true, ◌++◌, ◌∷◌, [], pos, refl, ap, ◌∙◌, inr}
 use Rattle.std.proofs.lemmas.Bool.{eq-eqb}
-use Rattle.hp_event.specs.declared.event.Event.{Event}
 use Rattle.hp_event.specs.declared.event.Event.TheVariants.{OpEnd}
 use Rattle.hp_event.specs.declared.event.Answer.TheVariants.{Ok}
 use Rattle.hp_play.proofs.WalkRows.{end_stands}

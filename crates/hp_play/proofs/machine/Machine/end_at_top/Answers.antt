@@ -1,5 +1,5 @@
 -- The end of an operation of a processor that is up stands, and leaves the machine tied to its journal.
-use Rattle.std.proofs.Common.{◌≡◌, ℕ, ◌<◌, true, ◌++◌, ◌∷◌, [], List, length, pos, refl, sym, ap, ◌∙◌, inr, arith}
+use Rattle.std.proofs.Common.{◌≡◌, ℕ, ◌<◌, true, ◌++◌, ◌∷◌, [], pos, refl, ap, ◌∙◌, inr, arith}
 use Rattle.std.proofs.lemmas.Bool.{eq-eqb}
 use Rattle.hp_event.specs.declared.event.Event.TheVariants.{OpEnd}
 use Rattle.hp_event.specs.declared.event.Answer.TheVariants.{Ok}

@@ -1,9 +1,9 @@
 -- The end of the registration stands, and leaves the machine tied to its journal.
-use Rattle.std.proofs.Common.{◌≡◌, ℕ, true, ◌++◌, ◌∷◌, [], List, length, pos, refl, sym, ap, ◌∙◌, inr, Option, Some, None, IsSome}
+use Rattle.std.proofs.Common.{◌≡◌, ℕ, true, ◌++◌, ◌∷◌, [], pos, refl, ap, ◌∙◌, inr}
 use Rattle.std.proofs.lemmas.Bool.{eq-eqb}
 use Rattle.hp_event.specs.declared.event.Event.TheVariants.{RegEnd}
 use Rattle.hp_event.specs.declared.event.Answer.TheVariants.{Ok}
-use Rattle.hp_play.proofs.TieRegistration.{added_ends}
+use Rattle.hp_play.proofs.RegistrationEnds.{added_ends}
 use Rattle.hp_play.proofs.Placed.{fixed_at}
 use Rattle.hp_play.proofs.PlaysLaws.{plays_one}
 use Rattle.hp_play.proofs.machine.Machine.end_registration.Goals as goal
@@ -13,7 +13,8 @@ returns-clause-tied g c =
     let seat : c.client-seat.result ≡ c.args.self.now.journal.head.possible = c.client-seat.ensures ∙ c.requires.ready.cpus in
     let range = rw c.requires.due at c.requires.ready.in_range in
     let tied = rw c.requires.due at c.requires.tied in
-    rw (c.push.ensures, seat) (added_ends _ _ _ _ _ c.args.state refl tied (fixed_at c.args.state _ range.1 (c.requires.ready.placed c.args.state))).1
+    rw (c.push.ensures, seat)
+    (added_ends _ _ _ _ _ c.args.state refl tied (fixed_at c.args.state _ range.1 (c.requires.ready.placed c.args.state))).1
 
 pub returns-clause-goes : goal.returns-clause-goes
 returns-clause-goes g c =

@@ -1,5 +1,5 @@
 -- The end of the walk stands, and leaves the machine tied to its journal.
-use Rattle.std.proofs.Common.{◌≡◌, ℕ, ◌<◌, false, ◌++◌, ◌∷◌, [], List, length, pos, refl, sym, ap, ◌∙◌, inr, arith}
+use Rattle.std.proofs.Common.{◌≡◌, ℕ, false, ◌++◌, ◌∷◌, [], pos, refl, ap, ◌∙◌, inr}
 use Rattle.hp_event.specs.declared.event.Event.TheVariants.{WalkEnd}
 use Rattle.hp_event.specs.declared.event.Answer.TheVariants.{Ok}
 use Rattle.hp_play.proofs.WalkRows.{walked_stands}
@@ -19,4 +19,5 @@ returns-clause-goes g c =
     let tied = rw c.requires.due at c.requires.tied in
     plays_one _ _ _ _ _ _ c.args.op false (WalkEnd c.args.self.now.journal.head.possible c.args.cpu (Ok (pos 0))) tied
     (walked_stands _ _ _ _ c.args.cpu tied) (inr (refl, c.requires.op)) refl
-    (ap (λ j. j.events) c.push.ensures ∙ ap (λ (k : ℕ). c.args.self.now.journal.events ++ WalkEnd k c.args.cpu (Ok (pos 0)) ∷ []) seat)
+    (ap (λ j. j.events) c.push.ensures
+    ∙ ap (λ (k : ℕ). c.args.self.now.journal.events ++ WalkEnd k c.args.cpu (Ok (pos 0)) ∷ []) seat)

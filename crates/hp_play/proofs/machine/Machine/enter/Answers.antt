@@ -1,5 +1,5 @@
 -- The begin of an `up` stands, and leaves the machine tied to its journal.
-use Rattle.std.proofs.Common.{◌≡◌, ℕ, ◌<◌, false, ◌++◌, ◌∷◌, [], List, length, refl, sym, ap, ◌∙◌, inr, arith}
+use Rattle.std.proofs.Common.{◌≡◌, ℕ, ◌<◌, false, ◌++◌, ◌∷◌, [], refl, ap, ◌∙◌, inr, arith}
 use Rattle.hp_event.specs.declared.event.Event.TheVariants.{Enter}
 use Rattle.hp_event.specs.declared.event.Op.TheVariants.{Up}
 use Rattle.hp_play.proofs.WalkRows.{up_stands}

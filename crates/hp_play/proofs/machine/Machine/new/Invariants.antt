@@ -1,4 +1,4 @@
-use Rattle.std.proofs.Common.{◌≡◌, ℕ, ◌+◌, ◌<◌, ◌≤◌, None, length, slice_index, if◌then◌else◌}
+use Rattle.std.proofs.Common.{◌≡◌, ℕ, ◌<◌, ◌≤◌, None, length, slice_index, if◌then◌else◌}
 use Rattle.std.specs.Prelude.{◌==◌}
 use Rattle.hp_states.specs.declared.limits.TheConstants.{ONLINE, OFFLINE}
 use Rattle.hp_play.specs.Machine.{place_at}

@@ -1,5 +1,5 @@
 -- A round more of the operation.
-use Rattle.std.proofs.Common.{◌≡◌, ◌+◌, length, refl, ◌∙◌, arith}
+use Rattle.std.proofs.Common.{◌∙◌}
 use Rattle.hp_play.proofs.Placed.{flies}
 use Rattle.hp_play.proofs.PlaysLaws.{plays_more}
 use Rattle.hp_play.proofs.machine.Machine.operate.Goals as goal

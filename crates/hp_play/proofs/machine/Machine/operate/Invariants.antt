@@ -1,6 +1,6 @@
-use Rattle.std.proofs.Common.{◌≡◌, ◌+◌, length, true, false, not, if◌then◌else◌}
+use Rattle.std.proofs.Common.{◌≡◌, ◌+◌, length, true, not, if◌then◌else◌}
 use Rattle.hp_play.specs.Machine.{is_of, is_in_flight}
-use Rattle.hp_play.specs.Parts.{Ready, Tied, Keeps, GoesOn, work_of}
+use Rattle.hp_play.specs.Parts.{Ready, Tied, GoesOn, work_of}
 use Rattle.hp_play.specs.declared.due.Due.TheVariants.{Operation}
 use Rattle.hp_play.proofs.machine.Machine.operate.Given as goal
 

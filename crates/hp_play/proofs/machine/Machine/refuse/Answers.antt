@@ -1,8 +1,8 @@
 -- The refusal stands, and leaves the machine tied to its journal.
-use Rattle.std.proofs.Common.{◌≡◌, ℕ, true, ◌++◌, ◌∷◌, [], List, length, refl, sym, ap, ◌∙◌, inr}
+use Rattle.std.proofs.Common.{◌≡◌, ℕ, true, ◌++◌, ◌∷◌, [], refl, ap, ◌∙◌, inr}
 use Rattle.std.proofs.lemmas.Bool.{eq-eqb}
 use Rattle.hp_event.specs.declared.event.Event.TheVariants.{Refused}
-use Rattle.hp_play.proofs.TieRegistration.{refused_tied}
+use Rattle.hp_play.proofs.SetupRefusal.{refused_tied}
 use Rattle.hp_play.proofs.PlaysLaws.{plays_one}
 use Rattle.hp_play.proofs.machine.Machine.refuse.Goals as goal
 

@@ -1,5 +1,4 @@
 -- The processors' turns, and then the client's.
-use Rattle.std.proofs.Common.{◌≡◌, refl}
 use Rattle.hp_play.proofs.PlaysLaws.{plays_more}
 use Rattle.hp_play.proofs.machine.Machine.round.Goals as goal
 

@@ -1,5 +1,5 @@
 -- Where an entry is due, nothing is done.
-use Rattle.std.proofs.Common.{◌≡◌, refl}
+use Rattle.std.proofs.Common.{refl}
 use Rattle.hp_play.proofs.PlaysLaws.{plays_none}
 use Rattle.hp_play.proofs.machine.Machine.turn.Goals as goal
 
