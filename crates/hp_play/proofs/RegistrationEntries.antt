@@ -18,7 +18,6 @@ use Rattle.hp_event.specs.declared.event.Event.TheVariants.{Call}
 use Rattle.hp_model.specs.Lists.{numbers}
 use Rattle.hp_model.specs.Lawful.{Stands}
 use Rattle.hp_model.specs.Registrations.{Registration, registration, registration_entries}
-use Rattle.hp_model.specs.Settled.{settled}
 use Rattle.hp_model.specs.Calls.{sub_at}
 use Rattle.hp_model.specs.Subsystems.{is_multi}
 use Rattle.hp_model.specs.Registered.{registered}
@@ -169,11 +168,17 @@ filled_more head es before state cpu next filled reached above none =
     (Fill-append (each placed.Add Up state 0 (filter p (numbers cpu))) (each placed.Add Up state 0 (cpu ∷ []))
     (registration_entries es) (e ∷ []) filled ((refl, refl, refl, refl, refl), tt))
 
--- where a processor stood when the registration in flight began
-stood : (head : Head) (es : List Event) (stands : List ℕ) (places : List (Option Kept)) (due : Due) (place : Option Kept)
-    (state c : ℕ) → IsTied head es stands places due → (r : IsRegistering head es place state) → c < head.possible →
-    settled c r.of.before ≡ slice_index stands c
-stood head es stands places due place state c tied r below = r.still c ∙ tied.settled_is c below
+-- with this entry all are made up to the next processor, where none between stands at the state or above it
+filled_to : (head : Head) (es : List Event) (stands : List ℕ) (places : List (Option Kept)) (state cpu next : ℕ)
+    (tied : IsTied head es stands places (Adding state cpu)) → cpu < next → next ≤ head.possible →
+    ((c : ℕ) → cpu < c → c < next → slice_index stands c < state) →
+    Fill (each placed.Add Up state 0 (filter (is_reached head state tied.due_is.registering.of.before) (numbers next)))
+    (registration_entries (es ++ Call cpu cpu state 0 Up RanOk ∷ []))
+filled_to head es stands places state cpu next tied above few none =
+    let r : IsRegistering head es (place_at places state) state = tied.due_is.registering in
+    filled_more head es r.of.before state cpu next tied.due_is.done tied.due_is.reached above
+    (λ c from to.
+    reached_not head state r.of.before c (rw (r.still c ∙ tied.settled_is c (omega (arith, to, few))) (none c from to)))
 
 -- an entry is made, and the next is due
 pub adding_called : (head : Head) (es : List Event) (stands : List ℕ) (places places' : List (Option Kept))
@@ -184,20 +189,15 @@ pub adding_called : (head : Head) (es : List Event) (stands : List ℕ) (places 
     Stands head es (Call cpu cpu state 0 Up RanOk)
     × IsTied head (es ++ Call cpu cpu state 0 Up RanOk ∷ []) stands places' (Adding state next)
 adding_called head es stands places places' state cpu next kept tied states below top ap_state place_is is above few up none =
-    let adding : IsAdding head es (place_at places state) state cpu = tied.due_is in
-    let r : IsRegistering head es (place_at places state) state = adding.registering in
-    let within : state < length places = omega arith in
-    let stood_at : (c : ℕ) → c < head.possible → settled c r.of.before ≡ slice_index stands c =
-    λ c low. stood head es stands places (Adding state cpu) (place_at places state) state c tied r low
-    in (
+    let r : IsRegistering head es (place_at places state) state = tied.due_is.registering in
+    let within : state < length places = omega arith in (
       inr (call_stands head es stands places state cpu tied below ap_state),
       rw is
           (called_tied head es stands places state cpu kept (Adding state next) tied below ap_state place_is within (λ s. refl)
           (record {
             registering = called_registering head es places state cpu kept r place_is within;
-            done = filled_more head es r.of.before state cpu next adding.done adding.reached above
-                (λ c from to. reached_not head state r.of.before c (rw (stood_at c (omega arith)) (none c from to)));
-            reached = reached_there head state r.of.before next tied.plain few (rw (stood_at next few) up);
+            done = filled_to head es stands places state cpu next tied above (omega arith) none;
+            reached = reached_there head state r.of.before next tied.plain few (rw (r.still next ∙ tied.settled_is next few) up);
           })),
     )
 
@@ -210,18 +210,13 @@ pub adding_called_last : (head : Head) (es : List Event) (stands : List ℕ) (pl
     Stands head es (Call cpu cpu state 0 Up RanOk)
     × IsTied head (es ++ Call cpu cpu state 0 Up RanOk ∷ []) stands places' (Added state)
 adding_called_last head es stands places places' state cpu kept tied states below top ap_state place_is written none =
-    let adding : IsAdding head es (place_at places state) state cpu = tied.due_is in
-    let r : IsRegistering head es (place_at places state) state = adding.registering in
-    let within : state < length places = omega arith in
-    let stood_at : (c : ℕ) → c < head.possible → settled c r.of.before ≡ slice_index stands c =
-    λ c low. stood head es stands places (Adding state cpu) (place_at places state) state c tied r low
-    in (
+    let r : IsRegistering head es (place_at places state) state = tied.due_is.registering in
+    let within : state < length places = omega arith in (
       inr (call_stands head es stands places state cpu tied below ap_state),
       rw written
           (called_tied head es stands places state cpu kept (Added state) tied below ap_state place_is within (λ s. refl)
           (record {
             registering = called_registering head es places state cpu kept r place_is within;
-            done = filled_more head es r.of.before state cpu head.possible adding.done adding.reached below
-                (λ c from to. reached_not head state r.of.before c (rw (stood_at c to) (none c from to)));
+            done = filled_to head es stands places state cpu head.possible tied below (omega arith) none;
           })),
     )
