@@ -1,13 +1,13 @@
 -- The tree of adding a key, from one of its processors on.
-use Rattle.std.proofs.Common.{◌≡◌, ℕ, ◌+◌, ◌<◌, ◌≤◌, Bool, true, false, List, [], ◌∷◌, ◌++◌, length, take, drop, get_or, refl, ap, sym, ◌∙◌, drop-cons, add-one, take-suc, arith}
+use Rattle.std.proofs.Common.{◌≡◌, ℕ, ◌+◌, ◌<◌, ◌≤◌, true, false, List, [], ◌∷◌, ◌++◌, length, take, drop, get_or, refl, ap, sym, ◌∙◌, drop-cons, add-one, take-suc, arith}
 use Rattle.std.proofs.lemmas.List.{drop_all}
 use Rattle.hp_states.specs.declared.section.Dir.TheVariants.{Up}
 use Rattle.hp_states.specs.declared.section.Place.{Place}
 use Rattle.hp_event.specs.declared.event.Event.{Event}
 use Rattle.hp_model.specs.Crossing.{Slot}
-use Rattle.hp_model.proofs.NextSlot.{Tree, stop, step}
+use Rattle.hp_model.proofs.NextSlot.{stop, step}
 use Rattle.hp_model.proofs.NextRegistration.{down_tree, add_tree}
-use Rattle.hp_check.specs.Replay.{At, next, astray, is_live, is_for, goes_on, reached}
+use Rattle.hp_check.specs.Replay.{next, astray, is_live, is_for, goes_on, reached}
 
 pub add_done : (s i : ℕ) (seen cs : List ℕ) (n : ℕ) (es : List Event) → length cs ≤ n →
     reached (add_tree s i seen (drop n cs)) es ≡ reached stop es

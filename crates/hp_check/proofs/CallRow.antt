@@ -1,5 +1,5 @@
 -- An entry stands where it is due of the walk of its processor or of the registration in flight.
-use Rattle.std.proofs.Common.{◌≡◌, ℕ, Bool, true, false, Option, Some, None, List, refl, sym, ◌∙◌, inl, inr, ◌⊎◌}
+use Rattle.std.proofs.Common.{◌≡◌, ℕ, Bool, Some, List, refl, inl, inr, ◌⊎◌}
 use Rattle.std.specs.Prelude.{IsTrue, ◌↔◌}
 use Rattle.hp_states.specs.declared.section.Dir.{Dir}
 use Rattle.hp_event.specs.declared.event.How.{How}

@@ -1,7 +1,7 @@
 -- One element more, in front.
-use Rattle.std.proofs.Common.{◌≡◌, ℕ, zero, suc, ◌+◌, ◌<◌, Bool, List, [], ◌∷◌, length, refl, ap, arith, add-one}
+use Rattle.std.proofs.Common.{◌≡◌, ℕ, zero, suc, ◌+◌, ◌<◌, Bool, List, ◌∷◌, length, arith}
 use Rattle.std.specs.Prelude.{IsTrue, ◌↔◌, All}
-use Rattle.std.specs.List.{AllPass, slice_index, slice_index_or}
+use Rattle.std.specs.List.{slice_index}
 use Rattle.std.specs.List.Sorted.{IsStrictlyIncreasing}
 use Rattle.std.proofs.lemmas.List.Elements.{All-cons}
 

@@ -1,14 +1,11 @@
 -- No entry is due from a seat where the replay of each walk in flight and of the registration gives none.
-use Rattle.std.proofs.Common.{◌≡◌, ℕ, ◌+◌, Bool, true, false, cond, not, eqb, ltb, ◌&&◌, is_some, Option, Some, None, List, [], ◌∷◌, ◌++◌, refl, ap, sym, ◌∙◌, inl, inr, ◌⊎◌, arith}
-use Rattle.std.specs.Prelude.{◌==◌}
+use Rattle.std.proofs.Common.{◌≡◌, ℕ, ◌+◌, Bool, true, false, cond, not, eqb, ltb, is_some, Option, Some, None, List, [], ◌∷◌, ◌++◌, refl, sym, ◌∙◌, inl, inr, arith}
 use Rattle.std.proofs.lemmas.Bool.{true≢false, false≢true, eqb-true, eq-eqb, and_parts}
-use Rattle.std.proofs.lemmas.Bool.Decides.{nat_tests}
 use Rattle.hp_states.specs.declared.section.Dir.{Dir}
 use Rattle.hp_states.specs.declared.section.Place.{Place}
-use Rattle.hp_states.specs.declared.section.Place.TheVariants.{Forward, Back, Part}
+use Rattle.hp_states.specs.declared.section.Place.TheVariants.{Forward, Back}
 use Rattle.hp_states.specs.Sections.{opposite}
 use Rattle.hp_event.specs.declared.event.How.{How}
-use Rattle.hp_event.specs.declared.event.Role.{Role}
 use Rattle.hp_event.specs.declared.head.Head.{Head}
 use Rattle.hp_event.specs.declared.event.Event.{Event}
 use Rattle.hp_event.specs.declared.event.Event.TheVariants.{Call}
@@ -22,15 +19,15 @@ use Rattle.hp_model.specs.Seats.{role_of, is_busy}
 use Rattle.hp_model.specs.Readers.{is_reading}
 use Rattle.hp_model.specs.How.{how_in_walk}
 use Rattle.hp_model.specs.Caller.{caller}
-use Rattle.hp_model.specs.StandsCalls.{InWalk, InRegistration, Calls}
+use Rattle.hp_model.specs.StandsCalls.{Calls}
 use Rattle.hp_model.specs.StandsSeats.{Leaves}
 use Rattle.hp_model.proofs.NextSlot.{Tree, stop, dead, step, visit_tree, part_tree, back_tree, walk_tree}
 use Rattle.hp_model.proofs.InFlight.{walking_is}
 use Rattle.hp_model.proofs.Owners.{none_some}
-use Rattle.hp_check.specs.Replay.{At, next, ended, astray, is_for, goes_on, is_live, reached}
-use Rattle.hp_check.specs.Due.{due_at, walk_reached, due_of_walk, due_of_registration}
-use Rattle.hp_check.specs.NoneDue.{is_call_of, is_of, none_of_walks, none_due}
-use Rattle.hp_check.proofs.WalkRow.{IsDueAt, due_apart, walk_row, walk_due}
+use Rattle.hp_check.specs.Replay.{next, ended, astray, is_for, goes_on, is_live, reached}
+use Rattle.hp_check.specs.Due.{walk_reached, due_of_walk, due_of_registration}
+use Rattle.hp_check.specs.NoneDue.{is_of, none_of_walks, none_due}
+use Rattle.hp_check.proofs.WalkRow.{due_apart, walk_row, walk_due}
 use Rattle.hp_check.proofs.RegistrationRow.{registration_row, registration_due}
 
 -- all slots of a tree are of one processor

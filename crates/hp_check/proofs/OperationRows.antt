@@ -1,5 +1,5 @@
 -- The rows of the events that speak of what is in flight, where that is known.
-use Rattle.std.proofs.Common.{◌≡◌, ℕ, Bool, true, false, Option, Some, None, List, refl, ap, sym, ◌∙◌}
+use Rattle.std.proofs.Common.{◌≡◌, ℕ, Bool, false, Some, None, List, ap, sym, ◌∙◌}
 use Rattle.std.specs.Prelude.{IsTrue, ◌↔◌}
 use Rattle.hp_event.specs.declared.event.Answer.{Answer}
 use Rattle.hp_event.specs.declared.head.Head.{Head}

@@ -1,16 +1,15 @@
 -- Where entries lead down a tree, and what follows it: each determines the other.
-use Rattle.std.proofs.Common.{◌≡◌, ℕ, Bool, true, false, cond, not, ◌&&◌, eqb, Option, Some, None, List, [], ◌∷◌, ◌++◌, refl, ap, sym, ◌∙◌}
-use Rattle.std.proofs.lemmas.Bool.{true≢false, false≢true, eqb-true, eq-eqb, and_parts}
+use Rattle.std.proofs.Common.{◌≡◌, Bool, true, false, cond, not, ◌&&◌, eqb, List, [], ◌∷◌, ◌++◌, refl, ap, ◌∙◌}
+use Rattle.std.proofs.lemmas.Bool.{false≢true, eqb-true, eq-eqb, and_parts}
 use Rattle.hp_states.specs.declared.section.Dir.{Dir}
 use Rattle.hp_states.specs.declared.section.Dir.TheVariants.{Up, Down}
 use Rattle.hp_states.specs.Rules.{same_dir}
 use Rattle.hp_event.specs.declared.event.Event.{Event}
 use Rattle.hp_event.specs.declared.event.Event.TheVariants.{Call}
-use Rattle.hp_model.specs.Entries.{is_done}
 use Rattle.hp_model.specs.Crossing.{Slot, Fits, Fill}
 use Rattle.hp_model.proofs.NextSlot.{with_fails, Tree, stop, dead, step, Follow}
 use Rattle.hp_model.proofs.Cursor.{Runs}
-use Rattle.hp_check.specs.Replay.{At, next, ended, astray, is_live, is_for, goes_on, reached}
+use Rattle.hp_check.specs.Replay.{next, ended, astray, is_live, is_for, goes_on, reached}
 
 dir_same : (a b : Dir) → same_dir a b ≡ true → a ≡ b
 dir_same Up Up h = refl

@@ -1,6 +1,5 @@
 -- The rows of an entry of a registration and of a registration's end: each stands where the replay says so.
-use Rattle.std.proofs.Common.{◌≡◌, ℕ, pos, Bool, true, false, cond, not, ◌||◌, Option, Some, None, List, [], ◌∷◌, ◌++◌, map, refl, ap, sym, ◌∙◌, inl, inr, ◌⊎◌, append_assoc}
-use Rattle.std.proofs.lemmas.Bool.{true≢false, false≢true}
+use Rattle.std.proofs.Common.{◌≡◌, ℕ, Bool, true, false, cond, not, ◌||◌, Option, Some, None, List, [], ◌∷◌, ◌++◌, map, refl, ap, sym, ◌∙◌, inl, inr, ◌⊎◌, append_assoc}
 use Rattle.std.proofs.lemmas.List.{append-nil}
 use Rattle.hp_states.specs.declared.section.Dir.{Dir}
 use Rattle.hp_states.specs.declared.section.Dir.TheVariants.{Up, Down}
@@ -8,12 +7,11 @@ use Rattle.hp_states.specs.declared.section.Place.{Place}
 use Rattle.hp_event.specs.declared.event.Op.{Op}
 use Rattle.hp_event.specs.declared.event.How.{How}
 use Rattle.hp_event.specs.declared.event.Answer.{Answer}
-use Rattle.hp_event.specs.declared.event.Answer.TheVariants.{Ok, Fault}
 use Rattle.hp_event.specs.declared.head.Head.{Head}
 use Rattle.hp_event.specs.declared.event.Event.{Event}
 use Rattle.hp_event.specs.declared.event.Event.TheVariants.{Call}
 use Rattle.hp_model.specs.Entries.{is_done, codes_of_faults}
-use Rattle.hp_model.specs.Crossing.{Slot, Fits, Fill}
+use Rattle.hp_model.specs.Crossing.{Slot, Fill}
 use Rattle.hp_model.specs.Registrations.{Registration, registration, registration_entries}
 use Rattle.hp_model.specs.Processors.{processors}
 use Rattle.hp_model.specs.RegistrationShape.{key_of, is_adding, each, Registering, made, undone, ok_value, IsRegistrationShape, IsRegistrationAnswer, IsWholeRegistration}
@@ -23,12 +21,11 @@ use Rattle.hp_model.specs.StandsCalls.{IsNext, InRegistration}
 use Rattle.hp_model.specs.StandsRegistrations.{RegEnds}
 use Rattle.hp_model.proofs.NextSlot.{with_fails, Tree, stop, dead, step, Follow}
 use Rattle.hp_model.proofs.NextRegistration.{down_tree, add_tree, registration_tree, registration_follows}
-use Rattle.hp_model.proofs.Cursor.{Runs, IsLive, Sound, sound_below, to_end, runs_before}
-use Rattle.hp_model.proofs.OneAnswer.{failing}
+use Rattle.hp_model.proofs.Cursor.{IsLive, Sound, sound_below, to_end, runs_before}
 use Rattle.hp_model.proofs.OneRegistration.{outcome_of, shape_outcome}
 use Rattle.hp_model.proofs.TreeShapes.{stop_none}
 use Rattle.hp_model.proofs.Owners.{same_some, none_some}
-use Rattle.hp_check.specs.Replay.{At, next, ended, reached}
+use Rattle.hp_check.specs.Replay.{next, ended, reached}
 use Rattle.hp_check.specs.Due.{due_of_registration, registration_reached, Faulty, faults, registration_answer}
 use Rattle.hp_check.proofs.Reach.{step_of, end_of, reached_of, reached_end_of}
 use Rattle.hp_check.proofs.WalkRow.{IsDueAt, due_apart, due_when, caller_at, branch_live, not_not, fill_faults}

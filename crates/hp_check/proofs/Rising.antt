@@ -1,5 +1,5 @@
 -- Rising numbers, one more.
-use Rattle.std.proofs.Common.{◌≡◌, ℕ, zero, suc, ◌+◌, ◌-◌, ◌≤◌, List, [], ◌∷◌, ◌++◌, refl, ap, ◌∙◌, sym, arith}
+use Rattle.std.proofs.Common.{◌≡◌, ℕ, zero, suc, ◌+◌, ◌-◌, ◌≤◌, [], ◌∷◌, ◌++◌, ap, ◌∙◌, arith}
 use Rattle.hp_model.specs.Lists.{rising}
 
 rising_push : (a n : ℕ) → rising a (suc n) ≡ rising a n ++ (a + n + 1) ∷ []

@@ -1,5 +1,5 @@
 -- The count of all instances, as far as the most that there can be.
-use Rattle.std.proofs.Common.{◌≡◌, ℕ, ◌+◌, List, length, refl, arith}
+use Rattle.std.proofs.Common.{◌≡◌, ℕ, ◌+◌, List, length, arith}
 use Rattle.std.specs.Prelude.{sum_by, min, nat_le}
 use Rattle.std.proofs.lemmas.Bool.Decides.{nat_tests}
 use Rattle.hp_states.specs.declared.limits.TheConstants.{ONLINE, MAX_TABLE_INSTANCES}

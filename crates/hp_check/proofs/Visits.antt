@@ -7,9 +7,9 @@ use Rattle.hp_states.specs.declared.section.Place.TheVariants.{Forward, Back, Pa
 use Rattle.hp_states.specs.Sections.{opposite}
 use Rattle.hp_event.specs.declared.event.Event.{Event}
 use Rattle.hp_model.specs.Crossing.{Slot}
-use Rattle.hp_model.proofs.NextSlot.{Tree, stop, dead, step, visit_tree, part_tree, back_tree, walk_tree}
+use Rattle.hp_model.proofs.NextSlot.{Tree, stop, dead, visit_tree, part_tree, back_tree, walk_tree}
 use Rattle.hp_model.proofs.Slow.{take_next}
-use Rattle.hp_check.specs.Replay.{At, next, ended, astray, is_live, is_for, goes_on, reached, Visiting, on, lost, whole, faulted, visiting}
+use Rattle.hp_check.specs.Replay.{At, next, astray, is_live, is_for, goes_on, reached, Visiting, on, lost, whole, faulted, visiting}
 
 pub visiting_end : (c : ℕ) (p : Place) (d : Dir) (s : ℕ) (b : Bool) (seen insts : List ℕ) (n : ℕ) (es : List Event) →
     length insts ≤ n → visiting c p d s b seen (drop n insts) es ≡ whole es

@@ -1,22 +1,21 @@
 -- The row of a walk's end: it stands where the entries lead to the end of the plan, with the answer of their faults.
-use Rattle.std.proofs.Common.{◌≡◌, ℕ, pos, Option, Some, None, List, [], ◌∷◌, map, refl, ap, sym, ◌∙◌}
+use Rattle.std.proofs.Common.{◌≡◌, ℕ, Some, None, List, [], ◌∷◌, map, refl, ap, sym, ◌∙◌}
 use Rattle.hp_states.specs.declared.section.Dir.{Dir}
 use Rattle.hp_event.specs.declared.event.Answer.{Answer}
-use Rattle.hp_event.specs.declared.event.Answer.TheVariants.{Ok, Fault, Stuck}
 use Rattle.hp_event.specs.declared.head.Head.{Head}
 use Rattle.hp_event.specs.declared.event.Event.{Event}
 use Rattle.hp_model.specs.Entries.{codes_of_faults}
-use Rattle.hp_model.specs.Crossing.{Slot, Crossing, slots, far, Fill}
+use Rattle.hp_model.specs.Crossing.{slots}
 use Rattle.hp_model.specs.Walks.{Walk, walk, walk_entries}
 use Rattle.hp_model.specs.Registered.{keys}
 use Rattle.hp_model.specs.Plan.{direction, plan}
-use Rattle.hp_model.specs.WalkShape.{Outcome, went, returned, stopped, IsWalkShape, IsAnswer, IsWholeWalk}
+use Rattle.hp_model.specs.WalkShape.{IsAnswer, IsWholeWalk}
 use Rattle.hp_model.specs.StandsOperations.{WalkEnds}
 use Rattle.hp_model.proofs.NextSlot.{walk_tree, shape_follows}
 use Rattle.hp_model.proofs.Cursor.{end_of_walk}
-use Rattle.hp_model.proofs.OneAnswer.{failing, outcome_of, shape_outcome}
+use Rattle.hp_model.proofs.OneAnswer.{outcome_of, shape_outcome}
 use Rattle.hp_model.proofs.Owners.{same_some, none_some}
-use Rattle.hp_check.specs.Replay.{At, ended, reached}
+use Rattle.hp_check.specs.Replay.{ended, reached}
 use Rattle.hp_check.specs.Due.{walk_reached, Faulty, faults, walk_answer}
 use Rattle.hp_check.proofs.Reach.{end_of, reached_end_of}
 use Rattle.hp_check.proofs.WalkRow.{fill_faults}

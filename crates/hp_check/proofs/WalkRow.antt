@@ -1,31 +1,27 @@
 -- The row of an entry of a walk, and of a walk's end: each stands where the replay says so.
-use Rattle.std.proofs.Common.{◌≡◌, ℕ, pos, Bool, true, false, cond, not, ◌||◌, Option, Some, None, List, [], ◌∷◌, ◌++◌, map, refl, ap, sym, ◌∙◌}
-use Rattle.std.specs.Prelude.{◌↔◌, filter_map}
+use Rattle.std.proofs.Common.{◌≡◌, ℕ, Bool, true, false, cond, not, ◌||◌, Option, Some, None, List, [], ◌∷◌, map, refl, ap, sym, ◌∙◌}
 use Rattle.std.proofs.lemmas.Bool.{true≢false, false≢true}
 use Rattle.hp_states.specs.declared.section.Dir.{Dir}
 use Rattle.hp_event.specs.declared.event.How.{How}
 use Rattle.hp_event.specs.declared.event.How.TheVariants.{RanOk, RanFault, Injected, Empty, Presumed, Overruled}
-use Rattle.hp_event.specs.declared.event.Answer.{Answer}
-use Rattle.hp_event.specs.declared.event.Answer.TheVariants.{Ok, Fault, Stuck}
 use Rattle.hp_event.specs.declared.head.Head.{Head}
 use Rattle.hp_event.specs.declared.event.Event.{Event}
 use Rattle.hp_event.specs.declared.event.Event.TheVariants.{Call}
-use Rattle.hp_model.specs.Entries.{is_done, fault_of, codes_of_faults}
-use Rattle.hp_model.specs.Crossing.{Slot, Crossing, slots, far, Fits, Fill}
+use Rattle.hp_model.specs.Entries.{is_done, codes_of_faults}
+use Rattle.hp_model.specs.Crossing.{Slot, Fits, Fill}
 use Rattle.hp_model.specs.Walks.{Walk, walk, walk_entries}
 use Rattle.hp_model.specs.Registered.{keys}
 use Rattle.hp_model.specs.Plan.{direction, plan}
 use Rattle.hp_model.specs.How.{how_in_walk}
 use Rattle.hp_model.specs.Caller.{caller}
-use Rattle.hp_model.specs.WalkShape.{Outcome, went, returned, stopped, IsWalkShape, IsAnswer, IsWholeWalk}
-use Rattle.hp_model.specs.StandsCalls.{IsNext, InWalk}
+use Rattle.hp_model.specs.StandsCalls.{InWalk}
 use Rattle.hp_model.proofs.NextSlot.{with_fails, Tree, stop, dead, step, walk_tree, shape_follows}
-use Rattle.hp_model.proofs.Cursor.{Runs, IsLive, Sound, sound_below, sound_walk, StandsAt, IsNextOf, next_of, end_of_walk}
-use Rattle.hp_model.proofs.OneAnswer.{failing, outcome_of, shape_outcome}
+use Rattle.hp_model.proofs.Cursor.{IsLive, sound_below, sound_walk, IsNextOf, next_of}
+use Rattle.hp_model.proofs.OneAnswer.{failing}
 use Rattle.hp_model.proofs.Owners.{same_some, none_some}
 use Rattle.hp_check.specs.Replay.{At, next, ended, astray, is_live, reached}
-use Rattle.hp_check.specs.Due.{made_by, due_so, due_at, walk_reached, due_of_walk, Faulty, faulty, faults, walk_answer}
-use Rattle.hp_check.proofs.Reach.{IsStep, IsReached, step_of, end_of, reached_of, reached_end_of}
+use Rattle.hp_check.specs.Due.{made_by, due_at, walk_reached, due_of_walk, faults}
+use Rattle.hp_check.proofs.Reach.{IsReached, step_of, reached_of}
 
 -- an entry that is due, taken apart
 pub record IsDueAt (how : Slot → How) (by : Slot → How → Option ℕ) (a : At) (seat cpu state inst : ℕ) (dir : Dir) (h : How) : Type 0

@@ -1,5 +1,5 @@
 -- The entry that is due, and the answers that are due at the end, by where the entries lead. This project's own.
-use Rattle.std.specs.Prelude.{ℕ, pos, Bool, ◌||◌, if◌then◌else◌, Option, Some, None, List, [], ◌∷◌, filter_map, option_map}
+use Rattle.std.specs.Prelude.{ℕ, pos, Bool, ◌||◌, if◌then◌else◌, Option, Some, None, List, [], ◌∷◌, filter_map}
 use Rattle.hp_states.specs.declared.section.Dir.{Dir}
 use Rattle.hp_event.specs.declared.event.How.{How}
 use Rattle.hp_event.specs.declared.event.Answer.{Answer}
@@ -17,7 +17,7 @@ use Rattle.hp_model.specs.Plan.{direction, plan}
 use Rattle.hp_model.specs.RegistrationShape.{key_of, is_adding}
 use Rattle.hp_model.specs.How.{how_in_walk, how_in_registration}
 use Rattle.hp_model.specs.Caller.{caller}
-use Rattle.hp_model.proofs.NextSlot.{Tree, walk_tree}
+use Rattle.hp_model.proofs.NextSlot.{walk_tree}
 use Rattle.hp_model.proofs.NextRegistration.{registration_tree}
 use Rattle.hp_check.specs.Replay.{At, next, ended, astray, reached}
 

@@ -1,5 +1,5 @@
 -- Spots and where entries lead, as the definitions see them.
-use Rattle.std.specs.Prelude.{ℕ, ◌≤◌, Bool, false, List, length, take}
+use Rattle.std.specs.Prelude.{ℕ, ◌≤◌, false, List, length, take}
 use Rattle.hp_model.specs.Crossing.{Slot}
 use Rattle.hp_check.specs.declared.how.Spot.{Spot}
 use Rattle.hp_check.specs.declared.replay.Visit.{Visit}

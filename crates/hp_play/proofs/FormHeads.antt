@@ -1,13 +1,11 @@
 -- The head of a script of the form is one that a machine can be started with, and its subsystems are plain.
-use Rattle.std.proofs.Common.{◌≡◌, ℕ, zero, suc, ◌+◌, ◌<◌, ◌≤◌, Bool, true, false, ◌&&◌, ◌||◌, nat_le, List, [], ◌∷◌, length, map, get_or, refl, sym, ap, ◌∙◌, subst, arith, inl, inr, ◌⊎◌}
+use Rattle.std.proofs.Common.{◌≡◌, ℕ, ◌<◌, true, List, [], ◌∷◌, length, map, get_or, refl, sym, subst, arith}
 use Rattle.std.specs.List.{All}
 use Rattle.std.proofs.lemmas.List.{length-map, get_or-map}
 use Rattle.std.proofs.lemmas.List.Elements.{All-get_or, All-from_get_or}
 use Rattle.std.proofs.lemmas.Bool.{lt-ltb}
 use Rattle.std.proofs.lemmas.Bool.Decides.{nat_tests}
 use Rattle.hp_event.specs.declared.head.Sub.{Sub}
-use Rattle.hp_event.specs.declared.head.Head.{Head}
-use Rattle.hp_model.specs.Lists.{is_empty}
 use Rattle.hp_model.specs.Heads.{IsHead, IsSub, is_name_byte as is_byte_of_name}
 use Rattle.hp_play.specs.Form.{Lines, IsForm, IsName, is_name_byte, sub_of, head_of}
 use Rattle.hp_play.specs.Tied.{IsPlainHead, IsPlainSub}

@@ -1,21 +1,19 @@
 -- The operations of the actor, played one after another from the admissions on, are its run.
-use Rattle.std.proofs.Common.{◌≡◌, ℕ, zero, suc, ◌+◌, ◌<◌, ◌≤◌, Bool, true, false, ◌&&◌, nat_lt, nat_le, cond, eqb, leb, ltb, Option, Some, None, List, [], ◌∷◌, ◌++◌, length, refl, sym, ap, ◌∙◌, subst, arith, append_assoc, get_or, Result, Ok, Err, IfOk, inl, inr, ◌⊎◌}
+use Rattle.std.proofs.Common.{◌≡◌, ℕ, zero, suc, ◌+◌, ◌<◌, true, leb, Option, Some, None, List, [], ◌∷◌, ◌++◌, length, refl, sym, ap, ◌∙◌, subst, arith, append_assoc, get_or, Result, Ok, Err, IfOk, inl, inr}
 use Rattle.std.specs.Prelude.{slice_get}
 use Rattle.std.proofs.lemmas.List.{append-nil}
 use Rattle.std.proofs.lemmas.Bool.{false≢true}
 use Rattle.std.proofs.lemmas.Bool.Decides.{nat_tests}
 use Rattle.hp_event.specs.Story.{Story}
 use Rattle.hp_event.specs.declared.event.Op.{Op}
-use Rattle.hp_event.specs.declared.event.Role.TheVariants.{Client, Ap}
+use Rattle.hp_event.specs.declared.event.Role.TheVariants.{Client}
 use Rattle.hp_event.specs.declared.head.Head.{Head}
 use Rattle.hp_event.specs.declared.event.Event.{Event}
 use Rattle.hp_event.specs.declared.event.Event.TheVariants.{Admit, Call}
 use Rattle.hp_model.specs.Journal.{EachAfter}
 use Rattle.hp_model.specs.Lists.{numbers}
 use Rattle.hp_model.specs.Processors.{present}
-use Rattle.hp_model.specs.Events.{is_call, answered, BelongsTo}
-use Rattle.hp_model.specs.Walks.{Walk, walk}
-use Rattle.hp_model.specs.Registrations.{Registration, registration}
+use Rattle.hp_model.specs.Events.{is_call, answered}
 use Rattle.hp_model.specs.Lawful.{Stands, IsLawful}
 use Rattle.hp_model.specs.Run.{ap_admits, admissions, CanTake, all_answered, IsRun}
 use Rattle.hp_model.specs.Steps.{IsStep}
@@ -27,7 +25,7 @@ use Rattle.hp_model.proofs.Rounds.{steps_make_run}
 use Rattle.hp_model.proofs.RunLemmas.{EachAfter-append}
 use Rattle.hp_play.specs.Kept.{Kept}
 use Rattle.hp_play.specs.declared.due.Due.TheVariants.{Operation as Idle}
-use Rattle.hp_play.specs.Tied.{IsTied, IsPlainHead, IsIdle}
+use Rattle.hp_play.specs.Tied.{IsTied, IsIdle}
 use Rattle.hp_play.specs.Played.{IsJournalOf}
 use Rattle.hp_play.specs.Plays.{Plays, HasPlayed}
 use Rattle.hp_play.proofs.PlaysLaws.{seats_are}

@@ -1,18 +1,17 @@
 -- The hooks of the places are those of the registered states, and were called as often as the journal says.
-use Rattle.std.proofs.Common.{◌≡◌, ℕ, zero, suc, ◌+◌, ◌≤◌, Option, Some, None, IfSome, IfOk, Result, Ok, Err, List, [], ◌∷◌, ◌++◌, length, map, refl, sym, ap, ◌∙◌, subst, arith, append_assoc}
+use Rattle.std.proofs.Common.{◌≡◌, ℕ, zero, suc, ◌+◌, Option, Some, None, IfSome, IfOk, Result, Ok, Err, List, [], ◌∷◌, ◌++◌, length, refl, sym, ap, ◌∙◌, arith}
 use Rattle.std.specs.List.{flat_map}
 use Rattle.hp_states.specs.declared.limits.TheConstants.{ONLINE}
 use Rattle.hp_event.specs.Story.{Story}
 use Rattle.hp_event.specs.declared.head.Head.{Head}
 use Rattle.hp_event.specs.declared.event.Event.{Event}
 use Rattle.hp_model.specs.Lists.{numbers}
-use Rattle.hp_model.specs.Calls.{sites}
-use Rattle.hp_model.specs.Registered.{Registered, registered}
+use Rattle.hp_model.specs.Registered.{registered}
 use Rattle.hp_play.specs.Kept.{Kept}
 use Rattle.hp_play.specs.Machine.{place_at}
 use Rattle.hp_play.specs.declared.due.Due.TheVariants.{Operation as Idle}
 use Rattle.hp_play.specs.Tied.{IsTied, IsKept, registered_by}
-use Rattle.hp_play.specs.Racked.{calls_of, calls_at, calls_below, made_at, made_of, EndsWith}
+use Rattle.hp_play.specs.Racked.{calls_at, calls_below, made_at, made_of, EndsWith}
 
 -- the numbers from one on
 from : (a n : ℕ) → List ℕ

@@ -1,6 +1,6 @@
 -- What the machine keeps true of its parts between two turns. This project's own.
 use Rattle.std.specs.Prelude.{◌≡◌, ℕ, ◌+◌, ◌-◌, ◌<◌, ◌≤◌, Bool, true, false, Option, Some, None, IsSome, IsTrue, List, [], ◌∷◌, ◌++◌, length, slice_get}
-use Rattle.hp_states.specs.declared.limits.TheConstants.{MAX_CPUS, MAX_EVENTS, ONLINE}
+use Rattle.hp_states.specs.declared.limits.TheConstants.{MAX_CPUS, ONLINE}
 use Rattle.hp_states.specs.declared.plan.Rule.{Rule}
 use Rattle.hp_states.specs.Sections.{is_ap_state, is_dynamic}
 use Rattle.hp_states.specs.Rules.{Site, counts_of, raised, counted_answer}

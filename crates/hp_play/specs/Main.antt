@@ -1,5 +1,5 @@
 -- What the program answers: a status, and what it writes. This project's own.
-use Rattle.std.specs.Prelude.{◌≡◌, ℕ, ◌+◌, ◌<◌, ◌≤◌, ◌⊎◌, Option, Some, None, IfSome, List, [], ◌∷◌, ◌++◌, take, length, codes}
+use Rattle.std.specs.Prelude.{◌≡◌, ℕ, ◌+◌, ◌<◌, ◌⊎◌, Option, IfSome, List, [], ◌∷◌, ◌++◌, take, length, codes}
 use Rattle.std.specs.Io.KnownBytes.{prepend_known, append_known, IsAtEnd}
 use Rattle.hp_states.specs.declared.limits.TheConstants.{MAX_SCRIPT_BYTES, ONLINE}
 use Rattle.hp_event.specs.declared.event.Event.{Event}

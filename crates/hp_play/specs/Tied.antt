@@ -1,10 +1,9 @@
 -- What the parts of the machine say of the events of its journal: where processors stand, what is registered, who
 -- sits, and what is in flight. This project's own.
-use Rattle.std.specs.Prelude.{◌≡◌, ℕ, ◌+◌, ◌-◌, ◌<◌, ◌≤◌, pos, Bool, true, false, ◌&&◌, ◌==◌, nat_le, if◌then◌else◌, Option, Some, None, IfSome, List, [], ◌∷◌, ◌++◌, filter, length, slice_index, All}
+use Rattle.std.specs.Prelude.{◌≡◌, ℕ, ◌-◌, ◌<◌, ◌≤◌, pos, Bool, true, false, ◌&&◌, ◌==◌, nat_le, if◌then◌else◌, Option, Some, None, IfSome, List, [], ◌∷◌, filter, length, slice_index, All}
 use Rattle.hp_states.specs.declared.limits.TheConstants.{ONLINE, OFFLINE}
 use Rattle.hp_states.specs.declared.section.Dir.TheVariants.{Up}
 use Rattle.hp_states.specs.declared.section.Place.TheVariants as placed
-use Rattle.hp_event.specs.declared.event.Op.{Op}
 use Rattle.hp_event.specs.declared.event.Op.TheVariants as op
 use Rattle.hp_event.specs.declared.event.Role.TheVariants.{Client}
 use Rattle.hp_event.specs.declared.event.Answer.TheVariants.{Ok}

@@ -19,15 +19,14 @@ ghost use Rattle.hp_model.specs.Run.{admissions};
 ghost use Rattle.hp_play.specs.Racked.{made_of};
 ghost use Rattle.hp_play.specs.Parts.{Ready, Tied, Keeps, GoesOn, work_of};
 
+use crate::due::Due;
+use crate::record::Record;
 use hp_event::{Answer, Event, Head, How, Journal, JournalError, NoMemory, Op, Role};
 use hp_hook::{Hook, Rack};
 use hp_states::{
     Dir, EBUSY, EINVAL, HookPlan, MAX_CPUS, MAX_EVENTS, OFFLINE, ONLINE, builtin_name,
 };
 use std::alloc::Global;
-
-use crate::due::Due;
-use crate::record::Record;
 
 /// The most events of an operation: an `up` makes one for each state and four besides.
 pub const OPERATION_ROOM: u32 = ONLINE + 4;

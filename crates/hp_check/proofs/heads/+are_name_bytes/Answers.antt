@@ -1,5 +1,5 @@
-use Rattle.std.proofs.Common.{◌≡◌, ◌<◌, true, sym, ◌∙◌}
-use Rattle.hp_model.specs.Heads.{is_name_byte, IsRule, IsSub}
+use Rattle.std.proofs.Common.{◌≡◌, true, sym, ◌∙◌}
+use Rattle.hp_model.specs.Heads.{is_name_byte}
 use Rattle.hp_check.proofs.HeadSteps.{all_step}
 use Rattle.hp_check.proofs.heads.+are_name_bytes.Goals as goal
 

@@ -1,4 +1,4 @@
-use Rattle.std.proofs.Common.{◌≡◌, take}
+use Rattle.std.proofs.Common.{◌≡◌}
 use Rattle.hp_model.specs.Lists.{numbers}
 use Rattle.hp_check.proofs.lists.numbers.Given as goal
 

@@ -1,4 +1,4 @@
-use Rattle.std.proofs.Common.{◌≡◌, take, filter, not, ◌&&◌}
+use Rattle.std.proofs.Common.{◌≡◌, take, filter, not}
 use Rattle.hp_model.specs.Registered.{keys}
 use Rattle.hp_model.specs.Lists.{is_empty}
 use Rattle.hp_check.proofs.plan.keyed.Given as goal

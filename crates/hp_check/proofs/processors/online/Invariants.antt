@@ -1,4 +1,4 @@
-use Rattle.std.proofs.Common.{◌≡◌, take, filter, not, ◌&&◌}
+use Rattle.std.proofs.Common.{◌≡◌, take, filter}
 use Rattle.hp_model.specs.Settled.{is_online}
 use Rattle.hp_check.proofs.processors.online.Given as goal
 

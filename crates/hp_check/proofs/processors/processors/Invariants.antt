@@ -1,4 +1,4 @@
-use Rattle.std.proofs.Common.{◌≡◌, take, filter, not, ◌&&◌}
+use Rattle.std.proofs.Common.{◌≡◌, take, filter, ◌&&◌}
 use Rattle.std.specs.Prelude.{nat_le}
 use Rattle.hp_model.specs.Settled.{settled}
 use Rattle.hp_model.specs.Processors.{is_present}

@@ -1,4 +1,4 @@
-use Rattle.std.proofs.Common.{◌≡◌, ◌∙◌, not, sym, ap, arith}
+use Rattle.std.proofs.Common.{◌∙◌, not, sym, ap, arith}
 use Rattle.hp_model.specs.Registered.{is_named}
 use Rattle.hp_check.proofs.FirstFree.{next_free}
 use Rattle.hp_check.proofs.resolved.+first_free.Goals as goal

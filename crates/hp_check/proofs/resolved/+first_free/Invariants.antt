@@ -1,4 +1,3 @@
-use Rattle.std.proofs.Common.{length}
 use Rattle.hp_check.proofs.resolved.+first_free.Given as goal
 
 abbrev pub decreases-first_free : goal.decreases-first_free

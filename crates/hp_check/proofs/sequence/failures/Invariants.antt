@@ -1,4 +1,4 @@
-use Rattle.std.proofs.Common.{◌≡◌, take, filter, not, ◌&&◌}
+use Rattle.std.proofs.Common.{◌≡◌, take, filter, not}
 use Rattle.hp_model.specs.Suspend.{is_ok}
 use Rattle.hp_check.proofs.sequence.failures.Given as goal
 

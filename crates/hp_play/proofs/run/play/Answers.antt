@@ -1,7 +1,6 @@
 -- Each operation is playable and its hook is there; together they are the actor's run.
-use Rattle.std.proofs.Common.{rules, ◌≡◌, ◌+◌, ◌*◌, ◌≤◌, ap, ◌∙◌, [], ◌∷◌, length, arith}
+use Rattle.std.proofs.Common.{rules, ◌≡◌, ap, ◌∙◌, length, arith}
 use Rattle.hp_event.specs.Story.{Story}
-use Rattle.hp_event.specs.declared.event.Op.{Op}
 use Rattle.hp_play.specs.Played.{IsJournalOf}
 use Rattle.hp_play.proofs.Playable.{playable_at, setups_left}
 use Rattle.hp_play.proofs.PlayedRun.{played_first, played_more, played_all, op_at, kept_on}

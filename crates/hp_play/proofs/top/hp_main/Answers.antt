@@ -1,5 +1,5 @@
 -- A refusal whose write fails was an answer.
-use Rattle.std.proofs.Common.{◌≡◌, List, ℕ, length, take, sym, ap, subst, ◌∙◌, lit<}
+use Rattle.std.proofs.Common.{◌∙◌, lit<}
 use Rattle.hp_play.specs.Main.{refusal}
 use Rattle.hp_play.proofs.top.hp_main.Goals as goal
 

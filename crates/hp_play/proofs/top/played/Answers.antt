@@ -1,5 +1,5 @@
 -- A refusal of what was read is one of what the source held.
-use Rattle.std.proofs.Common.{length, arith}
+use Rattle.std.proofs.Common.{length}
 use Rattle.hp_play.proofs.Refusing.{refuses_stops}
 use Rattle.hp_play.proofs.top.played.Goals as goal
 

@@ -1,5 +1,5 @@
 -- A script of the form can be played with the hooks of the rack.
-use Rattle.std.proofs.Common.{◌≡◌, ℕ, ◌≤◌, List, length, min, count_by, sym, ap, subst, arith}
+use Rattle.std.proofs.Common.{ℕ, ◌≤◌, List, length, count_by, sym, ap, subst, arith}
 use Rattle.std.specs.List.{All}
 use Rattle.hp_event.specs.declared.event.Op.{Op}
 use Rattle.hp_play.specs.declared.script.Script.{Script}
