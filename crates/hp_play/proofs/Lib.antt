@@ -28,3 +28,6 @@ pub mod Seated
 pub mod PlayedRun
 pub mod FormHeads
 pub mod RackLaws
+pub mod Turning
+pub mod HookCount
+pub mod ReadyMore

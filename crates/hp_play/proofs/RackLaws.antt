@@ -1,5 +1,7 @@
 -- The hooks of the places are those of the registered states, and were called as often as the journal says.
-use Rattle.std.proofs.Common.{◌≡◌, ℕ, zero, suc, ◌+◌, Option, Some, None, IfSome, IfOk, Result, Ok, Err, List, [], ◌∷◌, ◌++◌, length, refl, sym, ap, ◌∙◌, arith}
+use Rattle.std.proofs.Common.{◌≡◌, ℕ, zero, suc, ◌+◌, Bool, true, false, ◌&&◌, cond, is_some, Option, Some, None, IfSome, IfNone, IfOk, Result, Ok, Err, List, [], ◌∷◌, ◌++◌, map, length, length-append, refl, sym, ap, ◌∙◌, arith}
+use Rattle.std.proofs.lemmas.List.{length-map}
+use Rattle.hp_play.specs.Parts.{left_of, one_if}
 use Rattle.std.specs.List.{flat_map}
 use Rattle.hp_states.specs.declared.limits.TheConstants.{ONLINE}
 use Rattle.hp_event.specs.Story.{Story}
@@ -67,3 +69,36 @@ pub rack_ends : {E : Type 0} (answer : Result Story E) (story : Story) (head : H
 rack_ends (Ok j) story head before after made same rack told =
     (before, rack ∙ ap (λ xs. before ++ xs) (told ∙ ap (λ (s : Story). calls_below head s.events (ONLINE + 1)) (sym same)))
 rack_ends (Err e) story head before after made same rack told = tt
+
+-- a list with a hook more, if there is one
+pub length_with : {H : Type 0} (hook : Option H) (before after : List H) → IfSome hook (λ h. after ≡ before ++ h ∷ []) →
+    IfNone hook (after ≡ before) → length after ≡ length before + cond (is_some hook) 1 0
+length_with None before after some none = ap length none ∙ (let e : length before ≡ length before + 0 = omega arith in e)
+length_with (Some h) before after some none = ap length some ∙ length-append before (h ∷ [])
+
+-- An operation takes its hook from the rack; it is left to the spent ones, or the machine has one more.
+pub none_lost : {H : Type 0} (setup more : Bool) (hook left : Option H) (rack rack_now spent spent_now hooks hooks_now : ℕ) →
+    is_some hook ≡ setup → rack ≡ rack_now + cond (is_some hook) 1 0 → left ≡ left_of (setup && more) hook →
+    hooks_now ≡ hooks + one_if (setup && more) → spent_now ≡ spent + cond (is_some left) 1 0 →
+    rack_now + spent_now + hooks_now ≡ rack + spent + hooks
+none_lost true true hook left rack rack_now spent spent_now hooks hooks_now is taken gone more kept =
+    let one : rack ≡ rack_now + 1 = rw is at taken in
+    let same : spent_now ≡ spent + 0 = rw gone at kept in
+    omega (arith, one, same, more)
+none_lost true false hook left rack rack_now spent spent_now hooks hooks_now is taken gone more kept =
+    let one : rack ≡ rack_now + 1 = rw is at taken in
+    let back : spent_now ≡ spent + 1 = rw (gone, is) at kept in
+    omega (arith, one, back, more)
+none_lost false more hook left rack rack_now spent spent_now hooks hooks_now is taken gone same kept =
+    let none : rack ≡ rack_now + 0 = rw is at taken in
+    let none_back : spent_now ≡ spent + 0 = rw (gone, is) at kept in
+    omega (arith, none, none_back, same)
+
+-- the rack ends with as many hooks as the list of their counts
+pub as_many : {H E S : Type 0} (answer : Result S E) (made : H → ℕ) (before after : List H) (counts : List ℕ) (n : ℕ) →
+    IfOk answer (λ _. map made after ≡ map made before ++ counts) → length before + length counts ≡ n →
+    IfOk answer (λ _. length after ≡ n)
+as_many (Ok j) made before after counts n rack all =
+    sym (length-map after made) ∙ ap length rack ∙ length-append (map made before) counts
+    ∙ ap (λ k. k + length counts) (length-map before made) ∙ all
+as_many (Err e) made before after counts n rack all = tt

@@ -27,7 +27,7 @@ use Rattle.hp_play.specs.Tied.{IsPlainHead, registered_so, is_at, IsKept, IsRegi
 use Rattle.hp_play.proofs.TieFolds.{sites_push, quiet_more, seated_more}
 use Rattle.hp_play.proofs.TieLists.{place_at-set_same, at_each, filter_gap}
 use Rattle.hp_play.proofs.TieParts.{sub_found, kept_same, idle_free}
-use Rattle.hp_play.proofs.SetupRefusal.{IsAsked, setup_refusal, named_sub}
+use Rattle.hp_play.proofs.SetupRefusal.{IsAsked, setup_passes, named_sub}
 
 -- a setup of a state that has no name begins
 pub setup_stands : (head : Head) (es : List Event) (stands : List ℕ) (places : List (Option Kept)) (state sub : ℕ) →
@@ -37,7 +37,7 @@ setup_stands head es stands places state sub tied asked vacant unnamed = record 
   free = idle_free head es tied.seated tied.due_is;
   has_sub = named_sub head state sub (sub_found head sub tied.plain asked.some_sub asked.few_subs);
   passes = record {
-    not_refused = setup_refusal head es stands places state sub tied asked ∙ rw (unnamed, vacant) refl;
+    not_refused = setup_passes head es stands places state sub tied asked vacant unnamed;
     not_waiting = rw (tied.due_is.no_walk, tied.due_is.no_registration) refl;
   };
   state_is = rw asked.fixed refl;

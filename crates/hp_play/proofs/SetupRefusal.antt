@@ -87,6 +87,13 @@ setup_refusal head es stands places state sub tied asked =
     (is_some (name_of_builtin state)) (is_some (registered head state es)) (is_none (lowest_free head state es))
     free.idle reading lowest highest (rw (found.is, found.plain.named) refl) waiting asked.fixed)
 
+-- a setup of a state that has no name isn't refused
+pub setup_passes : (head : Head) (es : List Event) (stands : List ℕ) (places : List (Option Kept)) (state sub : ℕ) →
+    IsTied head es stands places Idle → IsAsked head state sub → place_at places state ≡ None → name_of_builtin state ≡ None →
+    refusal head es head.possible (Setup state sub plain) ≡ None
+setup_passes head es stands places state sub tied asked vacant unnamed =
+    setup_refusal head es stands places state sub tied asked ∙ rw (unnamed, vacant) refl
+
 pub named_sub : (head : Head) (state sub : ℕ) → SubFound head sub → names_sub head (Setup state sub plain) ≡ true
 named_sub head state sub found = rw found.is refl
 

@@ -23,13 +23,15 @@ usage_line = codes "usage: hp play|replay|states|report|gen|bench [--seed N] [--
 abbrev pub output : Head → List Event → List ℕ
 output head events = journal_text head events ++ summary head events
 
--- The script that the bytes are, the journal of it whose text and summary are written, and how often the last hooks of
--- the rack were called: those of the registered states, in rising number.
+-- The script that the bytes are, the journal of it whose text and summary are written, and the rack: it has as many
+-- hooks as before, and the last of them, those of the registered states in rising number, were called as often as the
+-- journal says.
 pub record IsPlayed (hooks : ℕ) (made : List ℕ) (script output_bytes : List ℕ) : Type 0 where
   pub lines : Lines
   pub of_form : IsScript hooks script lines
   pub events : List Event
   pub journal : IsJournalOf (head_of lines) lines.ops events
+  pub no_hook_lost : length made ≡ hooks
   pub rack : EndsWith made (calls_below (head_of lines) events (ONLINE + 1))
   pub written : output_bytes ≡ output (head_of lines) events
 

@@ -1,14 +1,19 @@
--- What is so of a machine: it is ready for a turn, and tied to its journal. This project's own.
-use Rattle.std.specs.Prelude.{◌≡◌, ℕ, ◌+◌, Bool, length}
+-- What is so of a machine, and what a turn makes of it. This project's own.
+use Rattle.std.specs.Prelude.{◌≡◌, ℕ, ◌+◌, ◌<◌, Bool, true, false, ◌&&◌, not, is_some, if◌then◌else◌, Option, None, length}
 use Rattle.hp_event.specs.declared.event.Op.{Op}
+use Rattle.hp_model.specs.Refusals.{refusal}
+use Rattle.hp_play.specs.declared.due.Due.TheVariants.{Operation}
 use Rattle.hp_play.specs.declared.machine.Machine.{Machine}
-use Rattle.hp_play.specs.Machine.{IsReady, work}
+use Rattle.hp_play.specs.Machine.{IsReady, work, is_of, is_in_flight, is_setup}
 use Rattle.hp_play.specs.Tied.{IsTied}
 use Rattle.hp_play.specs.Plays.{Plays}
+use Rattle.hp_play.specs.Racked.{made_of}
 
+-- ready for a turn
 abbrev pub Ready : {H : Type 0} → Machine H → Type 0
 Ready m = IsReady m.journal m.settled.items m.places.items m.due
 
+-- tied to its journal
 abbrev pub Tied : {H : Type 0} → Machine H → Type 0
 Tied m = IsTied m.journal.head m.journal.events m.settled.items m.places.items m.due
 
@@ -25,3 +30,46 @@ GoesOn op answers old new = Plays old.journal.head op answers old.journal.events
 -- what is left to do in the operation
 abbrev pub work_of : {H : Type 0} → Machine H → ℕ
 work_of m = work m.due (length m.settled.items)
+
+-- the hooks that its states have
+abbrev pub hooks_of : {H : Type 0} → Machine H → ℕ
+hooks_of m = length (made_of m.places.items)
+
+-- Advances of an operation, which answer it or not: what was played is of this operation, and if it isn't answered, then
+-- something is due of it, and less than before is left.
+pub record Advances {H : Type 0} (op : Op) (answers : Bool) (old new : Machine H) : Type 0 where
+  pub ready : Ready new
+  pub tied : Tied new
+  pub keeps : Keeps old new
+  pub goes : GoesOn op answers old new
+  pub of : is_of op new.due ≡ true
+  pub free : answers ≡ true → new.due ≡ Operation
+  pub flight : answers ≡ false → is_in_flight new.due ≡ true
+  pub less : answers ≡ false → work_of new < work_of old
+
+-- A turn of a processor's seat, which makes an entry of whatever operation is in flight.
+pub record Enters {H : Type 0} (old new : Machine H) : Type 0 where
+  pub ready : Ready new
+  pub tied : Tied new
+  pub keeps : Keeps old new
+  pub goes : (op : Op) → GoesOn op false old new
+  pub of : (op : Op) → is_of op old.due ≡ true → is_of op new.due ≡ true
+  pub flight : is_in_flight new.due ≡ true
+  pub less : work_of new < work_of old
+
+-- whether an operation registers its state: it is a setup that isn't refused
+abbrev pub registers : {H : Type 0} → Op → Machine H → Bool
+registers op m =
+    is_setup op && not (is_some (refusal m.journal.head m.journal.events m.journal.head.possible op))
+
+-- what is left of an operation's hook, which the state has taken or not
+abbrev pub left_of : {H : Type 0} → (taken : Bool) → Option H → Option H
+left_of taken hook = if taken then None else hook
+
+abbrev pub one_if : Bool → ℕ
+one_if taken = if taken then 1 else 0
+
+-- an operation that registers gives its hook to the machine, and any other keeps it
+pub record Gives {H : Type 0} (op : Op) (old new : Machine H) (hook hook_now : Option H) : Type 0 where
+  pub left : hook_now ≡ left_of (registers op old) hook
+  pub taken : hooks_of new ≡ hooks_of old + one_if (registers op old)

@@ -1,6 +1,6 @@
 //! The run of a script.
 
-ghost use Rattle.std.specs.Prelude.{◌≡◌, ℕ, ◌+◌, ◌*◌, ◌<◌, ◌≤◌, IfOk, All, map, length, count_by, vec_len, is_some, true, if◌then◌else◌};
+ghost use Rattle.std.specs.Prelude.{◌≡◌, ℕ, ◌+◌, ◌*◌, ◌<◌, ◌≤◌, ◌++◌, [], ◌∷◌, IfOk, OnOk, IfSome, IfNone, All, map, length, count_by, vec_len, is_some, true, if◌then◌else◌};
 ghost use Rattle.hp_model.specs.Heads.{IsHead};
 ghost use Rattle.hp_play.specs.Machine.{IsPlayableIn, is_setup};
 ghost use Rattle.hp_play.specs.Played.{IsJournalOf};
@@ -19,7 +19,8 @@ use std::alloc::Global;
 fn hook_for<H: Hook>(op: &Op, rack: &mut Rack<H>) -> Option<H>
     requires { is_setup op.now ≡ true → 0 < length rack.old.hooks.items }
     ensures setup { is_some result ≡ is_setup op.now }
-    ensures rest { length rack.new.hooks.items + (if is_setup op.now then 1 else 0) ≡ length rack.old.hooks.items }
+    ensures last { IfSome result (λ hook. rack.old.hooks.items ≡ rack.new.hooks.items ++ hook ∷ []) }
+    ensures none { IfNone result (rack.old.hooks.items ≡ rack.new.hooks.items) }
 {
     match op {
         Op::Setup { .. } => rack.hooks.pop(),
@@ -27,10 +28,22 @@ fn hook_for<H: Hook>(op: &Op, rack: &mut Rack<H>) -> Option<H>
     }
 }
 
+/// Puts a hook that its operation left behind those that came back before.
+fn keep<H: Hook>(spent: &mut Vec<H>, hook: Option<H>) -> Result<(), NoMemory>
+    ensures last { OnOk result (IfSome hook (λ h. spent.new.items ≡ spent.old.items ++ h ∷ [])) }
+    ensures none { OnOk result (IfNone hook (spent.new.items ≡ spent.old.items)) }
+{
+    if let Some(hook) = hook {
+        spent.push(hook)?;
+    }
+    Ok(())
+}
+
 /// Plays a script on a machine of its own, by rounds, and answers the journal.
 ///
-/// Each setup takes a hook from the rack. Behind the hooks that were left the rack then has those that came back, and
-/// last those of the registered states, in rising state. Where memory is wanting, some hooks of the rack are lost.
+/// Each setup takes the last hook of the rack. Behind the hooks that were left the rack then has those that came
+/// back, and last those of the registered states, in rising state: as many as before. Where memory is wanting, some
+/// hooks of the rack are lost.
 pub fn play<H: Hook>(alloc: Global, script: Script, rack: &mut Rack<H>) -> Result<Journal, NoMemory>
     requires cpus { script.head.possible ≤ MAX_CPUS }
     requires ops { vec_len script.ops ≤ MAX_PLAYED }
@@ -40,6 +53,7 @@ pub fn play<H: Hook>(alloc: Global, script: Script, rack: &mut Rack<H>) -> Resul
     requires plain { IsPlainHead script.head }
     ensures head { IfOk result (λ journal. journal.head ≡ script.head) }
     ensures journal { IfOk result (λ journal. IsJournalOf script.head script.ops.items journal.events) }
+    ensures whole { IfOk result (λ _. length rack.new.hooks.items ≡ length rack.old.hooks.items) }
     ensures rack { IfOk result (λ journal. EndsWith (map (λ h. H.made h) rack.new.hooks.items)
         (calls_below script.head journal.events (ONLINE + 1))) }
 {
@@ -50,9 +64,7 @@ pub fn play<H: Hook>(alloc: Global, script: Script, rack: &mut Rack<H>) -> Resul
     for op in ops.as_slice() {
         let mut hook = hook_for(op, rack);
         machine.operate(*op, &mut hook)?;
-        if let Some(hook) = hook {
-            spent.push(hook)?;
-        }
+        keep(&mut spent, hook)?;
     }
     for hook in spent {
         rack.hooks.push(hook)?;

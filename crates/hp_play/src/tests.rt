@@ -177,15 +177,26 @@ fn run<H: Hook>(
     Ok(status)
 }
 
+/// What is written where a script is played with a rack and nothing fails.
+fn played<H: Hook>(
+    rt: &impl Abort,
+    alloc: Global,
+    script: &[u8],
+    rack: &mut Rack<H>,
+) -> Result<Vec<u8>, Fail> {
+    let mut source = source_of(alloc, script)?;
+    let mut sink = ample_sink(alloc)?;
+    let status = run(rt, alloc, &["play"], &mut source, &mut sink, rack)?;
+    assert_eq!(rt; status, 0);
+    Ok(sink.bytes)
+}
+
 #[test]
 fn a_script_is_played(rt: HostRuntime) -> Result<(), Fail> {
     let alloc = rt.alloc();
-    let mut source = source_of(alloc, TWO_STARTUPS)?;
-    let mut sink = ample_sink(alloc)?;
     let mut rack = four_hooks(alloc)?;
-    let status = run(&rt, alloc, &["play"], &mut source, &mut sink, &mut rack)?;
-    assert_eq!(rt; status, 0);
-    assert_eq!(rt; sink.bytes.as_slice(), TWO_STARTUPS_PLAYED);
+    let written = played(&rt, alloc, TWO_STARTUPS, &mut rack)?;
+    assert_eq!(rt; written.as_slice(), TWO_STARTUPS_PLAYED);
     assert_eq!(rt; rack.hooks.len(), 4);
     for (hook, made) in rack.hooks.iter().zip([0, 0, 2, 2]) {
         assert_eq!(rt; hook.made(), made);
@@ -205,10 +216,7 @@ fn hooks_of_the_caller_are_called(rt: HostRuntime) -> Result<(), Fail> {
         hooks.push(Box::new(alloc, SharedHook { inner, calls })?)?;
     }
     let mut rack = Rack { hooks };
-    let mut source = source_of(alloc, TWO_STARTUPS)?;
-    let mut sink = ample_sink(alloc)?;
-    let status = run(&rt, alloc, &["play"], &mut source, &mut sink, &mut rack)?;
-    assert_eq!(rt; status, 0);
+    played(&rt, alloc, TWO_STARTUPS, &mut rack)?;
     assert_eq!(rt; calls.load(Ordering::SeqCst), 4);
     assert_eq!(rt; rack.hooks.len(), 2);
     Ok(())
@@ -315,11 +323,8 @@ fn other_words_are_answered_by_the_usage_line(rt: HostRuntime) -> Result<(), Fai
 fn operations_are_refused(rt: HostRuntime) -> Result<(), Fail> {
     let alloc = rt.alloc();
     let mut rack = four_hooks(alloc)?;
-    let mut source = source_of(alloc, REFUSALS)?;
-    let mut sink = ample_sink(alloc)?;
-    let status = run(&rt, alloc, &["play"], &mut source, &mut sink, &mut rack)?;
-    assert_eq!(rt; status, 0);
-    assert_eq!(rt; sink.bytes.as_slice(), REFUSALS_PLAYED);
+    let written = played(&rt, alloc, REFUSALS, &mut rack)?;
+    assert_eq!(rt; written.as_slice(), REFUSALS_PLAYED);
     assert_eq!(rt; rack.hooks.len(), 4);
     Ok(())
 }

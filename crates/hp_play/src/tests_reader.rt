@@ -2,6 +2,7 @@
 
 use crate::{ParseError, Script, ScriptKind, parse, refusal_line};
 use hp_event::{Form, Op};
+use hp_states::MAX_SCRIPT_BYTES;
 use std::alloc::{AllocError, Global};
 use std::test::*;
 
@@ -280,8 +281,9 @@ fn limits(rt: HostRuntime) -> Result<(), Fail> {
     assert!(rt; says(rt.alloc(), &most, 0, &said)?);
     let more = repeated(rt.alloc(), b"cpus 2\n", sub, 129, b"actor a\n")?;
     assert!(rt; refuses(rt.alloc(), &more, 0)?, "129 subsystems");
-    let long = repeated(rt.alloc(), b"cpus 2\nactor a\n", up, 209_715, b"")?;
-    assert!(rt; refuses(rt.alloc(), &long, 0)?, "more than 1048576 bytes");
+    let ups = MAX_SCRIPT_BYTES / up.len() as u32;
+    let long = repeated(rt.alloc(), b"cpus 2\nactor a\n", up, ups, b"")?;
+    assert!(rt; refuses(rt.alloc(), &long, 0)?, "too many bytes");
     Ok(())
 }
 

@@ -146,8 +146,9 @@ fn played<S: Source, H: Hook>(
 ///
 /// For the statuses 0 and 2 the source was read to its end, or to one byte past the most bytes that
 /// a script has. The journal of status 0 is the run of the script's actor by rounds, and lawful:
-/// `specs/Played.antt` says what is so of it. The rack ends with the hooks of the registered states,
-/// in rising state, each called as often as the journal says. The statuses are this project's own.
+/// `specs/Played.antt` says what is so of it. The rack then has as many hooks as before; the last are
+/// those of the registered states, in rising state, each called as often as the journal says. The
+/// statuses are this project's own.
 pub fn hp_main<S: Source, K: Sink, H: Hook>(
     alloc: Global,
     words: &Vec<String>,

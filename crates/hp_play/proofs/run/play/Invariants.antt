@@ -2,7 +2,7 @@ use Rattle.std.proofs.Common.{◌≡◌, ◌+◌, ◌*◌, ◌≤◌, length, dr
 use Rattle.hp_states.specs.declared.limits.TheConstants.{MAX_CPUS, ONLINE}
 use Rattle.hp_play.specs.declared.due.Due.TheVariants.{Operation}
 use Rattle.hp_play.specs.Machine.{is_setup}
-use Rattle.hp_play.specs.Parts.{Ready, Tied}
+use Rattle.hp_play.specs.Parts.{Ready, Tied, hooks_of}
 use Rattle.hp_play.specs.Plays.{HasPlayed}
 use Rattle.hp_play.proofs.run.play.Given as goal
 
@@ -18,9 +18,15 @@ invariant-loop-op g l =
       few : length l.machine.journal.events ≤ (MAX_CPUS + 1) + l.op-index * (ONLINE + 4);
       items : l.op-items ≡ l.fn.script.ops.items;
       hooks : count_by is_setup (drop l.op-index l.op-items) ≤ length l.rack.hooks.items;
+      whole : length l.rack.hooks.items + length l.spent.items + hooks_of l.machine ≡ length l.fn.rack.hooks.items;
     }
 
 abbrev pub invariant-loop-hook : goal.invariant-loop-hook
 invariant-loop-hook g l =
-    (goal.iterator-loop-hook g).can_next l.hook-iterator ×
-    (goal.iterator-loop-hook g).is_finite l.hook-iterator
+    record {
+      can_next : (goal.iterator-loop-hook g).can_next l.hook-iterator;
+      is_finite : (goal.iterator-loop-hook g).is_finite l.hook-iterator;
+      whole :
+          length l.rack.hooks.items + length l.hook-iterator.rest.items + hooks_of l.machine
+          ≡ length l.fn.rack.hooks.items;
+    }

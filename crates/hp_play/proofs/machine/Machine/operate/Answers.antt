@@ -7,7 +7,7 @@ use Rattle.hp_play.proofs.machine.Machine.operate.Goals as goal
 pub loop-answered-preserved : goal.loop-answered-preserved
 loop-answered-preserved g c =
     let before = c.loop-answered.invariant in
-    let after = c.round-answered.ensures in
+    let after = c.round-answered.ensures.turns in
     let waits = c.loop-answered-test.true in
     record {
       ready = after.ready;
@@ -18,4 +18,6 @@ loop-answered-preserved g c =
       head = after.keeps.0 ∙ before.head;
       total = after.keeps.2 ∙ before.total;
       goes = plays_more _ _ _ _ _ _ (rw waits at before.goes) (rw before.head at after.goes);
+      left = before.left;
+      hooks = c.round-answered.ensures.hooks ∙ before.hooks;
     }

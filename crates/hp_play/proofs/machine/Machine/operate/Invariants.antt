@@ -1,6 +1,6 @@
 use Rattle.std.proofs.Common.{◌≡◌, ◌+◌, length, true, not, if◌then◌else◌}
 use Rattle.hp_play.specs.Machine.{is_of, is_in_flight}
-use Rattle.hp_play.specs.Parts.{Ready, Tied, GoesOn, work_of}
+use Rattle.hp_play.specs.Parts.{Ready, Tied, GoesOn, work_of, hooks_of, registers, left_of, one_if}
 use Rattle.hp_play.specs.declared.due.Due.TheVariants.{Operation}
 use Rattle.hp_play.proofs.machine.Machine.operate.Given as goal
 
@@ -15,6 +15,8 @@ invariant-loop-answered g l =
       head : l.self.journal.head ≡ l.fn.self.journal.head;
       total : length l.self.journal.events + l.self.journal.promised ≡ length l.fn.self.journal.events + 204;
       goes : GoesOn l.fn.op l.answered l.fn.self l.self;
+      left : l.hook ≡ left_of (registers l.fn.op l.fn.self) l.fn.hook;
+      hooks : hooks_of l.self ≡ hooks_of l.fn.self + one_if (registers l.fn.op l.fn.self);
     }
 
 abbrev pub decreases-loop-answered : goal.decreases-loop-answered

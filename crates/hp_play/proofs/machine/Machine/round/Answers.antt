@@ -1,7 +1,15 @@
 -- The processors' turns, and then the client's.
-use Rattle.hp_play.proofs.PlaysLaws.{plays_more}
+use Rattle.hp_play.proofs.Turning.{served, both_turn}
 use Rattle.hp_play.proofs.machine.Machine.round.Goals as goal
 
-pub returns-clause-goes : goal.returns-clause-goes
-returns-clause-goes g c =
-    plays_more _ _ _ _ _ _ (c.serve.ensures.goes c.args.op) (rw c.serve.ensures.keeps.0 at c.turn.ensures.goes)
+pub turn-requires-clause-ready : goal.turn-requires-clause-ready
+turn-requires-clause-ready g c =
+    (served _ _ c.requires.ready c.requires.tied c.serve.ensures.enters c.serve.ensures.idle).0
+
+pub turn-requires-clause-tied : goal.turn-requires-clause-tied
+turn-requires-clause-tied g c =
+    (served _ _ c.requires.ready c.requires.tied c.serve.ensures.enters c.serve.ensures.idle).1
+
+pub returns-clause-turns : goal.returns-clause-turns
+returns-clause-turns g c =
+    both_turn _ _ _ _ _ c.requires.of c.serve.ensures.enters c.serve.ensures.idle c.turn.ensures.turns c.turn.ensures.idle
