@@ -31,24 +31,17 @@ asked_as r xs (RegBegin seat state op) = refl
 asked_as r xs (RegEnd seat given) = refl
 asked_as r xs e = refl
 
-sub_applied : (head : Head) (op : Op) (found : Option Registered) → sub_after op (sub_of found) ≡ sub_of (applied head op found)
-sub_applied head (Setup state sub form) found = refl
-sub_applied head (Remove state form) found = refl
-sub_applied head (Add state inst form) None = refl
-sub_applied head (Add state inst form) (Some r) = refl
-sub_applied head (Del state inst form) None = refl
-sub_applied head (Del state inst form) (Some r) = refl
-sub_applied head op found = refl
-
-insts_applied : (head : Head) (op : Op) (found : Option Registered) →
-    insts_after op (sub_of found) (instances found) ≡ instances (applied head op found)
-insts_applied head (Setup state sub form) found = refl
-insts_applied head (Remove state form) found = refl
-insts_applied head (Add state inst form) None = refl
-insts_applied head (Add state inst form) (Some r) = refl
-insts_applied head (Del state inst form) None = refl
-insts_applied head (Del state inst form) (Some r) = refl
-insts_applied head op found = refl
+-- what an operation that is done makes of the subsystem, and of the instances
+all_applied : (head : Head) (op : Op) (found : Option Registered) →
+    (sub_after op (sub_of found) ≡ sub_of (applied head op found))
+    × (insts_after op (sub_of found) (instances found) ≡ instances (applied head op found))
+all_applied head (Setup state sub form) found = (refl, refl)
+all_applied head (Remove state form) found = (refl, refl)
+all_applied head (Add state inst form) None = (refl, refl)
+all_applied head (Add state inst form) (Some r) = (refl, refl)
+all_applied head (Del state inst form) None = (refl, refl)
+all_applied head (Del state inst form) (Some r) = (refl, refl)
+all_applied head op found = (refl, refl)
 
 -- a registration that is done, at each state
 subs_ok : (head : Head) (s : ℕ) (r : Option Registration) (subs : List (Option ℕ)) (found : Option Registered) →
@@ -59,7 +52,7 @@ subs_ok head s (Some r) subs found h p =
     rw (get_or-set subs r.state s (sub_after r.op (get_or subs r.state None)) None h) (go (r.state == s) refl) where
       go : (b : Bool) → (r.state == s) ≡ b → (if b then sub_after r.op (get_or subs r.state None) else get_or subs s None)
           ≡ sub_of (if b then applied head r.op found else found)
-      go true here = let same : r.state ≡ s = grind (arith, nat_tests) in rw (same, p) (sub_applied head r.op found)
+      go true here = let same : r.state ≡ s = grind (arith, nat_tests) in rw (same, p) (all_applied head r.op found).0
       go false here = p
 
 insts_ok : (head : Head) (s : ℕ) (r : Option Registration) (subs : List (Option ℕ)) (insts : List (List ℕ))
@@ -74,7 +67,7 @@ insts_ok head s (Some r) subs insts found h p q =
     go : (b : Bool) → (r.state == s) ≡ b →
         (if b then insts_after r.op (get_or subs r.state None) (get_or insts r.state []) else get_or insts s [])
         ≡ instances (if b then applied head r.op found else found)
-    go true here = let same : r.state ≡ s = grind (arith, nat_tests) in rw (same, p, q) (insts_applied head r.op found)
+    go true here = let same : r.state ≡ s = grind (arith, nat_tests) in rw (same, p, q) (all_applied head r.op found).1
     go false here = q
 
 subs_as : (head : Head) (s : ℕ) (subs : List (Option ℕ)) (xs : List Event) (e : Event) → s < length subs →
