@@ -116,24 +116,30 @@ fn two_startups(alloc: Global) -> Result<Journal, Fail> {
     journal_of(head, alloc, &events)
 }
 
-#[test]
-fn the_text_of_two_startups(rt: HostRuntime) -> Result<(), Fail> {
-    let journal = two_startups(rt.alloc())?;
-    let text = journal_text(rt.alloc(), &journal)?;
-    let wanted =
-        b"cpuhp journal 1\ncpus 2\nabsent -\nsub net:a both single\nsub net:b both single\nevents\nadmit 0 ap 0\nadmit 1 ap 1\nadmit 2 client\nreg 2 120 setup 120 1\ncall 0 0 120 0 up ok\nregged 2 ok 0\nreg 2 150 setup 150 2\ncall 0 0 150 0 up ok\nregged 2 ok 0\nenter 2 up 1\nwalk 2 1 0 200\ncall 1 1 120 0 up ok\ncall 1 1 150 0 up ok\nwalked 2 1 ok\ndone 2 ok 0\nend 15\n";
-    assert_eq!(rt; text.as_slice(), wanted.as_slice());
+fn check_texts(
+    rt: &impl Abort,
+    alloc: Global,
+    journal: &Journal,
+    wanted: &[u8],
+    overview: &[u8],
+) -> Result<(), Fail> {
+    let text = journal_text(alloc, journal)?;
+    assert_eq!(rt; text.as_slice(), wanted);
+    let shown = summary(alloc, journal)?;
+    assert_eq!(rt; shown.as_slice(), overview);
     Ok(())
 }
 
 #[test]
-fn the_summary_of_two_startups(rt: HostRuntime) -> Result<(), Fail> {
+fn the_text_and_the_summary_of_two_startups(rt: HostRuntime) -> Result<(), Fail> {
     let journal = two_startups(rt.alloc())?;
-    let text = summary(rt.alloc(), &journal)?;
-    let wanted =
-        b"cpu 0 present state 200 keys 120.0 150.0\ncpu 1 present state 200 keys 120.0 150.0\ndisabled 0\nfrozen -\nsub 120 net:a made 2 faults 0 instances -\nsub 150 net:b made 2 faults 0 instances -\nops ok 3 refused 0 fault 0 stuck 0 full 0\nevents 15\n";
-    assert_eq!(rt; text.as_slice(), wanted.as_slice());
-    Ok(())
+    check_texts(
+        &rt,
+        rt.alloc(),
+        &journal,
+        b"cpuhp journal 1\ncpus 2\nabsent -\nsub net:a both single\nsub net:b both single\nevents\nadmit 0 ap 0\nadmit 1 ap 1\nadmit 2 client\nreg 2 120 setup 120 1\ncall 0 0 120 0 up ok\nregged 2 ok 0\nreg 2 150 setup 150 2\ncall 0 0 150 0 up ok\nregged 2 ok 0\nenter 2 up 1\nwalk 2 1 0 200\ncall 1 1 120 0 up ok\ncall 1 1 150 0 up ok\nwalked 2 1 ok\ndone 2 ok 0\nend 15\n",
+        b"cpu 0 present state 200 keys 120.0 150.0\ncpu 1 present state 200 keys 120.0 150.0\ndisabled 0\nfrozen -\nsub 120 net:a made 2 faults 0 instances -\nsub 150 net:b made 2 faults 0 instances -\nops ok 3 refused 0 fault 0 stuck 0 full 0\nevents 15\n",
+    )
 }
 
 fn check(rt: &impl Abort, alloc: Global, event: Event, wanted: &[u8]) -> Result<(), Fail> {
@@ -355,13 +361,11 @@ fn absent_processors_names_and_rules(rt: HostRuntime) -> Result<(), Fail> {
         subs,
     };
     let journal = journal_of(head, rt.alloc(), &[])?;
-    let text = journal_text(rt.alloc(), &journal)?;
-    let wanted =
-        b"cpuhp journal 1\ncpus 4\nabsent 1 3\nsub - both multi\nrule up * 3 * 5\nevents\nend 0\n";
-    assert_eq!(rt; text.as_slice(), wanted.as_slice());
-    let overview = summary(rt.alloc(), &journal)?;
-    let expected =
-        b"cpu 0 present state 200 keys -\ncpu 1 absent state 0 keys -\ncpu 2 present state 0 keys -\ncpu 3 absent state 0 keys -\ndisabled 0\nfrozen -\nops ok 0 refused 0 fault 0 stuck 0 full 0\nevents 0\n";
-    assert_eq!(rt; overview.as_slice(), expected.as_slice());
-    Ok(())
+    check_texts(
+        &rt,
+        rt.alloc(),
+        &journal,
+        b"cpuhp journal 1\ncpus 4\nabsent 1 3\nsub - both multi\nrule up * 3 * 5\nevents\nend 0\n",
+        b"cpu 0 present state 200 keys -\ncpu 1 absent state 0 keys -\ncpu 2 present state 0 keys -\ncpu 3 absent state 0 keys -\ndisabled 0\nfrozen -\nops ok 0 refused 0 fault 0 stuck 0 full 0\nevents 0\n",
+    )
 }
