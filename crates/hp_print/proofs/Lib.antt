@@ -1,4 +1,5 @@
 pub mod Texts
+pub mod Digits
 pub mod KeyOrder
 pub mod SuspendedStep
 pub mod WalksStep

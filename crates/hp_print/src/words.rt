@@ -1,12 +1,20 @@
 //! Pieces of lines, appended to a buffer.
 
-ghost use Rattle.std.specs.Prelude.{◌≡◌, ◌++◌, ◌∷◌, [], OnOk, Option, map, decimal};
+ghost use Rattle.std.specs.Prelude.{◌≡◌, ◌≤◌, ◌<◌, ◌+◌, ◌++◌, ◌∷◌, [], OnOk, Option, map, decimal};
 ghost use Rattle.std.specs.Fmt.{signed_decimal};
 ghost use Rattle.hp_model.specs.Words.{spaced, dir_word, name_word, any_word, list_words};
 
 use hp_states::Dir;
 use itoa::Buffer;
 use std::alloc::AllocError;
+
+/// The byte of a digit.
+fn digit(value: u32) -> u8
+    requires { value < 10 }
+    ensures { result ≡ 48 + value }
+{
+    b'0' + value as u8
+}
 
 /// Appends some bytes as they are.
 pub fn append(out: &mut Vec<u8>, bytes: &[u8]) -> Result<(), AllocError>
@@ -15,13 +23,54 @@ pub fn append(out: &mut Vec<u8>, bytes: &[u8]) -> Result<(), AllocError>
     out.extend_from_slice(bytes)
 }
 
-/// Appends a number, behind a space.
+/// Appends a number of one digit, behind a space.
+#[tactic(auto, using(std::proofs::lemmas::Fmt::decimal_digit))]
+fn append_one_digit(out: &mut Vec<u8>, number: u32) -> Result<(), AllocError>
+    requires { number < 10 }
+    ensures { OnOk result (out.new.items ≡ out.old.items ++ 32 ∷ decimal number) }
+{
+    append(out, &[b' ', digit(number)])
+}
+
+/// Appends a number of two digits, behind a space.
+#[tactic(auto, using(crate::proofs::Digits::two_digits))]
+fn append_two_digits(out: &mut Vec<u8>, number: u32) -> Result<(), AllocError>
+    requires from { 10 ≤ number }
+    requires below { number < 100 }
+    ensures { OnOk result (out.new.items ≡ out.old.items ++ 32 ∷ decimal number) }
+{
+    append(out, &[b' ', digit(number / 10), digit(number % 10)])
+}
+
+/// Appends a number of three digits, behind a space.
+#[tactic(auto, using(crate::proofs::Digits::three_digits))]
+fn append_three_digits(out: &mut Vec<u8>, number: u32) -> Result<(), AllocError>
+    requires from { 100 ≤ number }
+    requires below { number < 1000 }
+    ensures { OnOk result (out.new.items ≡ out.old.items ++ 32 ∷ decimal number) }
+{
+    append(
+        out,
+        &[
+            b' ',
+            digit(number / 100),
+            digit(number / 10 % 10),
+            digit(number % 10),
+        ],
+    )
+}
+
+/// Appends a number, behind a space. Most numbers of a journal have up to three digits, and these
+/// go in one piece.
 pub fn append_number(out: &mut Vec<u8>, number: u32) -> Result<(), AllocError>
     ensures { OnOk result (out.new.items ≡ out.old.items ++ 32 ∷ decimal number) }
 {
-    let mut buffer = Buffer::new();
-    out.push(b' ')?;
-    out.extend_from_slice(buffer.format(number).as_bytes())
+    match number {
+        0..=9 => append_one_digit(out, number),
+        10..=99 => append_two_digits(out, number),
+        100..=999 => append_three_digits(out, number),
+        _ => append_count(out, number as usize),
+    }
 }
 
 /// Appends a signed number, behind a space.
