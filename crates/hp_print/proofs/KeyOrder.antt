@@ -1,5 +1,5 @@
 -- The order of keys, and their places in a list that rises.
-use Rattle.std.proofs.Common.{◌≡◌, ℕ, zero, suc, ◌<◌, ◌≤◌, Bool, true, false, List, [], ◌∷◌, length, get_or, refl, ap, sym, arith, set, if◌then◌else◌, insert}
+use Rattle.std.proofs.Common.{◌≡◌, ℕ, zero, suc, ◌-◌, ◌<◌, ◌≤◌, Bool, true, false, List, [], ◌∷◌, length, get_or, refl, ap, sym, arith, set, if◌then◌else◌, insert}
 use Rattle.std.proofs.lemmas.Bool.Decides.{nat_tests}
 use Rattle.hp_event.specs.declared.event.Key.{Key}
 use Rattle.hp_model.specs.Net.{is_before}
@@ -53,6 +53,14 @@ place_above k (x ∷ xs) (suc j) d o h p =
     let rest : j < place k xs = place_above k xs j d o.1 (omega arith) p in
     let first : is_before x.key k ≡ true = before_after x.key (get_or xs j d).key k (before_all_at x.key xs j d o.0 (omega arith)) p in
     grind arith
+
+-- where the last key is before another, that one's place is the end
+pub place_at_end : (k : Key) (xs : List KeyCount) (d : KeyCount) → AreInOrder xs → 0 < length xs →
+    is_before (get_or xs (length xs - 1) d).key k ≡ true → length xs ≡ place k xs
+place_at_end k xs d o l p =
+    let above : length xs - 1 < place k xs = place_above k xs (length xs - 1) d o (omega arith) p in
+    let within = place_within k xs in
+    omega arith
 
 before_all_after : (a b : Key) (xs : List KeyCount) → is_before a b ≡ true → IsBeforeAll b xs → IsBeforeAll a xs
 before_all_after a b [] p h = tt

@@ -18,14 +18,14 @@ pub struct KeyCount {
 }
 
 /// Whether a key is before another: by state, and then by instance.
-pub fn is_before(key: Key, other: Key) -> bool
+fn is_before(key: Key, other: Key) -> bool
     ensures { result ≡ is_before_of key other }
 {
     key.state < other.state || (key.state == other.state && key.inst < other.inst)
 }
 
-/// How many keys of a list that rises are before a key.
-pub fn place_of(counts: &[KeyCount], key: Key) -> usize
+/// How many keys of a list that rises are before a key, found by halves.
+fn place_by_halves(counts: &[KeyCount], key: Key) -> usize
     requires { AreInOrder counts.now }
     ensures place { result ≡ place key counts.now }
     ensures within { result ≤ length counts.now }
@@ -41,6 +41,20 @@ pub fn place_of(counts: &[KeyCount], key: Key) -> usize
         }
     }
     low
+}
+
+/// How many keys of a list that rises are before a key. Most keys are counted in rising order, so
+/// the end is looked at first.
+fn place_of(counts: &[KeyCount], key: Key) -> usize
+    requires { AreInOrder counts.now }
+    ensures place { result ≡ place key counts.now }
+    ensures within { result ≤ length counts.now }
+{
+    let many = counts.len();
+    if many > 0 && is_before(counts[many - 1].key, key) {
+        return many;
+    }
+    place_by_halves(counts, key)
 }
 
 /// Puts a count of a key in its place, unless there is one; answers the place.

@@ -1,6 +1,6 @@
 use Rattle.std.proofs.Common.{ℕ, ◌≤◌, ◌-◌, length}
 use Rattle.hp_print.specs.Counts.{place}
-use Rattle.hp_print.proofs.keys.place_of.Given as goal
+use Rattle.hp_print.proofs.keys.place_by_halves.Given as goal
 
 pub record Between (low high at len : ℕ) : Type 0 where
   pub above : low ≤ at
