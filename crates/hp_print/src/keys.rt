@@ -1,6 +1,6 @@
 //! How often the entries of each key are done.
 
-ghost use Rattle.std.specs.Prelude.{◌≡◌, ◌≤◌, ◌<◌, ◌++◌, ◌∷◌, [], List, OnOk, IfOk, length, vec_len};
+ghost use Rattle.std.specs.Prelude.{◌≡◌, ◌≤◌, ◌<◌, ◌++◌, ◌∷◌, [], List, OnOk, IfOk, length, vec_len, insert, ◌+◌};
 ghost use Rattle.hp_model.specs.Net.{is_before as is_before_of};
 ghost use Rattle.hp_print.specs.Counts.{AreInOrder, place, with_count, counted, no_count, is_key};
 
@@ -57,6 +57,26 @@ fn place_of(counts: &[KeyCount], key: Key) -> usize
     place_by_halves(counts, key)
 }
 
+/// Puts a count of no entries at a place, which mostly is the end.
+#[tactic(auto, using(std::proofs::lemmas::List::Edits::insert_end))]
+fn put(counts: &mut Vec<KeyCount>, at: usize, key: Key) -> Result<(), AllocError>
+    requires { at ≤ vec_len counts.old }
+    ensures counts { OnOk result (counts.new.items ≡ insert counts.old.items at (no_count key)) }
+    ensures many { OnOk result (vec_len counts.new ≡ vec_len counts.old + 1) }
+{
+    let none = KeyCount {
+        key,
+        ups: 0,
+        downs: 0,
+    };
+    if at == counts.len() {
+        counts.push(none)?;
+    } else {
+        counts.insert(at, none)?;
+    }
+    Ok(())
+}
+
 /// Puts a count of a key in its place, unless there is one; answers the place.
 fn admit(counts: &mut Vec<KeyCount>, key: Key) -> Result<usize, AllocError>
     requires { AreInOrder counts.old.items }
@@ -68,14 +88,7 @@ fn admit(counts: &mut Vec<KeyCount>, key: Key) -> Result<usize, AllocError>
     if at < counts.len() && !is_before(key, counts[at].key) {
         return Ok(at);
     }
-    counts.insert(
-        at,
-        KeyCount {
-            key,
-            ups: 0,
-            downs: 0,
-        },
-    )?;
+    put(counts, at, key)?;
     Ok(at)
 }
 
