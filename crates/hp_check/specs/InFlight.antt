@@ -2,8 +2,6 @@
 use Rattle.hp_check.specs.declared.map_lock.Operation.{Operation}
 use Rattle.hp_check.specs.declared.registrations.Registration.{Registration}
 use Rattle.hp_check.specs.declared.walks.Walk.{Walk}
-use Rattle.hp_check.specs.declared.registered.Found.{Found}
-use Rattle.hp_model.specs.Registered.{Registered}
 use Rattle.hp_model.specs.MapLock.{Operation as AnOperation}
 use Rattle.hp_model.specs.Registrations.{Registration as ARegistration}
 use Rattle.hp_model.specs.Walks.{Walk as AWalk}
@@ -16,7 +14,3 @@ registration_by r = record { seat = r.seat; state = r.state; op = r.op; before =
 
 abbrev pub walk_by : Walk → AWalk
 walk_by w = record { seat = w.seat; from = w.from; to = w.to; before = w.before.now }
-
--- what is registered at a state
-abbrev pub registered_by : Found → Registered
-registered_by f = record { sub = f.sub; multi = f.multi; insts = f.insts.items }

@@ -5,13 +5,13 @@ ghost use Rattle.std.specs.Prelude.{◌≡◌, ◌∷◌, [], ◌++◌, List, ma
 ghost use Rattle.hp_states.specs.Rules.{Site as ASite, matches as matches_of, allows as allows_of, answer_of as answer_spec};
 ghost use Rattle.hp_model.specs.Subsystems.{plan_of};
 ghost use Rattle.hp_model.specs.Calls.{is_called as is_called_of, sites as sites_of, number_found as number_found_of, number_at as number_at_of, sub_at as sub_at_of};
-ghost use Rattle.hp_check.specs.InFlight.{registration_by, registered_by};
+ghost use Rattle.hp_model.specs.Found.{registered_by};
+ghost use Rattle.hp_check.specs.InFlight.{registration_by};
 ghost use Rattle.hp_check.specs.Sites.{site_by};
 
-use crate::registered::{Found, registered_at};
 use crate::registrations::{Registration, registration_of};
-use crate::subsystems::sub_numbered;
 use hp_event::{Event, Head, How, NoMemory, Op, Sub};
+use hp_model::{Found, registered_at, sub_numbered};
 use hp_states::{Dir, Rule};
 use std::alloc::Global;
 

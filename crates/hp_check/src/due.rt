@@ -15,9 +15,10 @@ use crate::processors::processors;
 use crate::registration_replay::{key_of, reached_registration};
 use crate::registrations::{Registration, registration_entries, registration_of};
 use crate::replay::{Reached, reached_forward};
-use crate::shown::{far, is_done};
+use crate::shown::far;
 use crate::walks::{Walk, walk_entries, walk_of};
 use hp_event::{Answer, Event, Head, How, NoMemory};
+use hp_model::is_done;
 use hp_states::{Dir, EAGAIN};
 use std::alloc::Global;
 

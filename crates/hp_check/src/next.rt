@@ -8,9 +8,9 @@ ghost use Rattle.hp_check.specs.Nexts.{next_by};
 
 use crate::processors::online;
 use crate::sequence::{answers, failures, target_of, to_boot, to_freeze, to_thaw};
-use crate::settled::settled;
 use crate::suspend::wakeup_pending;
 use hp_event::{Answer, Event, Head, NoMemory, Op};
+use hp_model::settled_after;
 use hp_states::{EBUSY, OFFLINE, ONLINE};
 use std::alloc::Global;
 
@@ -95,12 +95,17 @@ pub fn next_of(
     let done = answers(alloc, events)?;
     let failed = failures(alloc, events)?;
     match op {
-        Op::Up(cpu) => Ok(next_of_one(*cpu, ONLINE, settled(*cpu, events), done.as_slice())),
-        Op::Down(cpu) => Ok(next_of_one(*cpu, OFFLINE, settled(*cpu, events), done.as_slice())),
+        Op::Up(cpu) => Ok(next_of_one(*cpu, ONLINE, settled_after(*cpu, events), done.as_slice())),
+        Op::Down(cpu) => Ok(next_of_one(
+            *cpu,
+            OFFLINE,
+            settled_after(*cpu, events),
+            done.as_slice(),
+        )),
         Op::Target(cpu, value) => Ok(next_of_one(
             *cpu,
             target_of(*value),
-            settled(*cpu, events),
+            settled_after(*cpu, events),
             done.as_slice(),
         )),
         Op::Boot(most) => {

@@ -20,10 +20,10 @@ use crate::refusals::{passes, refusal};
 use crate::registrations::is_registering;
 use crate::replay::Reached;
 use crate::seats::is_free;
-use crate::settled::settled;
 use crate::subsystems::names_sub;
 use crate::walks::{Walk, is_walking, walk_entries, walk_of};
 use hp_event::{Answer, Event, Head, NoMemory, Op};
+use hp_model::settled_after;
 use std::alloc::Global;
 
 /// Whether an Enter stands.
@@ -97,7 +97,7 @@ pub fn can_begin_walk(
             let read = is_read(alloc, before)?;
             Ok(
                 (of.seat == seat && is_walk_next(next, cpu, to))
-                    && (from == settled(cpu, before)
+                    && (from == settled_after(cpu, before)
                         && is_quiet(walks, read, is_registering(before))),
             )
         }

@@ -5,8 +5,8 @@ ghost use Rattle.hp_model.specs.Lists.{rising as rising_of};
 ghost use Rattle.hp_model.specs.Registered.{keys as keys_of};
 ghost use Rattle.hp_model.specs.Plan.{keyed as keyed_of, direction as direction_of, plan as plan_of};
 
-use crate::registered::keys;
 use hp_event::{Event, Head, NoMemory};
+use hp_model::instances_of_keys;
 use hp_states::Dir;
 use std::alloc::Global;
 
@@ -35,7 +35,7 @@ fn keyed(
     let all = rising(alloc, above, to)?;
     let mut found = Vec::new(alloc);
     for state in all.as_slice() {
-        let insts = keys(alloc, head, before, *state)?;
+        let insts = instances_of_keys(alloc, head, *state, before)?;
         if !insts.is_empty() {
             found.push(*state)?;
         }

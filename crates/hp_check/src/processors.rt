@@ -4,8 +4,9 @@ ghost use Rattle.std.specs.Prelude.{◌≡◌, IfOk};
 ghost use Rattle.hp_model.specs.Processors.{is_possible as is_possible_of, is_present as is_present_of, online as online_of, processors as processors_of};
 
 use crate::lists::{among, numbers};
-use crate::settled::{is_online, settled};
+use crate::settled::is_online;
 use hp_event::{Event, Head, NoMemory};
+use hp_model::settled_after;
 use std::alloc::Global;
 
 /// Whether a processor is possible.
@@ -48,7 +49,7 @@ pub fn processors(
     let all = numbers(alloc, head.possible)?;
     let mut found = Vec::new(alloc);
     for cpu in all.as_slice() {
-        if is_present(head, *cpu) && state <= settled(*cpu, events) {
+        if is_present(head, *cpu) && state <= settled_after(*cpu, events) {
             found.push(*cpu)?;
         }
     }

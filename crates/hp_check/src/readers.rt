@@ -3,8 +3,8 @@
 ghost use Rattle.std.specs.Prelude.{◌≡◌, IfOk};
 ghost use Rattle.hp_model.specs.Readers.{is_reading as is_reading_of, readers as readers_of, is_read as is_read_of};
 
-use crate::lists::without;
 use hp_event::{Event, NoMemory};
+use hp_model::without;
 use std::alloc::Global;
 
 /// Whether a seat reads.
@@ -33,11 +33,11 @@ pub fn readers(alloc: Global, events: &[Event]) -> Result<Vec<u32>, NoMemory>
             let found = readers(alloc, before)?;
             match event {
                 Event::ReadLock { seat } => {
-                    let mut others = without(alloc, *seat, &found)?;
+                    let mut others = without(alloc, *seat, found.as_slice())?;
                     others.push(*seat)?;
                     Ok(others)
                 }
-                Event::ReadUnlock { seat } => without(alloc, *seat, &found),
+                Event::ReadUnlock { seat } => without(alloc, *seat, found.as_slice()),
                 _ => Ok(found),
             }
         }

@@ -12,16 +12,16 @@ use crate::calls::number_found;
 use crate::lists::among;
 use crate::processors::{is_present, online};
 use crate::refusals_at_once::{invalid, refused_at_once};
-use crate::registered::{instances, is_multi_state, is_named, is_table_full, registered_at};
+use crate::registered::{instances, is_multi_state, is_named, is_table_full};
 use crate::resolved::{is_dynamic, lowest_free};
 use crate::seats::is_busy;
 use crate::sequence::target_of;
-use crate::settled::settled;
 use crate::shown::shown;
-use crate::subsystems::{has_callback, sub_numbered};
+use crate::subsystems::has_callback;
 use crate::suspend::disabled;
 use crate::waits::is_waiting;
 use hp_event::{Event, Head, NoMemory, Op};
+use hp_model::{registered_at, settled_after, sub_numbered};
 use hp_states::{
     AP_ONLINE, BRINGUP_CPU, Dir, EBUSY, EINVAL, ENOSPC, MAX_INSTANCES, ONLINE, TEARDOWN_CPU,
 };
@@ -211,7 +211,7 @@ fn refused_after_waits(
             Ok(busy_or_invalid(is_disabled || is_alone, !is_present(head, *cpu)))
         }
         Op::Target(cpu, value) => {
-            let now = settled(*cpu, events);
+            let now = settled_after(*cpu, events);
             refused_target(alloc, head, events, *cpu, target_of(*value), now)
         }
         Op::Boot(_) => Ok(busy_or_invalid(is_disabled, false)),

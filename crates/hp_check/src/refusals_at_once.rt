@@ -7,8 +7,9 @@ ghost use Rattle.hp_states.specs.declared.limits.TheConstants.{EINVAL as EINVAL_
 
 use crate::processors::is_possible;
 use crate::readers::is_reading;
-use crate::subsystems::{has_no_name, sub_numbered};
+use crate::subsystems::has_no_name;
 use hp_event::{Event, Form, Head, Op};
+use hp_model::sub_numbered;
 use hp_states::{EDEADLK, EINVAL, EPERM, ONLINE};
 
 /// The number of a registration's form that is refused, else that of a further condition.

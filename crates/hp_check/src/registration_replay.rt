@@ -4,15 +4,15 @@ ghost use Rattle.std.specs.Prelude.{◌≡◌, ◌≤◌, length, take, drop, op
 ghost use Rattle.hp_model.specs.RegistrationShape.{key_of as key_of_spec, key_of_op as key_of_op_of, is_adding as is_adding_of};
 ghost use Rattle.hp_model.proofs.NextRegistration.{down_tree, add_tree, registration_tree};
 ghost use Rattle.hp_check.specs.Replay.{reached};
-ghost use Rattle.hp_check.specs.InFlight.{registration_by, registered_by};
+ghost use Rattle.hp_model.specs.Found.{registered_by};
+ghost use Rattle.hp_check.specs.InFlight.{registration_by};
 ghost use Rattle.hp_check.specs.Spots.{at_by};
 
 use crate::how::Spot;
-use crate::registered::{Found, registered_at};
 use crate::registrations::Registration;
 use crate::replay::{Reached, goes_on, is_for, reached_end};
-use crate::subsystems::is_multi;
 use hp_event::{Event, Head, NoMemory, Op};
+use hp_model::{Found, is_multi, registered_at};
 use hp_states::{Dir, Place};
 use std::alloc::Global;
 

@@ -9,9 +9,8 @@ ghost use Rattle.hp_check.specs.Replay.{is_for as is_for_of, goes_on as goes_on_
 ghost use Rattle.hp_check.specs.Spots.{slot_by, at_by, visit_by, IsWithin};
 
 use crate::how::Spot;
-use crate::registered::keys;
-use crate::shown::is_done;
 use hp_event::{Event, Head, NoMemory};
+use hp_model::{instances_of_keys, is_done};
 use hp_states::{Dir, Place};
 use std::alloc::Global;
 
@@ -146,7 +145,7 @@ pub fn reached_back(
     match states.split_last() {
         None => Ok(reached_end(entries)),
         Some((state, rest)) => {
-            let insts = keys(alloc, head, before, *state)?;
+            let insts = instances_of_keys(alloc, head, *state, before)?;
             let spot = Spot {
                 cpu,
                 state: *state,
@@ -203,7 +202,7 @@ pub fn reached_forward(
         return Ok(reached_end(entries));
     }
     let state = plan[from];
-    let insts = keys(alloc, head, before, state)?;
+    let insts = instances_of_keys(alloc, head, state, before)?;
     let spot = Spot {
         cpu,
         state,

@@ -5,9 +5,10 @@ ghost use Rattle.hp_model.specs.Sequence.{begun as begun_of, answers as answers_
 
 use crate::lists::{among, numbers};
 use crate::processors::{is_present, online};
-use crate::settled::{is_online, settled};
+use crate::settled::is_online;
 use crate::suspend::{frozen, is_ok};
 use hp_event::{Answer, Event, Head, NoMemory};
+use hp_model::settled_after;
 use hp_states::{OFFLINE, ONLINE};
 use std::alloc::Global;
 
@@ -136,7 +137,7 @@ pub fn to_thaw(alloc: Global, events: &[Event]) -> Result<Vec<u32>, NoMemory>
     let done = begun(alloc, events)?;
     let mut found = Vec::new(alloc);
     for cpu in all.as_slice() {
-        if settled(*cpu, events) < ONLINE && !among(*cpu, done.as_slice()) {
+        if settled_after(*cpu, events) < ONLINE && !among(*cpu, done.as_slice()) {
             found.push(*cpu)?;
         }
     }

@@ -2,26 +2,14 @@
 
 ghost use Rattle.std.specs.Prelude.{◌≡◌, option_map, fold, IfOk};
 ghost use Rattle.hp_model.specs.Crossing.{far as far_of};
-ghost use Rattle.hp_model.specs.Entries.{is_done as is_done_of};
 ghost use Rattle.hp_model.specs.Registered.{keys as keys_of};
 ghost use Rattle.hp_model.specs.Shown.{is_last as is_last_of, shown_after as shown_after_of, shown as shown_of};
 
-use crate::registered::keys;
-use crate::settled::settled;
 use crate::walks::{walk_entries, walk_of};
-use hp_event::{Event, Head, How, NoMemory};
+use hp_event::{Event, Head, NoMemory};
+use hp_model::{instances_of_keys, is_done, settled_after};
 use hp_states::Dir;
 use std::alloc::Global;
-
-/// Whether an entry that is made so is done.
-pub fn is_done(how: &How) -> bool
-    ensures { result ≡ is_done_of how.now }
-{
-    match how {
-        How::RanOk | How::Empty | How::Presumed | How::Overruled(_) => true,
-        How::RanFault(_) | How::Injected => false,
-    }
-}
 
 /// The state after a done crossing.
 pub fn far(dir: Dir, state: u32) -> u32
@@ -67,7 +55,7 @@ fn shown_after(
             how,
             ..
         } => {
-            let insts = keys(alloc, head, before, *state)?;
+            let insts = instances_of_keys(alloc, head, *state, before)?;
             if is_done(how) && is_last(insts.as_slice(), *inst) {
                 Ok(far(*dir, *state))
             } else {
@@ -102,7 +90,7 @@ pub fn shown(alloc: Global, head: &Head, cpu: u32, events: &[Event]) -> Result<u
     ensures { IfOk result (λ s. s ≡ shown_of head.now cpu events.now) }
 {
     match walk_of(cpu, events) {
-        None => Ok(settled(cpu, events)),
+        None => Ok(settled_after(cpu, events)),
         Some(walk) => {
             let entries = walk_entries(alloc, cpu, events)?;
             shown_from(alloc, head, walk.before, walk.from, entries.as_slice())

@@ -4,8 +4,8 @@ ghost use Rattle.std.specs.Prelude.{◌≡◌, option_map, IfOk};
 ghost use Rattle.hp_model.specs.Walks.{walk as walk_spec, walk_entries as walk_entries_of, walking as walking_of, is_walking as is_walking_of};
 ghost use Rattle.hp_check.specs.InFlight.{walk_by};
 
-use crate::lists::without;
 use hp_event::{Event, NoMemory};
+use hp_model::without;
 use std::alloc::Global;
 
 /// A walk in flight: who walks, where from, where to, and the events before its WalkBegin.
@@ -72,11 +72,11 @@ pub fn walking(alloc: Global, events: &[Event]) -> Result<Vec<u32>, NoMemory>
             let found = walking(alloc, before)?;
             match event {
                 Event::WalkBegin { cpu, .. } => {
-                    let mut others = without(alloc, *cpu, &found)?;
+                    let mut others = without(alloc, *cpu, found.as_slice())?;
                     others.push(*cpu)?;
                     Ok(others)
                 }
-                Event::WalkEnd { cpu, .. } => without(alloc, *cpu, &found),
+                Event::WalkEnd { cpu, .. } => without(alloc, *cpu, found.as_slice()),
                 _ => Ok(found),
             }
         }

@@ -28,17 +28,23 @@ ghost use Rattle.hp_model.specs.Run.{admissions, CanTake, all_answered, IsRun};
 ghost use Rattle.hp_model.specs.OneClient.{OneClient};
 ghost use Rattle.hp_model.specs.Steps.{IsStep};
 
+mod entries;
+mod lists;
 mod net;
 mod registered;
 mod settled;
+mod subsystems;
 #[cfg(test)]
 mod tests;
 
+pub use entries::is_done;
 use hp_event::{Event, Head, Op};
 use hp_states::MAX_SEATS;
+pub use lists::without;
 pub use net::net_of;
-pub use registered::registered_of;
-pub use settled::settled_of;
+pub use registered::{Found, instances_of_keys, registered_at, registered_of};
+pub use settled::{settled_after, settled_of};
+pub use subsystems::{is_multi, sub_numbered};
 
 /// Every lawful journal has the headline.
 #[tactic(auto, using(crate::proofs::HeadlineProof::headline))]

@@ -2,10 +2,10 @@
 
 ghost use Rattle.std.specs.Prelude.{◌≡◌, ◌<◌, IfOk, OnOk, OnErr};
 ghost use Rattle.hp_model.specs.InForce.{is_done_entry as is_done_entry_of, done_entries};
-ghost use Rattle.hp_model.specs.Entries.{is_done as is_done_of};
 ghost use Rattle.hp_model.specs.Net.{with_key, is_before as is_before_of, entered, is_key_in_force, keys_in_force};
 
-use hp_event::{Event, How, Journal, Key, Keys, NoMemory};
+use crate::entries::is_done;
+use hp_event::{Event, Journal, Key, Keys, NoMemory};
 use hp_states::Dir;
 use std::alloc::{AllocError, Global};
 
@@ -114,14 +114,5 @@ fn is_done_entry(event: &Event, cpu: u32, key: Key, dir: Dir) -> bool
                 && ((*state == key.state && *inst == key.inst) && is_done(how))
         }
         _ => false,
-    }
-}
-
-fn is_done(how: &How) -> bool
-    ensures { result ≡ is_done_of how.now }
-{
-    match how {
-        How::RanOk | How::Empty | How::Presumed | How::Overruled(_) => true,
-        How::RanFault(_) | How::Injected => false,
     }
 }

@@ -3,22 +3,25 @@
 ghost use Rattle.std.specs.Prelude.{◌≡◌, ◌++◌, List, Option, Some, None, map, option_map, IfOk, OnOk};
 ghost use Rattle.hp_event.specs.declared.event.Event.{Event as AnEvent};
 ghost use Rattle.hp_model.specs.Registrations.{Registration, registration, registration_step};
-ghost use Rattle.hp_model.specs.Subsystems.{is_multi as is_multi_of};
-ghost use Rattle.hp_model.specs.Lists.{without as without_of};
-ghost use Rattle.hp_model.specs.Registered.{registered, registered_step, applied as applied_of, after_answer, insts_of};
+ghost use Rattle.hp_model.specs.Registered.{registered, registered_step, applied as applied_of, after_answer, insts_of as insts_of_of, keys as keys_of};
 ghost use Rattle.hp_model.specs.Net.{registered_keys};
 ghost use Rattle.hp_model.specs.Found.{registered_by, asked_by};
 
+use crate::lists::without;
+use crate::subsystems::is_multi;
 use hp_event::{Answer, Event, Head, Journal, Key, Keys, NoMemory, Op};
 use hp_states::ONLINE;
 use std::alloc::Global;
 
 /// What is registered at a state.
 #[derive(Drop)]
-struct Found {
-    sub: u32,
-    multi: bool,
-    insts: Vec<u32>,
+pub struct Found {
+    /// The number of the subsystem that was set up there, from 1.
+    pub sub: u32,
+    /// Whether the state has an instance list, as that subsystem's states have.
+    pub multi: bool,
+    /// Its instances, newest first.
+    pub insts: Vec<u32>,
 }
 
 /// A registration in flight.
@@ -40,18 +43,63 @@ pub fn registered_of(alloc: Global, journal: &Journal) -> Result<Keys, NoMemory>
     let events = journal.events();
     let mut keys = Vec::new(alloc);
     for state in 0..ONLINE + 1 {
-        let found = registered_at(alloc, head, events, state)?;
-        push_keys(&mut keys, state, &found)?;
+        let insts = instances_of_keys(alloc, head, state, events)?;
+        push_keys(&mut keys, state, insts.as_slice())?;
     }
     Ok(Keys::from_vec(keys))
 }
 
-/// What is registered at one state.
-fn registered_at(
+/// The instances of the keys of a state after some events, in list order: those of its list where
+/// it has one, the instance 0 alone where it is registered without, and none where it isn't
+/// registered.
+///
+/// It takes a time linear in the events, and is for tests and small journals. Of the events nothing
+/// is asked. Takes memory for the list; where there is none: `NoMemory`. The rule is `keys` of
+/// `specs/Registered.antt`.
+pub fn instances_of_keys(
     alloc: Global,
     head: &Head,
-    events: &[Event],
     state: u32,
+    events: &[Event],
+) -> Result<Vec<u32>, NoMemory>
+    ensures { IfOk result (λ insts. insts.items ≡ keys_of head.now events.now state) }
+{
+    let found = registered_at(alloc, head, state, events)?;
+    insts_of(alloc, found)
+}
+
+/// The instances of the keys where that is registered.
+fn insts_of(alloc: Global, found: Option<Found>) -> Result<Vec<u32>, NoMemory>
+    ensures { IfOk result (λ insts. insts.items ≡ insts_of_of (option_map registered_by found)) }
+{
+    match found {
+        None => Ok(Vec::new(alloc)),
+        Some(found) => {
+            if found.multi {
+                Ok(found.insts)
+            } else {
+                let mut insts = Vec::new(alloc);
+                insts.push(0)?;
+                Ok(insts)
+            }
+        }
+    }
+}
+
+/// What is registered at one state after some events; none where nothing is.
+///
+/// A setup that answered Ok registers it with an empty list, and a removal that did takes it away;
+/// an instance that was added comes first in the list, and one that was taken is gone from it. What
+/// answers otherwise leaves it as it was. Of the events nothing is asked.
+///
+/// It takes a time linear in the events, for each instance that is taken also one linear in the
+/// list, and is for tests and small journals. Takes memory for the list; where there is none:
+/// `NoMemory`. The rule is `registered` of `specs/Registered.antt`.
+pub fn registered_at(
+    alloc: Global,
+    head: &Head,
+    state: u32,
+    events: &[Event],
 ) -> Result<Option<Found>, NoMemory>
     ensures { IfOk result (λ found. option_map registered_by found ≡ registered head.now state events.now) }
 {
@@ -123,52 +171,19 @@ fn applied(
             Some(found) => Ok(Some(Found {
                 sub: found.sub,
                 multi: found.multi,
-                insts: without(alloc, *inst, &found.insts)?,
+                insts: without(alloc, *inst, found.insts.as_slice())?,
             })),
         },
         _ => Ok(found),
     }
 }
 
-/// The instances without one.
-fn without(alloc: Global, inst: u32, insts: &Vec<u32>) -> Result<Vec<u32>, NoMemory>
-    ensures { IfOk result (λ left. left.items ≡ without_of inst insts.now.items) }
-{
-    let mut left = Vec::new(alloc);
-    for other in insts.as_slice() {
-        if *other != inst {
-            left.push(*other)?;
-        }
-    }
-    Ok(left)
-}
-
-/// Whether the states of a subsystem have instance lists.
-fn is_multi(head: &Head, sub: u32) -> bool
-    ensures { result ≡ is_multi_of head.now sub }
-{
-    if sub == 0 {
-        return false;
-    }
-    match head.subs.as_slice().get(sub as usize - 1) {
-        Some(found) => found.multi,
-        None => false,
-    }
-}
-
 /// Appends the keys of a state.
-fn push_keys(keys: &mut Vec<Key>, state: u32, found: &Option<Found>) -> Result<(), NoMemory>
-    ensures { OnOk result (keys.new.items
-        ≡ keys.old.items ++ map (λ i. record { state = state; inst = i }) (insts_of (option_map registered_by found.now))) }
+fn push_keys(keys: &mut Vec<Key>, state: u32, insts: &[u32]) -> Result<(), NoMemory>
+    ensures { OnOk result (keys.new.items ≡ keys.old.items ++ map (λ i. record { state = state; inst = i }) insts.now) }
 {
-    if let Some(found) = found {
-        if found.multi {
-            for inst in found.insts.as_slice() {
-                keys.push(Key { state, inst: *inst })?;
-            }
-        } else {
-            keys.push(Key { state, inst: 0 })?;
-        }
+    for inst in insts {
+        keys.push(Key { state, inst: *inst })?;
     }
     Ok(())
 }

@@ -21,11 +21,22 @@ struct Standing {
 pub fn settled_of(journal: &Journal, cpu: u32) -> u32
     ensures { result ≡ settled cpu journal.now.events }
 {
+    settled_after(cpu, journal.events())
+}
+
+/// The settled state of a processor after some events: where its last walk left it, and where none
+/// did ONLINE for processor 0 and OFFLINE for the others.
+///
+/// Of the events nothing is asked. It takes a time linear in them, and is for tests and small
+/// journals. Takes no memory. The rule is `settled` of `specs/Settled.antt`.
+pub fn settled_after(cpu: u32, events: &[Event]) -> u32
+    ensures { result ≡ settled cpu events.now }
+{
     let mut standing = Standing {
         at: if cpu == 0 { ONLINE } else { OFFLINE },
         to: None,
     };
-    for event in journal.events() {
+    for event in events {
         standing = after(standing, event, cpu);
     }
     standing.at

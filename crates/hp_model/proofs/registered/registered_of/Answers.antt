@@ -5,7 +5,7 @@ use Rattle.hp_model.proofs.registered.registered_of.Goals as goal
 pub loop-state-preserved : goal.loop-state-preserved
 loop-state-preserved c =
     let n = keys_next c.head-head.result.now c.events-events.result.now c.loop-state.state in
-    rw (n, ← c.loop-state.invariant, ← c.in_ok-found.ensures) c.in_ok-push_keys.ensures
+    rw (n, ← c.loop-state.invariant, ← c.in_ok-insts.ensures, ← c.as_slice.ensures.value) c.in_ok-push_keys.ensures
 
 pub returns : goal.returns
 returns c =

@@ -4,8 +4,8 @@ use Rattle.std.proofs.lemmas.Bool.Decides.{nat_tests}
 use Rattle.hp_model.specs.Walks.{walk}
 use Rattle.hp_model.specs.Settled.{settled}
 use Rattle.hp_model.proofs.Slow.{settled_next, walk_next}
-use Rattle.hp_model.proofs.settled.settled_of.Goals as goal
-use Rattle.hp_model.proofs.settled.settled_of.Goals.{then-cpu-eq0, else-cpu-eq0}
+use Rattle.hp_model.proofs.settled.settled_after.Goals as goal
+use Rattle.hp_model.proofs.settled.settled_after.Goals.{then-cpu-eq0, else-cpu-eq0}
 
 pub loop-event-init : goal.loop-event-init
 unfolding settled walk
@@ -20,7 +20,7 @@ loop-event-init c =
 
 pub loop-event-preserved : goal.loop-event-preserved
 loop-event-preserved c =
-    let xs = c.events-event-items.result.now in
+    let xs = c.args.events.now in
     let j = c.loop-event.event-index in
     let inv = c.loop-event.invariant in
     let f = c.after-standing.ensures in (

@@ -1,6 +1,6 @@
 use Rattle.std.proofs.Common.{◌≡◌, take}
 use Rattle.hp_model.specs.Lists.{without}
-use Rattle.hp_check.proofs.lists.without.Given as goal
+use Rattle.hp_model.proofs.lists.without.Given as goal
 
 abbrev pub invariant-loop-other : goal.invariant-loop-other
-invariant-loop-other l = l.left.items ≡ without l.number (take l.other-index l.other-items)
+invariant-loop-other l = l.left.items ≡ without l.number (take l.other-index l.list)

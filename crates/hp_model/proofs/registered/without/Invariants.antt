@@ -1,6 +1,0 @@
-use Rattle.std.proofs.Common.{◌≡◌, take}
-use Rattle.hp_model.specs.Lists.{without}
-use Rattle.hp_model.proofs.registered.without.Given as goal
-
-abbrev pub invariant-loop-other : goal.invariant-loop-other
-invariant-loop-other l = l.left.items ≡ without l.inst (take l.other-index l.other-items)
