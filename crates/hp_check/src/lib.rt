@@ -38,6 +38,8 @@ mod stands;
 mod subsystems;
 mod suspend;
 #[cfg(test)]
+mod test_journals;
+#[cfg(test)]
 mod test_lines;
 #[cfg(test)]
 mod test_registrations;

@@ -1,7 +1,7 @@
 //! The notation of the tests: a function for each line of a journal's text.
 
 use crate::{can_stand, is_lawful};
-use hp_event::{Answer, Event, Form, Head, How, Name, Numbers, Op, Role, Sub, Subs};
+use hp_event::{Answer, Event, Form, Head, How, Journal, Name, Numbers, Op, Role, Sub, Subs};
 use hp_states::{Dir, HookPlan, Rule};
 use std::alloc::Global;
 use std::test::Fail;
@@ -155,49 +155,54 @@ pub fn head(alloc: Global, possible: u32) -> Head {
     }
 }
 
-/// Whether a journal is refused with the line of a number changed, and that line does not stand.
-pub fn refuses(
-    alloc: Global,
-    head: &Head,
-    events: &[Event],
-    line: usize,
-    event: Event,
-) -> Result<bool, Fail> {
-    let mut front = Vec::new(alloc);
-    let mut changed = Vec::new(alloc);
-    for (at, other) in events.iter().enumerate() {
-        if at < line {
-            front.push(*other)?;
-        }
-        changed.push(if at == line { event } else { *other })?;
+/// Appends events to a journal.
+pub fn write(journal: &mut Journal, events: &[Event]) -> Result<(), Fail> {
+    for event in events {
+        journal.reserve(1)?;
+        journal.push(*event);
     }
-    let stands = can_stand(alloc, head, front.as_slice(), &event)?;
-    let lawful = is_lawful(alloc, head, changed.as_slice())?;
-    Ok(!stands && !lawful)
+    Ok(())
 }
 
-/// Whether a journal is refused with the line of a number left out, and the next line does not
-/// stand.
-pub fn refuses_without(
+/// Another event for the line of a number, from 0; with none the line is left out.
+pub type Change = (usize, Option<Event>);
+
+/// The first of some changes, by its place among them, with which alone a journal isn't refused
+/// just where it is changed; none where there is no such change.
+pub fn first_let_through(
     alloc: Global,
-    head: &Head,
-    events: &[Event],
-    line: usize,
-) -> Result<bool, Fail> {
-    let mut front = Vec::new(alloc);
-    let mut changed = Vec::new(alloc);
-    let mut stands = true;
-    for (at, event) in events.iter().enumerate() {
-        if at < line {
-            front.push(*event)?;
-        }
-        if at == line.saturating_add(1) {
-            stands = can_stand(alloc, head, front.as_slice(), event)?;
-        }
-        if at != line {
-            changed.push(*event)?;
+    journal: &Journal,
+    changes: &[Change],
+) -> Result<Option<usize>, Fail> {
+    for (place, change) in changes.iter().enumerate() {
+        if !is_refused(alloc, journal, change.0, change.1)? {
+            return Ok(Some(place));
         }
     }
-    let lawful = is_lawful(alloc, head, changed.as_slice())?;
-    Ok(!stands && !lawful)
+    Ok(None)
+}
+
+/// Whether a journal is refused with the line of a number changed, and what stands there then
+/// doesn't stand.
+fn is_refused(
+    alloc: Global,
+    journal: &Journal,
+    line: usize,
+    event: Option<Event>,
+) -> Result<bool, Fail> {
+    let mut changed = Vec::new(alloc);
+    for (at, other) in journal.events().iter().enumerate() {
+        if at != line {
+            changed.push(*other)?;
+        } else if let Some(event) = event {
+            changed.push(event)?;
+        }
+    }
+    let changed = changed.as_slice();
+    let head = journal.head();
+    let stands = match changed.get(line) {
+        None => true,
+        Some(there) => can_stand(alloc, head, &changed[..line], there)?,
+    };
+    Ok(!stands && !is_lawful(alloc, head, changed)?)
 }

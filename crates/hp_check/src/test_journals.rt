@@ -1,0 +1,338 @@
+//! The journals of the tests, each lawful.
+
+use crate::test_lines::{
+    OK, add, admit_ap, admit_client, call, done, down, down_fault, enter, head, refused, reg,
+    regged, remove, rule, setup, setup_nocalls, sub, up, up_fault, walk, walked, write,
+};
+use hp_event::{Answer, Event, Head, How, Journal, Op};
+use hp_states::{Dir, HookPlan};
+use std::alloc::Global;
+use std::test::Fail;
+
+/// Two processors, and two subsystems with these plans.
+fn head_of(alloc: Global, first: HookPlan, second: HookPlan) -> Result<Head, Fail> {
+    let mut head = head(alloc, 2);
+    head.subs.push(sub(alloc, b"net:a", first)?)?;
+    head.subs.push(sub(alloc, b"net:b", second)?)?;
+    Ok(head)
+}
+
+/// An entry at state 130, upwards, of a subsystem without a startup.
+pub fn empty(seat: u32, cpu: u32) -> Event {
+    call(seat, cpu, 130, 0, Dir::Up, How::Empty)
+}
+
+/// An upward entry of a setup without calls.
+pub fn presumed(seat: u32, cpu: u32) -> Event {
+    call(seat, cpu, 150, 0, Dir::Up, How::Presumed)
+}
+
+/// A walk that met the codes 7 and 9, and stays at a state.
+pub fn stuck_at(at: u32) -> Answer {
+    Answer::Stuck {
+        first: 7,
+        second: 9,
+        at,
+    }
+}
+
+/// The admissions of two processors and a client, and setups at 120 and 150.
+fn two_setups() -> [Event; 9] {
+    [
+        admit_ap(0),
+        admit_ap(1),
+        admit_client(2),
+        reg(2, 120, setup(120, 1)),
+        up(0, 120, 0),
+        regged(2, OK),
+        reg(2, 150, setup(150, 2)),
+        up(0, 150, 0),
+        regged(2, OK),
+    ]
+}
+
+/// A way up through both.
+fn way_up() -> [Event; 6] {
+    [
+        enter(2, Op::Up(1)),
+        walk(2, 1, 0, 200),
+        up(1, 120, 0),
+        up(1, 150, 0),
+        walked(2, 1, OK),
+        done(2, OK),
+    ]
+}
+
+/// Two setups and a way up.
+pub fn walk_up(alloc: Global) -> Result<Journal, Fail> {
+    let head = head_of(alloc, HookPlan::none(), HookPlan::none())?;
+    let mut journal = Journal::new(alloc, head);
+    write(&mut journal, &two_setups())?;
+    write(&mut journal, &way_up())?;
+    Ok(journal)
+}
+
+/// A way up that a fault turns back.
+pub fn fault_on_the_way_up(alloc: Global) -> Result<Journal, Fail> {
+    let head = head_of(alloc, HookPlan::none(), rule(Dir::Up, 1, None, None, 5))?;
+    let mut journal = Journal::new(alloc, head);
+    write(&mut journal, &two_setups())?;
+    let way = [
+        enter(2, Op::Up(1)),
+        walk(2, 1, 0, 200),
+        up(1, 120, 0),
+        up_fault(1, 150, 0, 5),
+        down(1, 120, 0),
+        walked(2, 1, Answer::Fault(5)),
+        done(2, Answer::Fault(5)),
+    ];
+    write(&mut journal, &way)?;
+    Ok(journal)
+}
+
+/// A way up through a state without a startup, and back.
+pub fn state_without_startup(alloc: Global) -> Result<Journal, Fail> {
+    let mut head = head(alloc, 2);
+    let mut first = sub(alloc, b"net:a", HookPlan::none())?;
+    first.up = false;
+    head.subs.push(first)?;
+    let plan = rule(Dir::Up, 1, None, None, 5);
+    head.subs.push(sub(alloc, b"net:b", plan)?)?;
+    let mut journal = Journal::new(alloc, head);
+    let events = [
+        admit_ap(0),
+        admit_ap(1),
+        admit_client(2),
+        reg(2, 130, setup(130, 1)),
+        empty(0, 0),
+        regged(2, OK),
+        reg(2, 131, setup(131, 2)),
+        up(0, 131, 0),
+        regged(2, OK),
+        enter(2, Op::Up(1)),
+        walk(2, 1, 0, 200),
+        empty(1, 1),
+        up_fault(1, 131, 0, 5),
+        down(1, 130, 0),
+        walked(2, 1, Answer::Fault(5)),
+        done(2, Answer::Fault(5)),
+    ];
+    write(&mut journal, &events)?;
+    Ok(journal)
+}
+
+/// A way down that a fault turns back.
+pub fn fault_on_the_way_down(alloc: Global) -> Result<Journal, Fail> {
+    let head = head_of(alloc, rule(Dir::Down, 1, None, None, 7), HookPlan::none())?;
+    let mut journal = Journal::new(alloc, head);
+    write(&mut journal, &two_setups())?;
+    write(&mut journal, &way_up())?;
+    let way = [
+        enter(2, Op::Down(1)),
+        walk(2, 1, 200, 0),
+        down(1, 150, 0),
+        down_fault(1, 120, 0, 7),
+        up(1, 150, 0),
+        walked(2, 1, Answer::Fault(7)),
+        done(2, Answer::Fault(7)),
+    ];
+    write(&mut journal, &way)?;
+    Ok(journal)
+}
+
+/// A way down whose way back meets a second fault.
+pub fn stuck_on_the_way_back(alloc: Global) -> Result<Journal, Fail> {
+    let plan = rule(Dir::Up, 1, None, Some(2), 9);
+    let mut head = head_of(alloc, rule(Dir::Down, 1, None, None, 7), plan)?;
+    head.subs.push(sub(alloc, b"net:c", HookPlan::none())?)?;
+    let mut journal = Journal::new(alloc, head);
+    write(&mut journal, &two_setups())?;
+    let ways = [
+        reg(2, 180, setup(180, 3)),
+        up(0, 180, 0),
+        regged(2, OK),
+        enter(2, Op::Up(1)),
+        walk(2, 1, 0, 200),
+        up(1, 120, 0),
+        up(1, 150, 0),
+        up(1, 180, 0),
+        walked(2, 1, OK),
+        done(2, OK),
+        enter(2, Op::Down(1)),
+        walk(2, 1, 200, 0),
+        down(1, 180, 0),
+        down(1, 150, 0),
+        down_fault(1, 120, 0, 7),
+        up_fault(1, 150, 0, 9),
+        walked(2, 1, stuck_at(149)),
+        done(2, stuck_at(149)),
+    ];
+    write(&mut journal, &ways)?;
+    Ok(journal)
+}
+
+/// A way up that fails at the last instance of a state.
+pub fn fault_of_an_instance(alloc: Global) -> Result<Journal, Fail> {
+    let mut head = head(alloc, 2);
+    let mut queue = sub(alloc, b"net:q", rule(Dir::Up, 1, Some(1), None, 5))?;
+    queue.multi = true;
+    head.subs.push(queue)?;
+    let mut journal = Journal::new(alloc, head);
+    let events = [
+        admit_ap(0),
+        admit_ap(1),
+        admit_client(2),
+        reg(2, 150, setup(150, 1)),
+        regged(2, OK),
+        reg(2, 150, add(150, 1)),
+        up(0, 150, 1),
+        regged(2, OK),
+        reg(2, 150, add(150, 2)),
+        up(0, 150, 2),
+        regged(2, OK),
+        reg(2, 150, add(150, 3)),
+        up(0, 150, 3),
+        regged(2, OK),
+        enter(2, Op::Up(1)),
+        walk(2, 1, 0, 200),
+        up(1, 150, 3),
+        up(1, 150, 2),
+        up_fault(1, 150, 1, 5),
+        down(1, 150, 3),
+        down(1, 150, 2),
+        walked(2, 1, Answer::Fault(5)),
+        done(2, Answer::Fault(5)),
+    ];
+    write(&mut journal, &events)?;
+    Ok(journal)
+}
+
+/// A setup that fails on one processor.
+pub fn failed_setup(alloc: Global) -> Result<Journal, Fail> {
+    let mut head = head(alloc, 4);
+    let plan = rule(Dir::Up, 3, None, None, 5);
+    head.subs.push(sub(alloc, b"net:a", plan)?)?;
+    let mut journal = Journal::new(alloc, head);
+    let events = [
+        admit_ap(0),
+        admit_ap(1),
+        admit_ap(2),
+        admit_ap(3),
+        admit_client(4),
+        enter(4, Op::Up(1)),
+        walk(4, 1, 0, 200),
+        walked(4, 1, OK),
+        done(4, OK),
+        enter(4, Op::Up(3)),
+        walk(4, 3, 0, 200),
+        walked(4, 3, OK),
+        done(4, OK),
+        reg(4, 150, setup(150, 1)),
+        up(0, 150, 0),
+        up(1, 150, 0),
+        up_fault(3, 150, 0, 5),
+        down(0, 150, 0),
+        down(1, 150, 0),
+        regged(4, Answer::Fault(5)),
+    ];
+    write(&mut journal, &events)?;
+    Ok(journal)
+}
+
+/// A fault at a STARTING state.
+pub fn overruled_fault(alloc: Global) -> Result<Journal, Fail> {
+    let mut head = head(alloc, 2);
+    let plan = rule(Dir::Up, 1, None, None, 5);
+    head.subs.push(sub(alloc, b"net:s", plan)?)?;
+    let mut journal = Journal::new(alloc, head);
+    let events = [
+        admit_ap(0),
+        admit_ap(1),
+        admit_client(2),
+        reg(2, 70, setup(70, 1)),
+        up(0, 70, 0),
+        regged(2, OK),
+        enter(2, Op::Up(1)),
+        walk(2, 1, 0, 200),
+        call(1, 1, 70, 0, Dir::Up, How::Overruled(5)),
+        walked(2, 1, OK),
+        done(2, OK),
+    ];
+    write(&mut journal, &events)?;
+    Ok(journal)
+}
+
+/// A setup without calls, and a way down.
+pub fn setup_without_calls(alloc: Global) -> Result<Journal, Fail> {
+    let mut head = head(alloc, 2);
+    head.subs.push(sub(alloc, b"net:a", HookPlan::none())?)?;
+    let mut journal = Journal::new(alloc, head);
+    let events = [
+        admit_ap(0),
+        admit_ap(1),
+        admit_client(2),
+        enter(2, Op::Up(1)),
+        walk(2, 1, 0, 200),
+        walked(2, 1, OK),
+        done(2, OK),
+        reg(2, 150, setup_nocalls(150, 1)),
+        presumed(2, 0),
+        presumed(2, 1),
+        regged(2, OK),
+        enter(2, Op::Down(1)),
+        walk(2, 1, 200, 0),
+        down(1, 150, 0),
+        walked(2, 1, OK),
+        done(2, OK),
+    ];
+    write(&mut journal, &events)?;
+    Ok(journal)
+}
+
+/// Operations on the only processor.
+pub fn last_processor(alloc: Global) -> Result<Journal, Fail> {
+    let mut journal = Journal::new(alloc, head(alloc, 1));
+    let events = [
+        admit_ap(0),
+        admit_client(1),
+        refused(1, 16, Op::Down(0)),
+        refused(1, 22, Op::Target(0, 101)),
+        enter(1, Op::Target(0, 200)),
+        done(1, OK),
+        refused(1, 22, Op::Up(1)),
+    ];
+    write(&mut journal, &events)?;
+    Ok(journal)
+}
+
+/// A setup of any free ONLINE state that is given this one.
+fn given(state: u16) -> [Event; 3] {
+    [
+        reg(1, state as u32, setup(141, 1)),
+        call(0, 0, state as u32, 0, Dir::Up, How::Empty),
+        regged(1, Answer::Ok(state as i32)),
+    ]
+}
+
+/// Setups of any free ONLINE state until none is left, and of one that is free again.
+pub fn dynamic_setups(alloc: Global) -> Result<Journal, Fail> {
+    let mut head = head(alloc, 1);
+    let mut none = sub(alloc, b"net:a", HookPlan::none())?;
+    none.up = false;
+    none.down = false;
+    head.subs.push(none)?;
+    let mut journal = Journal::new(alloc, head);
+    write(&mut journal, &[admit_ap(0), admit_client(1)])?;
+    for state in 141..172 {
+        write(&mut journal, &given(state))?;
+    }
+    let again = [
+        refused(1, 28, setup(141, 1)),
+        reg(1, 150, remove(150)),
+        call(0, 0, 150, 0, Dir::Down, How::Empty),
+        regged(1, OK),
+    ];
+    write(&mut journal, &again)?;
+    write(&mut journal, &given(150))?;
+    Ok(journal)
+}
