@@ -8,7 +8,7 @@ use Rattle.hp_states.specs.Sections.{opposite}
 use Rattle.hp_model.specs.Crossing.{Slot, visit, Crossing, done, failed, slots_of, slots}
 use Rattle.hp_model.specs.Lists.{is_empty}
 use Rattle.hp_model.specs.WalkShape.{Outcome, went, returned, stopped, crossed, IsWalkShape}
-use Rattle.hp_model.proofs.NextSlot.{slots-append}
+use Rattle.hp_model.proofs.NextSlot.{split-returned, split-stuck}
 
 abbrev pub total : (keys : ℕ → List ℕ) → List ℕ → ℕ
 total keys [] = 0
@@ -58,9 +58,7 @@ shape_length c keys d plan xs returned h =
     rw (
       h.crossings_are,
       h.plan_is,
-      slots-append c keys (crossed Forward d h.before) (x ∷ back),
-      length-append (slots c keys (crossed Forward d h.before)) (slots_of c keys x ++ slots c keys back),
-      length-append (slots_of c keys x) (slots c keys back),
+      split-returned length (λ m n. m + n) length-append c keys (crossed Forward d h.before) x back,
     )
     (omega arith)
 shape_length c keys d plan xs (stopped at) h =
@@ -82,14 +80,6 @@ shape_length c keys d plan xs (stopped at) h =
     rw (
       h.crossings_are,
       h.plan_is,
-      slots-append c keys (crossed Forward d h.before) (z ∷ (mid ++ (x ∷ (back ++ y ∷ [])))),
-      length-append (slots c keys (crossed Forward d h.before)) (slots c keys (z ∷ (mid ++ (x ∷ (back ++ y ∷ []))))),
-      length-append (slots_of c keys z) (slots c keys (mid ++ (x ∷ (back ++ y ∷ [])))),
-      slots-append c keys mid (x ∷ (back ++ y ∷ [])),
-      length-append (slots c keys mid) (slots c keys (x ∷ (back ++ y ∷ []))),
-      length-append (slots_of c keys x) (slots c keys (back ++ y ∷ [])),
-      slots-append c keys back (y ∷ []),
-      length-append (slots c keys back) (slots c keys (y ∷ [])),
-      length-append (slots_of c keys y) [],
+      split-stuck length (λ m n. m + n) length-append c keys (crossed Forward d h.before) z mid x back y,
     )
     (omega arith)

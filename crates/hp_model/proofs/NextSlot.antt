@@ -95,6 +95,35 @@ slots-append c keys [] ys = refl
 slots-append c keys (x ∷ xs) ys =
     ap (λ z. slots_of c keys x ++ z) (slots-append c keys xs ys) ∙ sym (append_assoc (slots_of c keys x) (slots c keys xs) (slots c keys ys))
 
+-- what splits over appended slots, as their count, splits over the crossings of a walk that turned back
+pub split-returned : {M : Type 0} (f : List Slot → M) (add : M → M → M) →
+    ((xs ys : List Slot) → f (xs ++ ys) ≡ add (f xs) (f ys)) →
+    (c : ℕ) (keys : ℕ → List ℕ) (before : List Crossing) (x : Crossing) (back : List Crossing) →
+    f (slots c keys (before ++ x ∷ back)) ≡ add (f (slots c keys before)) (add (f (slots_of c keys x)) (f (slots c keys back)))
+split-returned f add e c keys before x back =
+    rw (
+      slots-append c keys before (x ∷ back),
+      e (slots c keys before) (slots_of c keys x ++ slots c keys back),
+      e (slots_of c keys x) (slots c keys back),
+    )
+    refl
+
+-- and of one that is stuck
+pub split-stuck : {M : Type 0} (f : List Slot → M) (add : M → M → M) →
+    ((xs ys : List Slot) → f (xs ++ ys) ≡ add (f xs) (f ys)) →
+    (c : ℕ) (keys : ℕ → List ℕ) (before : List Crossing) (z : Crossing) (between : List Crossing) (x : Crossing)
+    (back : List Crossing) (y : Crossing) →
+    f (slots c keys (before ++ z ∷ (between ++ x ∷ (back ++ y ∷ []))))
+    ≡ add (f (slots c keys before)) (add (f (slots_of c keys z)) (add (f (slots c keys between))
+    (add (f (slots_of c keys x)) (add (f (slots c keys back)) (add (f (slots_of c keys y)) (f []))))))
+split-stuck f add e c keys before z between x back y =
+    rw (
+      split-returned f add e c keys before z (between ++ x ∷ (back ++ y ∷ [])),
+      split-returned f add e c keys between x (back ++ y ∷ []),
+      split-returned f add e c keys back y [],
+    )
+    refl
+
 pub back_done : (c : ℕ) (keys : ℕ → List ℕ) (d : Dir) (ts us : List ℕ) (xs : List Slot) → Follow (back_tree c keys d us) xs →
     Follow (back_tree c keys d (ts ++ us)) (slots c keys (crossed Back d ts) ++ xs)
 back_done c keys d [] us xs h = h

@@ -9,7 +9,7 @@ use Rattle.hp_event.specs.declared.event.Event.{Event}
 use Rattle.hp_model.specs.Crossing.{Slot, Fill, visit, Crossing, done, failed, far, slots_of, slots}
 use Rattle.hp_model.specs.Lists.{is_empty}
 use Rattle.hp_model.specs.WalkShape.{Outcome, went, returned, stopped, crossed, IsWalkShape, IsAnswer, IsWholeWalk}
-use Rattle.hp_model.proofs.NextSlot.{Tree, Follow, walk_tree, shape_follows, fails_same, below_same, first_same, slots-append}
+use Rattle.hp_model.proofs.NextSlot.{Tree, Follow, walk_tree, shape_follows, fails_same, below_same, first_same, split-returned, split-stuck}
 
 -- the states of the slots that fail
 abbrev pub failing : List Slot → List ℕ
@@ -59,9 +59,7 @@ shape_outcome c keys d plan xs returned h =
     let back : List Crossing = crossed Back (opposite d) (reverse h.before) in
     rw (
       h.crossings_are,
-      slots-append c keys (crossed Forward d h.before) (x ∷ back),
-      failing-append (slots c keys (crossed Forward d h.before)) (slots_of c keys x ++ slots c keys back),
-      failing-append (slots_of c keys x) (slots c keys back),
+      split-returned failing (λ ss ts. ss ++ ts) failing-append c keys (crossed Forward d h.before) x back,
       failing-crossed c keys Forward d h.before,
       failing-failed c keys Forward d h.state h.earlier h.inst,
       failing-crossed c keys Back (opposite d) (reverse h.before),
@@ -76,15 +74,7 @@ shape_outcome c keys d plan xs (stopped at) h =
     rw (
       h.crossings_are,
       h.at_is,
-      slots-append c keys (crossed Forward d h.before) (z ∷ (mid ++ (x ∷ (back ++ y ∷ [])))),
-      failing-append (slots c keys (crossed Forward d h.before)) (slots c keys (z ∷ (mid ++ (x ∷ (back ++ y ∷ []))))),
-      failing-append (slots_of c keys z) (slots c keys (mid ++ (x ∷ (back ++ y ∷ [])))),
-      slots-append c keys mid (x ∷ (back ++ y ∷ [])),
-      failing-append (slots c keys mid) (slots c keys (x ∷ (back ++ y ∷ []))),
-      failing-append (slots_of c keys x) (slots c keys (back ++ y ∷ [])),
-      slots-append c keys back (y ∷ []),
-      failing-append (slots c keys back) (slots c keys (y ∷ [])),
-      failing-append (slots_of c keys y) [],
+      split-stuck failing (λ ss ts. ss ++ ts) failing-append c keys (crossed Forward d h.before) z mid x back y,
       failing-crossed c keys Forward d h.before,
       failing-visit c Forward d h.stuck_state true (keys h.stuck_state),
       failing-crossed c keys Forward d h.between,
