@@ -16,7 +16,7 @@ use crate::map_lock::{is_map_op, operation_of};
 use crate::next::{Next, next_of};
 use crate::plan::direction;
 use crate::readers::is_read;
-use crate::refusals::{passes, refusal};
+use crate::refusals::{can_ask, refusal};
 use crate::registrations::is_registering;
 use crate::replay::Reached;
 use crate::seats::is_free;
@@ -36,8 +36,8 @@ pub fn can_enter(
 ) -> Result<bool, NoMemory>
     ensures { IfOk result (λ yes. IsTrue yes ↔ Enters head.now before.now seat op.now) }
 {
-    let passed = passes(alloc, head, before, seat, op)?;
-    Ok(is_free(before, seat) && is_map_op(op) && passed)
+    let asks = can_ask(alloc, head, before, seat, op)?;
+    Ok(is_map_op(op) && asks)
 }
 
 /// Whether a Refused stands.

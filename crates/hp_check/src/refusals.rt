@@ -5,6 +5,7 @@ ghost use Rattle.hp_states.specs.declared.limits.TheConstants.{EINVAL as EINVAL_
 ghost use Rattle.hp_states.specs.Sections.{is_stop as is_stop_of};
 ghost use Rattle.hp_event.specs.declared.event.Form.{Form as AForm};
 ghost use Rattle.hp_model.specs.RefusalsAtOnce.{first_that_holds, if_so};
+ghost use Rattle.hp_model.specs.Seats.{IsFree};
 ghost use Rattle.hp_model.specs.Refusals.{one_online as one_online_of, refusals_of_target, can_be_armed as can_be_armed_of, refusals_of_arm, refusals_after_waits, refusal as refusal_of, Passes};
 ghost use Rattle.hp_event.specs.declared.event.Op.TheVariants.{Setup as SetupOp, Remove as RemoveOp, Add as AddOp, Del as DelOp};
 
@@ -14,7 +15,7 @@ use crate::processors::{is_present, online};
 use crate::refusals_at_once::{invalid, refused_at_once};
 use crate::registered::{instances, is_multi_state, is_named, is_table_full};
 use crate::resolved::{is_dynamic, lowest_free};
-use crate::seats::is_busy;
+use crate::seats::{is_busy, is_free};
 use crate::sequence::target_of;
 use crate::shown::shown;
 use crate::subsystems::has_callback;
@@ -253,7 +254,7 @@ pub fn refusal(
 }
 
 /// Whether an operation is neither refused nor kept waiting.
-pub fn passes(
+fn passes(
     alloc: Global,
     head: &Head,
     events: &[Event],
@@ -265,4 +266,18 @@ pub fn passes(
     let errno = refusal(alloc, head, events, seat, op)?;
     let waits = is_waiting(alloc, events, op)?;
     Ok(errno.is_none() && !waits)
+}
+
+/// Whether a seat is free, and an operation of it is neither refused nor kept waiting.
+pub fn can_ask(
+    alloc: Global,
+    head: &Head,
+    events: &[Event],
+    seat: u32,
+    op: &Op,
+) -> Result<bool, NoMemory>
+    ensures { IfOk result (λ yes. IsTrue yes ↔ (IsFree events.now seat × Passes head.now events.now seat op.now)) }
+{
+    let passed = passes(alloc, head, events, seat, op)?;
+    Ok(is_free(events, seat) && passed)
 }

@@ -8,10 +8,9 @@ ghost use Rattle.hp_model.specs.StandsRegistrations.{RegBegins, RegEnds};
 
 use crate::due::{faults, is_registration_answer, registration_reached};
 use crate::operation_rows::is_whole;
-use crate::refusals::passes;
+use crate::refusals::can_ask;
 use crate::registrations::{Registration, registration_entries, registration_of};
 use crate::resolved::{is_dynamic, resolved};
-use crate::seats::is_free;
 use crate::subsystems::names_sub;
 use hp_event::{Answer, Event, Head, NoMemory, Op};
 use std::alloc::Global;
@@ -27,9 +26,9 @@ pub fn can_begin_registration(
 ) -> Result<bool, NoMemory>
     ensures { IfOk result (λ yes. IsTrue yes ↔ RegBegins head.now before.now seat state op.now) }
 {
-    let passed = passes(alloc, head, before, seat, op)?;
+    let asks = can_ask(alloc, head, before, seat, op)?;
     let wanted = resolved(alloc, head, before, op)?;
-    Ok((is_free(before, seat) && names_sub(head, op)) && (passed && wanted == Some(state)))
+    Ok(asks && (names_sub(head, op) && wanted == Some(state)))
 }
 
 /// What an Ok answers.

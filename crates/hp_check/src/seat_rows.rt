@@ -8,8 +8,8 @@ ghost use Rattle.hp_check.specs.NoneDue.{none_of_walks as none_of_walks_of, none
 use crate::due::{due_of_registration, due_of_walk};
 use crate::processors::is_present;
 use crate::readers::is_reading;
-use crate::refusals::passes;
-use crate::seats::{admits, ap_seat, is_busy, is_free, role_of};
+use crate::refusals::can_ask;
+use crate::seats::{admits, ap_seat, is_busy, role_of};
 use crate::walks::walking;
 use hp_event::{Event, Head, NoMemory, Op, Role};
 use hp_states::MAX_SEATS;
@@ -91,8 +91,7 @@ pub fn can_read_lock(
 ) -> Result<bool, NoMemory>
     ensures { IfOk result (λ yes. IsTrue yes ↔ ReadLocks head.now before.now seat) }
 {
-    let passed = passes(alloc, head, before, seat, &Op::Lock)?;
-    Ok(is_free(before, seat) && passed)
+    can_ask(alloc, head, before, seat, &Op::Lock)
 }
 
 /// Whether a ReadUnlock stands.
@@ -104,6 +103,5 @@ pub fn can_read_unlock(
 ) -> Result<bool, NoMemory>
     ensures { IfOk result (λ yes. IsTrue yes ↔ ReadUnlocks head.now before.now seat) }
 {
-    let passed = passes(alloc, head, before, seat, &Op::Unlock)?;
-    Ok(is_free(before, seat) && passed)
+    can_ask(alloc, head, before, seat, &Op::Unlock)
 }
