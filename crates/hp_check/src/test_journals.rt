@@ -336,3 +336,69 @@ pub fn dynamic_setups(alloc: Global) -> Result<Journal, Fail> {
     write(&mut journal, &given(150))?;
     Ok(journal)
 }
+
+/// A boot, a freeze that fails at its second processor, a setup between its walks, and a thaw.
+pub fn freeze_with_setup_between(alloc: Global) -> Result<Journal, Fail> {
+    let mut head = head(alloc, 4);
+    let plan = rule(Dir::Down, 2, None, None, 6);
+    head.subs.push(sub(alloc, b"net:a", plan)?)?;
+    head.subs.push(sub(alloc, b"net:b", HookPlan::none())?)?;
+    let mut journal = Journal::new(alloc, head);
+    boot_four(&mut journal)?;
+    write(&mut journal, &freeze_that_fails())?;
+    let thaw = [
+        refused(4, 16, Op::Up(1)),
+        enter(4, Op::Thaw),
+        walk(4, 1, 0, 200),
+        up(1, 150, 0),
+        up(1, 160, 0),
+        walked(4, 1, OK),
+        done(4, OK),
+    ];
+    write(&mut journal, &thaw)?;
+    Ok(journal)
+}
+
+/// Four processors and two clients come in, and after a setup all four are booted.
+fn boot_four(journal: &mut Journal) -> Result<(), Fail> {
+    for cpu in 0..4 {
+        write(journal, &[admit_ap(cpu)])?;
+    }
+    let begin = [
+        admit_client(4),
+        admit_client(5),
+        reg(4, 150, setup(150, 1)),
+        up(0, 150, 0),
+        regged(4, OK),
+        enter(4, Op::Boot(4)),
+    ];
+    write(journal, &begin)?;
+    for cpu in 1..4 {
+        write(
+            journal,
+            &[walk(4, cpu, 0, 200), up(cpu, 150, 0), walked(4, cpu, OK)],
+        )?;
+    }
+    write(journal, &[done(4, OK)])
+}
+
+/// A freeze that a fault of processor 2 ends, and between its walks a setup of the other client.
+fn freeze_that_fails() -> [Event; 15] {
+    [
+        enter(4, Op::Freeze(0)),
+        walk(4, 1, 200, 0),
+        down(1, 150, 0),
+        walked(4, 1, OK),
+        reg(5, 160, setup(160, 2)),
+        up(0, 160, 0),
+        up(2, 160, 0),
+        up(3, 160, 0),
+        regged(5, OK),
+        walk(4, 2, 200, 0),
+        down(2, 160, 0),
+        down_fault(2, 150, 0, 6),
+        up(2, 160, 0),
+        walked(4, 2, Answer::Fault(6)),
+        done(4, Answer::Fault(6)),
+    ]
+}

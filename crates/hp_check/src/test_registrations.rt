@@ -2,11 +2,12 @@
 
 use crate::is_lawful;
 use crate::test_journals::{
-    dynamic_setups, failed_setup, last_processor, overruled_fault, presumed, setup_without_calls,
+    dynamic_setups, failed_setup, freeze_with_setup_between, last_processor, overruled_fault,
+    presumed, setup_without_calls,
 };
 use crate::test_lines::{
     OK, admit_ap, call, done, down, enter, first_let_through, refused, reg, regged, setup, up,
-    up_fault, walked,
+    up_fault, walk, walked,
 };
 use hp_event::{Answer, How, Op};
 use hp_states::Dir;
@@ -90,6 +91,29 @@ fn dynamic_setups_take_the_lowest_free_state(rt: HostRuntime) -> Result<(), Fail
         (95, Some(refused(1, 16, setup(141, 1)))),
         (95, Some(reg(1, 172, setup(141, 1)))),
         (99, Some(reg(1, 151, setup(141, 1)))),
+    ];
+    assert_eq!(rt; first_let_through(rt.alloc(), &journal, &changes)?, None);
+    Ok(())
+}
+
+/// A freeze that fails, with a setup between its walks, and a thaw.
+#[test]
+fn a_thaw_brings_up_what_a_failed_freeze_took_down(rt: HostRuntime) -> Result<(), Fail> {
+    let journal = freeze_with_setup_between(rt.alloc())?;
+    assert!(rt; is_lawful(rt.alloc(), journal.head(), journal.events())?);
+    let changes = [
+        (13, Some(walk(4, 3, 0, 200))),
+        (21, Some(walk(4, 2, 200, 0))),
+        (22, Some(reg(5, 160, setup(160, 2)))),
+        (24, Some(walk(4, 3, 200, 0))),
+        (26, Some(up(1, 160, 0))),
+        (27, None),
+        (29, Some(walk(4, 3, 200, 0))),
+        (32, None),
+        (34, Some(done(4, OK))),
+        (35, Some(enter(4, Op::Up(1)))),
+        (37, Some(walk(4, 2, 0, 200))),
+        (39, None),
     ];
     assert_eq!(rt; first_let_through(rt.alloc(), &journal, &changes)?, None);
     Ok(())
