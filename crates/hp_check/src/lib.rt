@@ -44,6 +44,8 @@ mod test_lines;
 #[cfg(test)]
 mod test_registrations;
 #[cfg(test)]
+mod test_summaries;
+#[cfg(test)]
 mod test_walks;
 mod waits;
 mod walks;
