@@ -1,0 +1,5 @@
+pub mod Places
+pub mod Counts
+pub mod Steps
+pub mod Tables
+pub mod Members

@@ -1,0 +1,12 @@
+-- How many keys states have. A key is a state and an instance: a state with an instance list has a key for each
+-- instance, a state without one has a key of its own. After `cpuhp_invoke_callback` of `kernel/cpu.c`.
+use Rattle.std.specs.Prelude.{ℕ, ◌+◌, if◌then◌else◌, Option, Some, None, List, length, take, drop, sum_by}
+use Rattle.hp_table.specs.Step.{Step}
+
+abbrev pub keys_of : Option Step → ℕ
+keys_of None = 0
+keys_of (Some step) = if step.kept.multi then length step.insts else 1
+
+-- of the states above `low` and up to `high`
+abbrev pub keys_between : List (Option Step) → (low high : ℕ) → ℕ
+keys_between places low high = sum_by keys_of (drop (low + 1) (take (high + 1) places))

@@ -1,0 +1,9 @@
+pub mod Kept
+pub mod Step
+pub mod Named
+pub mod Slots
+pub mod Instances
+pub mod Keys
+pub mod Sound
+pub mod Inside
+pub mod Errors

@@ -1,0 +1,352 @@
+//! What no clause says: that memory suffices where it is ample, that the rules come out as written
+//! by hand, at hooks of three types, and the texts of the errors.
+
+use crate::{Record, Table, TableError};
+use hp_hook::{Hook, ScriptHook};
+use hp_states::{Dir, HookPlan, MAX_EVENTS, Range, Rule};
+use std::alloc::{AllocError, Global};
+use std::process::Abort;
+use std::sync::Arc;
+use std::sync::atomic::{AtomicU64, Ordering};
+use std::test::Fail;
+
+/// A hook of the test's own: it answers as a script's hook does, and counts its calls where the test
+/// sees them too.
+#[derive(Drop)]
+struct SharedHook {
+    inner: ScriptHook,
+    calls: Arc<AtomicU64, Global>,
+}
+
+impl Hook for SharedHook {
+    ghost plan = { λ h. h.inner.plan };
+
+    ghost seen = { λ h. h.inner.seen };
+
+    ghost made = { λ h. h.inner.made };
+
+    ghost faults = { λ h. h.inner.faults };
+
+    fn load(&mut self, rules: HookPlan) {
+        self.inner.load(rules)
+    }
+
+    fn call(&mut self, cpu: u32, inst: u32, dir: Dir) -> u32 {
+        self.calls.fetch_add(1, Ordering::SeqCst);
+        self.inner.call(cpu, inst, dir)
+    }
+
+    fn made(&self) -> u64 {
+        self.inner.made()
+    }
+
+    fn faults(&self) -> u64 {
+        self.inner.faults()
+    }
+}
+
+fn shared(calls: &Arc<AtomicU64, Global>) -> Result<SharedHook, AllocError> {
+    Ok(SharedHook {
+        inner: ScriptHook::new(),
+        calls: Arc::try_clone(calls)?,
+    })
+}
+
+/// The second startup for processor 1 fails with 5, and each other with 7.
+fn two_rules() -> HookPlan {
+    let mut plan = HookPlan::none();
+    let up = Rule {
+        dir: Dir::Up,
+        cpu: Some(1),
+        inst: None,
+        nth: Some(2),
+        code: 5,
+    };
+    plan.add(up);
+    plan.add(Rule {
+        nth: None,
+        code: 7,
+        ..up
+    });
+    plan
+}
+
+fn record_of<H: Hook>(sub: u32, multi: bool, hook: H) -> Record<H> {
+    Record {
+        sub,
+        multi,
+        up: true,
+        down: false,
+        hook,
+    }
+}
+
+/// Installs a record; a refused one is dropped.
+fn put<H: Hook>(table: &mut Table<H>, state: u32, rec: Record<H>) -> Result<(), TableError> {
+    match table.install(state, rec) {
+        Ok(()) => Ok(()),
+        Err((error, _)) => Err(error),
+    }
+}
+
+/// Calls the hook of a state that is registered.
+fn call<H: Hook>(rt: &impl Abort, table: &mut Table<H>, state: u32, cpu: u32, dir: Dir) -> u32 {
+    let may = match table.step(state) {
+        Some(rec) => rec.hook.made() < u64::from(MAX_EVENTS),
+        None => false,
+    };
+    assert!(rt; may);
+    table.call(state, cpu, 0, dir)
+}
+
+/// The calls at a state without instances, at a hook of any type, which is handed out.
+fn at_a_single_state<H: Hook>(rt: &impl Abort, alloc: Global, hook: H) -> Result<H, Fail> {
+    let mut table = Table::new(alloc)?;
+    let state = table.slot(Range::Prepare)?;
+    assert_eq!(rt; state, 41);
+    put(&mut table, state, record_of(3, false, hook))?;
+    assert!(rt; table.is_named(41) && !table.is_named(42));
+    assert!(rt; table.step(42).is_none() && table.step(41).is_some());
+    table.load(41, two_rules());
+    for (cpu, dir, want) in [
+        (1, Dir::Up, 7),
+        (0, Dir::Up, 0),
+        (1, Dir::Down, 0),
+        (1, Dir::Up, 5),
+        (1, Dir::Up, 7),
+    ] {
+        assert_eq!(rt; call(rt, &mut table, 41, cpu, dir), want);
+    }
+    let rec = table.uninstall(41)?;
+    assert_eq!(rt;
+        (rec.sub, rec.multi, rec.up, rec.down),
+        (3, false, true, false)
+    );
+    assert_eq!(rt; (rec.hook.made(), rec.hook.faults()), (5, 3));
+    assert!(rt; !table.is_named(41) && table.step(41).is_none());
+    Ok(rec.hook)
+}
+
+/// The calls at a state with instances, at a hook of any type.
+fn at_a_multi_state<H: Hook>(rt: &impl Abort, alloc: Global, hook: H) -> Result<(), Fail> {
+    let mut table = Table::new(alloc)?;
+    put(&mut table, 150, record_of(4, true, hook))?;
+    for inst in [3, 1, 2] {
+        table.add_instance(150, inst)?;
+    }
+    assert_eq!(rt; table.instances(150), [2, 1, 3].as_slice());
+    assert_eq!(rt; table.keys_between(0, 200), 3);
+    assert_eq!(rt; table.uninstall(150).err(), Some(TableError::Busy));
+    assert_eq!(rt; table.remove_instance(150, 1), Ok(()));
+    assert_eq!(rt; table.instances(150), [2, 3].as_slice());
+    for inst in [2, 3] {
+        assert_eq!(rt; table.remove_instance(150, inst), Ok(()));
+    }
+    let rec = table.uninstall(150)?;
+    assert_eq!(rt; (rec.sub, rec.multi, rec.hook.made()), (4, true, 5));
+    Ok(())
+}
+
+#[test]
+fn hooks_of_three_types_are_kept(rt: HostRuntime) -> Result<(), Fail> {
+    let alloc = rt.alloc();
+    let hook = at_a_single_state(&rt, alloc, ScriptHook::new())?;
+    at_a_multi_state(&rt, alloc, hook)?;
+    let calls = Arc::new(alloc, AtomicU64::new(0))?;
+    let hook = at_a_single_state(&rt, alloc, shared(&calls)?)?;
+    at_a_multi_state(&rt, alloc, hook)?;
+    assert_eq!(rt; calls.load(Ordering::SeqCst), 5);
+    let mut hooks: Vec<Box<dyn Hook + Send>> = Vec::new(alloc);
+    hooks.push(Box::new(alloc, shared(&calls)?)?)?;
+    if let Some(hook) = hooks.pop() {
+        let hook = at_a_single_state(&rt, alloc, hook)?;
+        at_a_multi_state(&rt, alloc, hook)?;
+    }
+    assert_eq!(rt; calls.load(Ordering::SeqCst), 10);
+    Ok(())
+}
+
+#[test]
+fn a_refused_record_comes_back(rt: HostRuntime) -> Result<(), Fail> {
+    let alloc = rt.alloc();
+    let mut table = Table::new(alloc)?;
+    let one = Arc::new(alloc, AtomicU64::new(0))?;
+    let other = Arc::new(alloc, AtomicU64::new(0))?;
+    put(&mut table, 10, record_of(1, false, shared(&one)?))?;
+    let mut rec = record_of(2, true, shared(&other)?);
+    for (state, want) in [
+        (0, TableError::Invalid),
+        (200, TableError::Invalid),
+        (201, TableError::Invalid),
+        (u32::MAX, TableError::Invalid),
+        (10, TableError::Busy),
+        (62, TableError::Busy),
+        (199, TableError::Busy),
+    ] {
+        match table.install(state, rec) {
+            Ok(()) => return Err(Fail::from(TableError::NoSpace)),
+            Err((error, back)) => {
+                assert_eq!(rt; error, want, "at {state}");
+                rec = back;
+            }
+        }
+    }
+    assert_eq!(rt;
+        (rec.sub, rec.multi, rec.up, rec.down),
+        (2, true, true, false)
+    );
+    let hook = &mut rec.hook;
+    hook.load(HookPlan::none());
+    assert_eq!(rt; hook.call(0, 0, Dir::Up), 0);
+    assert_eq!(rt;
+        (one.load(Ordering::SeqCst), other.load(Ordering::SeqCst)),
+        (0, 1)
+    );
+    assert_eq!(rt; call(&rt, &mut table, 10, 0, Dir::Up), 0);
+    assert_eq!(rt;
+        (one.load(Ordering::SeqCst), other.load(Ordering::SeqCst)),
+        (1, 1)
+    );
+    Ok(())
+}
+
+#[test]
+fn refusals_have_their_causes(rt: HostRuntime) -> Result<(), Fail> {
+    let mut table = Table::new(rt.alloc())?;
+    put(&mut table, 10, record_of(1, false, ScriptHook::new()))?;
+    put(&mut table, 20, record_of(2, true, ScriptHook::new()))?;
+    table.add_instance(20, 5)?;
+    for state in [0, 11, 62, 200, 201, u32::MAX] {
+        assert_eq!(rt;
+            table.uninstall(state).err(),
+            Some(TableError::Invalid),
+            "at {state}"
+        );
+        assert_eq!(rt;
+            table.add_instance(state, 1),
+            Err(TableError::Invalid),
+            "at {state}"
+        );
+        assert_eq!(rt;
+            table.remove_instance(state, 1),
+            Err(TableError::Invalid),
+            "at {state}"
+        );
+        assert!(rt; table.step(state).is_none() && table.instances(state).is_empty());
+    }
+    assert_eq!(rt; table.add_instance(10, 1), Err(TableError::Invalid));
+    assert_eq!(rt; table.add_instance(20, 0), Err(TableError::Invalid));
+    assert_eq!(rt; table.add_instance(20, 5), Err(TableError::Busy));
+    assert_eq!(rt; table.remove_instance(20, 6), Err(TableError::Invalid));
+    assert_eq!(rt; table.remove_instance(10, 0), Err(TableError::Invalid));
+    assert_eq!(rt; table.uninstall(20).err(), Some(TableError::Busy));
+    assert_eq!(rt; table.instances(20), [5].as_slice());
+    assert!(rt; !table.is_named(201) && !table.is_named(u32::MAX));
+    Ok(())
+}
+
+#[test]
+fn each_slot_is_given_out_once(rt: HostRuntime) -> Result<(), Fail> {
+    let mut table = Table::new(rt.alloc())?;
+    for want in 41..62 {
+        let state = table.slot(Range::Prepare)?;
+        assert_eq!(rt; state, want);
+        put(&mut table, state, record_of(1, false, ScriptHook::new()))?;
+    }
+    for want in 141..172 {
+        let state = table.slot(Range::Online)?;
+        assert_eq!(rt; state, want);
+        put(&mut table, state, record_of(1, false, ScriptHook::new()))?;
+    }
+    assert_eq!(rt; table.slot(Range::Prepare), Err(TableError::NoSpace));
+    assert_eq!(rt; table.slot(Range::Online), Err(TableError::NoSpace));
+    table.uninstall(150)?;
+    assert_eq!(rt; table.slot(Range::Online), Ok(150));
+    assert_eq!(rt; table.slot(Range::Prepare), Err(TableError::NoSpace));
+    Ok(())
+}
+
+#[test]
+fn so_many_instances_and_no_more(rt: HostRuntime) -> Result<(), Fail> {
+    let mut table = Table::new(rt.alloc())?;
+    put(&mut table, 120, record_of(1, true, ScriptHook::new()))?;
+    for state in 103..119 {
+        put(&mut table, state, record_of(1, true, ScriptHook::new()))?;
+        for inst in 1..257 {
+            table.add_instance(state, inst)?;
+        }
+        if state < 118 {
+            table.add_instance(120, 1)?;
+            assert_eq!(rt; table.remove_instance(120, 1), Ok(()));
+        }
+        assert_eq!(rt;
+            table.add_instance(state, 257),
+            Err(TableError::TooMany),
+            "at {state}"
+        );
+        assert_eq!(rt;
+            table.add_instance(state, 256),
+            Err(TableError::Busy),
+            "at {state}"
+        );
+    }
+    assert_eq!(rt; table.add_instance(120, 1), Err(TableError::TooMany));
+    assert_eq!(rt; table.keys_between(0, 200), 4096);
+    assert_eq!(rt; table.remove_instance(110, 7), Ok(()));
+    table.add_instance(120, 1)?;
+    assert_eq!(rt; table.add_instance(110, 7), Err(TableError::TooMany));
+    Ok(())
+}
+
+#[test]
+fn keys_are_counted_between_states(rt: HostRuntime) -> Result<(), Fail> {
+    let mut table = Table::new(rt.alloc())?;
+    put(&mut table, 10, record_of(1, false, ScriptHook::new()))?;
+    put(&mut table, 20, record_of(2, true, ScriptHook::new()))?;
+    put(&mut table, 30, record_of(3, true, ScriptHook::new()))?;
+    put(&mut table, 198, record_of(4, false, ScriptHook::new()))?;
+    for inst in [8, 6, 7] {
+        table.add_instance(20, inst)?;
+    }
+    for (low, high, want) in [
+        (0, 200, 5),
+        (9, 10, 1),
+        (10, 200, 4),
+        (10, 10, 0),
+        (10, 20, 3),
+        (20, 197, 0),
+        (20, 10, 0),
+        (0, u32::MAX, 5),
+        (200, u32::MAX, 0),
+        (u32::MAX, u32::MAX, 0),
+    ] {
+        assert_eq!(rt; table.keys_between(low, high), want, "from {low} to {high}");
+    }
+    Ok(())
+}
+
+#[test]
+fn errors_have_numbers_and_texts(rt: HostRuntime) -> Result<(), Fail> {
+    for (error, number, errno, text) in [
+        (
+            TableError::Invalid,
+            1,
+            Some(22),
+            "no such state or instance",
+        ),
+        (
+            TableError::Busy,
+            2,
+            Some(16),
+            "taken, or instances are left",
+        ),
+        (TableError::NoSpace, 3, Some(28), "no free slot"),
+        (TableError::TooMany, 4, Some(28), "too many instances"),
+        (TableError::NoMemory, 5, None, "out of memory"),
+    ] {
+        assert_eq!(rt; (error as u32, error.errno()), (number, errno));
+        let shown = format!(in rt.alloc(); "{error}")?;
+        assert_eq!(rt; shown.as_str(), text);
+    }
+    Ok(())
+}
