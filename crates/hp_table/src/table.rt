@@ -198,7 +198,8 @@ impl<H: Hook> Table<H> {
             result ≡ answer_at step.kept (site_at cpu inst dir)) }
         ensures called { self.new ≡ changed_at self.old state (called_step (site_at cpu inst dir)) }
     {
-        match &mut self.places[state as usize] {
+        let place = state as usize;
+        match &mut self.places[place] {
             Some(step) => step.call(cpu, inst, dir),
             None => unreachable!(),
         }
