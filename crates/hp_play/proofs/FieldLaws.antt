@@ -1,12 +1,12 @@
 -- A number or a name that is read is the one that was written, and what was written is read again.
-use Rattle.std.proofs.Common.{◌≡◌, ◌≢◌, ℕ, ◌^◌, ◌<◌, true, false, not, ◌&&◌, cond, leb, List, [], ◌∷◌, ◌++◌, length, Some, None, refl, ap, subst, ◌∙◌}
+use Rattle.std.proofs.Common.{◌≡◌, ℕ, ◌^◌, ◌<◌, true, false, ◌&&◌, cond, leb, List, [], ◌∷◌, ◌++◌, length, Some, None, refl, ap, subst, ◌∙◌}
 use Rattle.std.specs.Prelude.{IsTrue, decimal}
 use Rattle.std.specs.List.{AllByRecursion, list_all}
-use Rattle.std.proofs.lemmas.Bool.{ne_eqb, and_parts, and_from, leb-true, le-leb, not-true}
+use Rattle.std.proofs.lemmas.Bool.{ne_eqb, and_parts, and_from, leb-true, le-leb}
 use Rattle.std.proofs.lemmas.List.Elements.{All-from_recursion, recursion_from_All}
 use Rattle.hp_states.specs.declared.limits.TheConstants.{MAX_NAME_LEN}
 use Rattle.hp_play.specs.Form.{is_name_byte, IsName}
-use Rattle.hp_play.specs.Reading.{◌>>=◌, word_to, number_of, is_dash, is_name, number_to, name_to}
+use Rattle.hp_play.specs.Reading.{◌>>=◌, word_to, number_of, is_name, number_to, name_to}
 use Rattle.hp_play.proofs.WordLaws.{bind_some, passed, some_is, IsFree, word_takes, word_again}
 use Rattle.hp_play.proofs.NumberLaws.{number_takes, number_again, number_free}
 
@@ -38,33 +38,22 @@ names_are : (w : List ℕ) → AllByRecursion (λ b. IsTrue (is_name_byte b)) w 
 names_are [] h = refl
 names_are (b ∷ bs) h = and_from (is_name_byte b) (list_all is_name_byte bs) h.0 (names_are bs h.1)
 
-no_dash : (w : List ℕ) → is_dash w ≡ false → w ≢ 45 ∷ []
-no_dash w h e = let dash : is_dash w ≡ true = ap is_dash e in cc
-
-dash_none : (w : List ℕ) → w ≢ 45 ∷ [] → is_dash w ≡ false
-dash_none [] h = refl
-dash_none (b ∷ []) h = ne_eqb b 45 (λ same. h (ap (λ (c : ℕ). c ∷ []) same))
-dash_none (b ∷ c ∷ bs) h = refl
-
 name_is : (w : List ℕ) → is_name w ≡ true → IsName w
 name_is w h =
-    let a = and_parts (leb 1 (length w) && leb (length w) MAX_NAME_LEN && not (is_dash w)) (list_all is_name_byte w) h in
-    let b = and_parts (leb 1 (length w) && leb (length w) MAX_NAME_LEN) (not (is_dash w)) a.0 in
-    let c = and_parts (leb 1 (length w)) (leb (length w) MAX_NAME_LEN) b.0 in
+    let a = and_parts (leb 1 (length w) && leb (length w) MAX_NAME_LEN) (list_all is_name_byte w) h in
+    let b = and_parts (leb 1 (length w)) (leb (length w) MAX_NAME_LEN) a.0 in
     record {
-      some = leb-true _ _ c.0;
-      few = leb-true _ _ c.1;
+      some = leb-true _ _ b.0;
+      few = leb-true _ _ b.1;
       bytes = All-from_recursion (λ b. IsTrue (is_name_byte b)) w (are_names w a.1);
-      no_dash = no_dash w (not-true (is_dash w) b.1);
     }
 
 name_again : (w : List ℕ) → IsName w → is_name w ≡ true
 name_again w n =
     let some : leb 1 (length w) ≡ true = le-leb _ _ n.some in
     let few : leb (length w) MAX_NAME_LEN ≡ true = le-leb _ _ n.few in
-    let other : is_dash w ≡ false = dash_none w n.no_dash in
     let bytes : list_all is_name_byte w ≡ true = names_are w (recursion_from_All (λ b. IsTrue (is_name_byte b)) w n.bytes) in
-    rw (some, few, other, bytes) refl
+    rw (some, few, bytes) refl
 
 name_free : (end : ℕ) (w : List ℕ) → is_name_byte end ≡ false → AllByRecursion (λ b. IsTrue (is_name_byte b)) w → IsFree end w
 name_free end [] h n = tt

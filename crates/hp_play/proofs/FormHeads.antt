@@ -1,25 +1,33 @@
 -- The head of a script of the form is one that a machine can be started with, and its subsystems are plain.
-use Rattle.std.proofs.Common.{◌≡◌, ℕ, ◌<◌, true, List, [], ◌∷◌, length, map, get_or, refl, sym, subst, arith}
+use Rattle.std.proofs.Common.{◌≡◌, ℕ, ◌<◌, Bool, true, false, cond, List, [], length, map, get_or, refl, sym, ap, subst, arith}
 use Rattle.std.specs.List.{All}
 use Rattle.std.proofs.lemmas.List.{length-map, get_or-map}
 use Rattle.std.proofs.lemmas.List.Elements.{All-get_or, All-from_get_or}
 use Rattle.std.proofs.lemmas.Bool.{lt-ltb}
 use Rattle.std.proofs.lemmas.Bool.Decides.{nat_tests}
 use Rattle.hp_event.specs.declared.head.Sub.{Sub}
-use Rattle.hp_model.specs.Heads.{IsHead, IsSub, is_name_byte as is_byte_of_name}
-use Rattle.hp_play.specs.Form.{Lines, IsForm, IsName, is_name_byte, sub_of, head_of}
+use Rattle.hp_model.specs.Heads.{IsHead, IsSub, IsName as IsHeadName, is_name_byte as is_byte_of_name}
+use Rattle.hp_play.specs.Form.{Lines, IsForm, IsName, is_name_byte, is_dash, sub_of, head_of}
 use Rattle.hp_play.specs.Tied.{IsPlainHead, IsPlainSub}
 
 same_byte : (b : ℕ) → is_name_byte b ≡ true → is_byte_of_name b ≡ true
 same_byte b h = grind (arith, nat_tests)
 
-plain_sub : (name : List ℕ) → IsName name → IsPlainSub (sub_of name)
-plain_sub [] h = absurd (omega (arith, h.some))
-plain_sub (x ∷ xs) h = record { named = refl; has_startup = refl; is_single = refl; no_rules = refl }
+plain_sub : (word : List ℕ) → IsName word → IsPlainSub (sub_of word)
+plain_sub word h = record { has_startup = refl; is_single = refl; no_rules = refl }
 
-is_sub : (name : List ℕ) → IsName name → IsSub (sub_of name)
-is_sub name h = record {
-  name_is = record { short = h.few; bytes = λ k d inside. same_byte (get_or name k d) (h.bytes k d inside); not_dash = h.no_dash };
+-- the dash alone was turned into the empty name, so a name of the head is no dash
+name_is : (word : List ℕ) (dash : Bool) → is_dash word ≡ dash → IsName word → IsHeadName (cond dash [] word)
+name_is word true e h = record { short = omega arith; bytes = λ k d inside. absurd (omega (arith, inside)); not_dash = λ same. cc }
+name_is word false e h = record {
+  short = h.few;
+  bytes = λ k d inside. same_byte (get_or word k d) (h.bytes k d inside);
+  not_dash = λ same. let dash : is_dash word ≡ true = ap is_dash same in cc;
+}
+
+is_sub : (word : List ℕ) → IsName word → IsSub (sub_of word)
+is_sub word h = record {
+  name_is = name_is word (is_dash word) refl h;
   few_rules = omega arith;
   rules_are = λ k d inside. absurd (omega (arith, inside));
 }

@@ -1,11 +1,11 @@
 -- How many hooks the places have after a write.
-use Rattle.std.proofs.Common.{◌≡◌, ℕ, zero, suc, ◌+◌, ◌<◌, Option, Some, None, List, [], ◌∷◌, length, refl, ap, arith}
-use Rattle.std.specs.Prelude.{slice_set}
-use Rattle.hp_play.specs.Kept.{Kept}
-use Rattle.hp_play.specs.Machine.{place_at}
+use Rattle.std.proofs.Common.{◌≡◌, ℕ, zero, suc, ◌+◌, ◌<◌, Option, Some, None, List, [], ◌∷◌, length, refl, ap, ◌∙◌, arith}
+use Rattle.std.specs.Prelude.{slice_set, replicate}
+use Rattle.hp_table.specs.Step.{Step, step_at, changed, changed_at}
+use Rattle.std.proofs.lemmas.List.{length-replicate}
 use Rattle.hp_play.specs.Racked.{made_of}
 
-pub hooks_same : (places : List (Option Kept)) (s : ℕ) (old new : Kept) → place_at places s ≡ Some old →
+pub hooks_same : (places : List (Option Step)) (s : ℕ) (old new : Step) → step_at places s ≡ Some old →
     length (made_of (slice_set places s (Some new))) ≡ length (made_of places)
 hooks_same [] s old new there = absurd (cc there)
 hooks_same (None ∷ ps) zero old new there = absurd (cc there)
@@ -13,7 +13,13 @@ hooks_same (Some p ∷ ps) zero old new there = refl
 hooks_same (None ∷ ps) (suc s) old new there = hooks_same ps s old new there
 hooks_same (Some p ∷ ps) (suc s) old new there = ap suc (hooks_same ps s old new there)
 
-pub hooks_more : (places : List (Option Kept)) (s : ℕ) (new : Kept) → s < length places → place_at places s ≡ None →
+-- a step that is changed is as many
+pub hooks_called : (places : List (Option Step)) (s : ℕ) (f : Step → Step) (step : Step) → step_at places s ≡ Some step →
+    length (made_of (changed_at places s f)) ≡ length (made_of places)
+hooks_called places s f step there =
+    ap (λ p. length (made_of (slice_set places s (changed f p)))) there ∙ hooks_same places s step (f step) there
+
+pub hooks_more : (places : List (Option Step)) (s : ℕ) (new : Step) → s < length places → step_at places s ≡ None →
     length (made_of (slice_set places s (Some new))) ≡ length (made_of places) + 1
 hooks_more [] s new below vacant = absurd (omega arith)
 hooks_more (None ∷ ps) zero new below vacant = omega arith
@@ -21,8 +27,23 @@ hooks_more (Some p ∷ ps) zero new below vacant = absurd (cc vacant)
 hooks_more (None ∷ ps) (suc s) new below vacant = hooks_more ps s new (omega arith) vacant
 hooks_more (Some p ∷ ps) (suc s) new below vacant = let more = hooks_more ps s new (omega arith) vacant in omega (arith, more)
 
+none_at : (n s : ℕ) → step_at (replicate n None) s ≡ None
+none_at zero s = refl
+none_at (suc n) zero = refl
+none_at (suc n) (suc s) = none_at n s
+
+-- a table where nothing is registered
+pub vacant_of : (table : List (Option Step)) (n s : ℕ) → table ≡ replicate n None → step_at table s ≡ None
+vacant_of table n s is = rw is (none_at n s)
+
+pub states_of : (table : List (Option Step)) (n : ℕ) → table ≡ replicate n None → length table ≡ n
+states_of table n is = ap length is ∙ length-replicate n None
+
 -- places without hooks
-pub no_hooks : (places : List (Option Kept)) → ((s : ℕ) → place_at places s ≡ None) → length (made_of places) ≡ 0
+pub no_hooks : (places : List (Option Step)) → ((s : ℕ) → step_at places s ≡ None) → length (made_of places) ≡ 0
 no_hooks [] vacant = refl
 no_hooks (None ∷ ps) vacant = no_hooks ps (λ s. vacant (suc s))
 no_hooks (Some p ∷ ps) vacant = absurd (cc (vacant 0))
+
+pub no_hooks_of : (table : List (Option Step)) (n : ℕ) → table ≡ replicate n None → length (made_of table) ≡ 0
+no_hooks_of table n is = no_hooks table (λ s. vacant_of table n s is)

@@ -1,12 +1,11 @@
 -- An operation that is read is the one that was written, and what was written is read again.
-use Rattle.std.proofs.Common.{◌≡◌, ℕ, ◌≤◌, true, false, not, ◌&&◌, cond, eqb, leb, List, ◌∷◌, ◌++◌, Some, None, refl, sym, ap, subst, ◌∙◌, append_assoc, arith}
+use Rattle.std.proofs.Common.{◌≡◌, ℕ, ◌≤◌, true, ◌&&◌, cond, leb, List, ◌∷◌, ◌++◌, Some, None, refl, sym, ap, subst, ◌∙◌, append_assoc, arith}
 use Rattle.std.specs.Prelude.{codes, decimal}
-use Rattle.std.proofs.lemmas.Bool.{ne_eqb, and_parts, leb-true, le-leb, not-true, eqb-false}
-use Rattle.hp_states.specs.declared.limits.TheConstants.{ONLINE_DYN}
+use Rattle.std.proofs.lemmas.Bool.{and_parts, leb-true, le-leb}
 use Rattle.hp_event.specs.declared.event.Op.{Op}
 use Rattle.hp_event.specs.declared.event.Op.TheVariants.{Up, Setup}
 use Rattle.hp_event.specs.declared.event.Form.{Form}
-use Rattle.hp_play.specs.declared.limits.TheConstants.{MAX_NAMED_CPU, MIN_SETUP, MAX_SETUP}
+use Rattle.hp_play.specs.declared.limits.TheConstants.{MAX_NAMED_CPU, MAX_SETUP}
 use Rattle.hp_play.specs.Form.{IsSetup, IsUp, plain, op_line}
 use Rattle.hp_play.specs.Reading.{◌>>=◌, behind, number_to, is_setup, setup_at, up_at}
 use Rattle.hp_play.proofs.WordLaws.{bind_some, passed, some_is, behind_takes}
@@ -20,11 +19,9 @@ setup_spelled state sub rest = simp append_assoc
 
 setup_is : (subs state sub : ℕ) → is_setup subs state sub ≡ true → IsSetup subs (Setup state sub plain)
 setup_is subs state sub h =
-    let a = and_parts (leb MIN_SETUP state && leb state MAX_SETUP && not (eqb state ONLINE_DYN) && leb 1 sub) (leb sub subs) h in
-    let b = and_parts (leb MIN_SETUP state && leb state MAX_SETUP && not (eqb state ONLINE_DYN)) (leb 1 sub) a.0 in
-    let c = and_parts (leb MIN_SETUP state && leb state MAX_SETUP) (not (eqb state ONLINE_DYN)) b.0 in
-    let d = and_parts (leb MIN_SETUP state) (leb state MAX_SETUP) c.0 in
-    (leb-true _ _ d.0, leb-true _ _ d.1, eqb-false _ _ (not-true _ c.1), leb-true _ _ b.1, leb-true _ _ a.1, refl)
+    let a = and_parts (leb state MAX_SETUP && leb 1 sub) (leb sub subs) h in
+    let b = and_parts (leb state MAX_SETUP) (leb 1 sub) a.0 in
+    (leb-true _ _ b.0, leb-true _ _ b.1, leb-true _ _ a.1, refl)
 
 setup_takes : (subs : ℕ) (bytes : List ℕ) (x : Op × List ℕ) → setup_at subs bytes ≡ Some x → (bytes ≡ op_line x.0 ++ x.1) × IsSetup subs x.0
 unfolding setup_at
@@ -43,17 +40,15 @@ unfolding setup_at
 plain_again subs state sub rest few fits =
     let first : number_to 32 (decimal state ++ 32 ∷ (decimal sub ++ 10 ∷ rest)) ≡ Some (state, decimal sub ++ 10 ∷ rest) = number_to_again 32 state (decimal sub ++ 10 ∷ rest) (omega arith) (omega arith) in
     let second : number_to 10 (decimal sub ++ 10 ∷ rest) ≡ Some (sub, rest) = number_to_again 10 sub rest (omega arith) (omega arith) in
-    let low : leb MIN_SETUP state ≡ true = le-leb _ _ fits.0 in
-    let high : leb state MAX_SETUP ≡ true = le-leb _ _ fits.1 in
-    let other : eqb state ONLINE_DYN ≡ false = ne_eqb _ _ fits.2 in
-    let some : leb 1 sub ≡ true = le-leb _ _ fits.3 in
-    let known : leb sub subs ≡ true = le-leb _ _ fits.4 in
-    let test : is_setup subs state sub ≡ true = rw (low, high, other, some, known) refl in
+    let high : leb state MAX_SETUP ≡ true = le-leb _ _ fits.0 in
+    let some : leb 1 sub ≡ true = le-leb _ _ fits.1 in
+    let known : leb sub subs ≡ true = le-leb _ _ fits.2 in
+    let test : is_setup subs state sub ≡ true = rw (high, some, known) refl in
     ap (setup_at subs) (setup_spelled state sub rest) ∙ rw (first, second, test) refl
 
 setup_again : (subs : ℕ) (op : Op) (rest : List ℕ) → subs ≤ 1000 → IsSetup subs op → setup_at subs (op_line op ++ rest) ≡ Some (op, rest)
 setup_again subs (Setup state sub form) rest few fits =
-    subst (λ (f : Form). IsSetup subs (Setup state sub f) → setup_at subs (op_line (Setup state sub f) ++ rest) ≡ Some (Setup state sub f, rest)) (sym fits.5) (plain_again subs state sub rest few) fits
+    subst (λ (f : Form). IsSetup subs (Setup state sub f) → setup_at subs (op_line (Setup state sub f) ++ rest) ≡ Some (Setup state sub f, rest)) (sym fits.3) (plain_again subs state sub rest few) fits
 setup_again subs _ rest few fits = absurd fits
 
 pub reads_setup : (subs : ℕ) → subs ≤ 1000 → IsReader (setup_at subs) op_line (IsSetup subs)

@@ -23,7 +23,7 @@ use Rattle.hp_model.proofs.InFlight.{walk_none}
 use Rattle.hp_model.proofs.OneActor.{of_actor, IsOfActor}
 use Rattle.hp_model.proofs.Rounds.{steps_make_run}
 use Rattle.hp_model.proofs.RunLemmas.{EachAfter-append}
-use Rattle.hp_play.specs.Kept.{Kept}
+use Rattle.hp_table.specs.Step.{Step}
 use Rattle.hp_play.specs.declared.due.Due.TheVariants.{Operation as Idle}
 use Rattle.hp_play.specs.Tied.{IsTied, IsIdle}
 use Rattle.hp_play.specs.Played.{IsJournalOf}
@@ -89,7 +89,7 @@ still head ops es k e idle all take =
     go (inr b) = no_op b.0 (ap (slice_get ops) all ∙ past_end ops) b.1
 
 -- all operations were answered: the run is finished
-finished_run : (head : Head) (ops : List Op) (events : List Event) (stands : List ℕ) (places : List (Option Kept)) →
+finished_run : (head : Head) (ops : List Op) (events : List Event) (stands : List ℕ) (places : List (Option Step)) →
     HasPlayed head ops (length ops) events → IsTied head events stands places Idle → IsRun head (ops ∷ []) events
 finished_run head ops events stands places h t =
     let seats = seats_are head t.plain in
@@ -107,7 +107,7 @@ finished_run head ops events stands places h t =
     at_most n = grind (arith, nat_tests)
 
 -- that run is a lawful journal, which has the headline, and at its end every processor is at rest
-pub played_all : (head : Head) (ops : List Op) (events : List Event) (stands : List ℕ) (places : List (Option Kept)) →
+pub played_all : (head : Head) (ops : List Op) (events : List Event) (stands : List ℕ) (places : List (Option Step)) →
     HasPlayed head ops (length ops) events → IsTied head events stands places Idle → IsJournalOf head ops events
 played_all head ops events stands places h t =
     record {

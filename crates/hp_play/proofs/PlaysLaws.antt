@@ -5,6 +5,11 @@ use Rattle.std.specs.List.{filter}
 use Rattle.std.proofs.lemmas.List.{append-nil, length-append}
 use Rattle.std.proofs.lemmas.Bool.{lt-ltb}
 use Rattle.std.proofs.lemmas.Bool.Decides.{nat_tests}
+use Rattle.hp_states.specs.declared.section.Dir.TheVariants.{Up}
+use Rattle.hp_states.specs.Sections.{is_ap_state}
+use Rattle.hp_event.specs.declared.event.How.TheVariants.{RanOk}
+use Rattle.hp_event.specs.declared.event.Event.TheVariants.{Call}
+use Rattle.hp_play.specs.Machine.{seat_at}
 use Rattle.hp_event.specs.declared.event.Op.{Op}
 use Rattle.hp_event.specs.declared.head.Head.{Head}
 use Rattle.hp_event.specs.declared.event.Event.{Event}
@@ -18,7 +23,7 @@ use Rattle.hp_model.specs.OneClient.{OneClient}
 use Rattle.hp_model.specs.Steps.{IsStep}
 use Rattle.hp_model.proofs.OneActor.{one_actor_next}
 use Rattle.hp_model.proofs.RunLemmas.{EachAfter-append}
-use Rattle.hp_play.specs.Kept.{Kept}
+use Rattle.hp_table.specs.Step.{Step}
 use Rattle.hp_play.specs.declared.due.Due.{Due}
 use Rattle.hp_play.specs.Tied.{IsTied, IsPlainHead}
 use Rattle.hp_play.specs.Plays.{Plays}
@@ -54,6 +59,15 @@ not_all n len h = grind (arith, nat_tests)
 abbrev pub IsBy : Head → Op → Event → Type 0
 IsBy head op e = ((seat_of e < head.possible) × (is_call e ≡ true)) ⊎ ((seat_of e ≡ head.possible) × BelongsTo op e)
 
+-- an entry is by the seat that makes it
+pub by_entry : (head : Head) (op : Op) (seat cpu state : ℕ) → cpu < head.possible → seat ≡ seat_at head.possible cpu state →
+    IsBy head op (Call seat cpu state 0 Up RanOk)
+by_entry head op seat cpu state below is = go (is_ap_state state) refl
+  where
+    go : (b : Bool) → is_ap_state state ≡ b → IsBy head op (Call seat cpu state 0 Up RanOk)
+    go true e = inl (rw (is, e) below, refl)
+    go false e = inr (rw (is, e) refl, tt)
+
 can_take : (head : Head) (ops : List Op) (es : List Event) (op : Op) (e : Event) → IsPlainHead head →
     slice_get ops (answered head.possible es) ≡ Some op → Stands head es e → IsBy head op e →
     CanTake head (ops ∷ []) es (seat_of e) e
@@ -76,7 +90,7 @@ can_take head ops es op e plain now stands (inr by) =
     not_less n = grind (arith, nat_tests)
 
 -- an event that stands, of the seat whose turn makes it, is a step
-pub one_step : (head : Head) (ops : List Op) (es : List Event) (stands : List ℕ) (places : List (Option Kept)) (due : Due)
+pub one_step : (head : Head) (ops : List Op) (es : List Event) (stands : List ℕ) (places : List (Option Step)) (due : Due)
     (op : Op) (e : Event) → IsTied head es stands places due → slice_get ops (answered head.possible es) ≡ Some op →
     Stands head es e → IsBy head op e → IsStep head (ops ∷ []) es e
 one_step head ops es stands places due op e t now stand by =
@@ -99,7 +113,7 @@ one_step head ops es stands places due op e t now stand by =
     seat_below (inr b) = omega (arith, b.0)
 
 -- one event of the operation
-pub plays_one : (head : Head) (es after : List Event) (stands : List ℕ) (places : List (Option Kept)) (due : Due) (op : Op)
+pub plays_one : (head : Head) (es after : List Event) (stands : List ℕ) (places : List (Option Step)) (due : Due) (op : Op)
     (answers : Bool) (e : Event) → IsTied head es stands places due → Stands head es e → IsBy head op e →
     (is_answer e && eqb (seat_of e) head.possible) ≡ answers → after ≡ es ++ e ∷ [] →
     Plays head op answers es after

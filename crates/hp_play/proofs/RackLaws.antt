@@ -1,19 +1,20 @@
 -- The hooks of the places are those of the registered states, and were called as often as the journal says.
-use Rattle.std.proofs.Common.{◌≡◌, ℕ, zero, suc, ◌+◌, Bool, true, false, ◌&&◌, cond, is_some, Option, Some, None, IfSome, IfNone, IfOk, Result, Ok, Err, List, [], ◌∷◌, ◌++◌, map, length, length-append, refl, sym, ap, ◌∙◌, arith}
+use Rattle.std.proofs.Common.{◌≡◌, ℕ, zero, suc, ◌+◌, ◌<◌, Bool, true, false, ◌&&◌, cond, is_some, Option, Some, None, IfSome, IfNone, IfOk, Result, Ok, Err, List, [], ◌∷◌, ◌++◌, map, take, length, length-append, append_assoc, refl, sym, ap, ◌∙◌, arith}
 use Rattle.std.proofs.lemmas.List.{length-map}
 use Rattle.hp_play.specs.Parts.{left_of, one_if}
 use Rattle.std.specs.List.{flat_map}
 use Rattle.hp_states.specs.declared.limits.TheConstants.{ONLINE}
-use Rattle.hp_event.specs.Story.{Story}
 use Rattle.hp_event.specs.declared.head.Head.{Head}
 use Rattle.hp_event.specs.declared.event.Event.{Event}
 use Rattle.hp_model.specs.Lists.{numbers}
 use Rattle.hp_model.specs.Registered.{registered}
-use Rattle.hp_play.specs.Kept.{Kept}
-use Rattle.hp_play.specs.Machine.{place_at}
+use Rattle.hp_table.specs.Step.{Step, step_at}
 use Rattle.hp_play.specs.declared.due.Due.TheVariants.{Operation as Idle}
 use Rattle.hp_play.specs.Tied.{IsTied, IsKept, registered_by}
-use Rattle.hp_play.specs.Racked.{calls_at, calls_below, made_at, made_of, EndsWith}
+use Rattle.std.proofs.lemmas.List.{append-nil, map-append}
+use Rattle.hp_table.specs.Instances.{instances_at, instances_of}
+use Rattle.hp_play.specs.declared.due.Due.{Due}
+use Rattle.hp_play.specs.Racked.{calls_at, calls_below, made_at, made_of, listed, EndsWith}
 
 -- the numbers from one on
 from : (a n : ℕ) → List ℕ
@@ -36,7 +37,7 @@ numbers_from (suc n) =
     ∙ sym (from_more 0 n ∙ ap (λ (k : ℕ). from 0 n ++ k ∷ []) e)
 
 -- what is said of each place is said of its state
-along : (f : ℕ → List ℕ) (places : List (Option Kept)) (a : ℕ) → ((i : ℕ) → made_at (place_at places i) ≡ f (a + i)) →
+along : (f : ℕ → List ℕ) (places : List (Option Step)) (a : ℕ) → ((i : ℕ) → made_at (step_at places i) ≡ f (a + i)) →
     made_of places ≡ flat_map f (from a (length places))
 unfolding from
 along f [] a each = refl
@@ -45,30 +46,28 @@ along f (p ∷ ps) a each =
     ap (λ xs. xs ++ made_of ps) (each 0 ∙ ap f e)
     ∙ ap (λ ys. f a ++ ys) (along f ps (suc a) (λ i. each (suc i) ∙ (let n : a + suc i ≡ suc a + i = omega arith in ap f n)))
 
-made_is : (head : Head) (events : List Event) (s : ℕ) (place : Option Kept) → registered head s events ≡ registered_by place →
+made_is : (head : Head) (events : List Event) (s : ℕ) (place : Option Step) → registered head s events ≡ registered_by place →
     IfSome place (IsKept events s) → made_at place ≡ calls_at head events s
 made_is head events s None is kept = rw is refl
 made_is head events s (Some k) is kept = rw is (ap (λ (n : ℕ). n ∷ []) kept.made)
 
 -- the hooks of the places, in rising state
-pub made_as_told : (head : Head) (events : List Event) (stands : List ℕ) (places : List (Option Kept)) →
+pub made_as_told : (head : Head) (events : List Event) (stands : List ℕ) (places : List (Option Step)) →
     IsTied head events stands places Idle → length places ≡ ONLINE + 1 → made_of places ≡ calls_below head events (ONLINE + 1)
 unfolding calls_below
 made_as_told head events stands places t states =
     along (calls_at head events) places 0
     (λ i.
     let e : 0 + i ≡ i = omega arith in
-    made_is head events i (place_at places i) (t.registered_is i) (t.kept i) ∙ ap (calls_at head events) (sym e))
+    made_is head events i (step_at places i) (t.registered_is i) (t.kept i) ∙ ap (calls_at head events) (sym e))
     ∙ ap (λ (n : ℕ). flat_map (calls_at head events) (from 0 n)) states
     ∙ ap (flat_map (calls_at head events)) (sym (numbers_from (ONLINE + 1)))
 
 -- the rack ends with them
-pub rack_ends : {E : Type 0} (answer : Result Story E) (story : Story) (head : Head) (before after made : List ℕ) →
-    IfOk answer (λ j. j ≡ story) → IfOk answer (λ j. after ≡ before ++ made) → made ≡ calls_below head story.events (ONLINE + 1) →
-    IfOk answer (λ j. EndsWith after (calls_below head j.events (ONLINE + 1)))
-rack_ends (Ok j) story head before after made same rack told =
-    (before, rack ∙ ap (λ xs. before ++ xs) (told ∙ ap (λ (s : Story). calls_below head s.events (ONLINE + 1)) (sym same)))
-rack_ends (Err e) story head before after made same rack told = tt
+pub ends_so : {S E : Type 0} (answer : Result S E) (before after made : List ℕ) → IfOk answer (λ _. after ≡ before ++ made) →
+    IfOk answer (λ _. EndsWith after made)
+ends_so (Ok x) before after made rack = (before, rack)
+ends_so (Err e) before after made rack = tt
 
 -- a list with a hook more, if there is one
 pub length_with : {H : Type 0} (hook : Option H) (before after : List H) → IfSome hook (λ h. after ≡ before ++ h ∷ []) →
@@ -102,3 +101,37 @@ as_many (Ok j) made before after counts n rack all =
     sym (length-map after made) ∙ ap length rack ∙ length-append (map made before) counts
     ∙ ap (λ k. k + length counts) (length-map before made) ∙ all
 as_many (Err e) made before after counts n rack all = tt
+
+-- the hooks of the states up to one more
+made_suc : (places : List (Option Step)) (k : ℕ) → k < length places →
+    made_of (take (suc k) places) ≡ made_of (take k places) ++ made_at (step_at places k)
+made_suc [] k below = absurd (omega arith)
+made_suc (p ∷ ps) zero below = append-nil (made_at p)
+made_suc (p ∷ ps) (suc k) below =
+    ap (λ xs. made_at p ++ xs) (made_suc ps k (omega arith))
+    ∙ sym (append_assoc (made_at p) (made_of (take k ps)) (made_at (step_at ps k)))
+
+pub made_next : (places : List (Option Step)) (k : ℕ) → k < length places →
+    made_of (take (k + 1) places) ≡ made_of (take k places) ++ made_at (step_at places k)
+made_next places k below =
+    let e : k + 1 ≡ suc k = omega arith in ap (λ n. made_of (take n places)) e ∙ made_suc places k below
+
+-- a list with the hook of one state more
+pub rack_next : {H : Type 0} (made : H → ℕ) (hook : Option H) (first before after : List H) (told more : List ℕ) →
+    map made before ≡ map made first ++ told → IfSome hook (λ h. after ≡ before ++ h ∷ []) → IfNone hook (after ≡ before) →
+    map made (listed hook) ≡ more → map made after ≡ map made first ++ (told ++ more)
+rack_next made None first before after told more is some none has =
+    ap (map made) none ∙ is ∙ ap (λ xs. map made first ++ xs) (sym (append-nil told))
+    ∙ ap (λ xs. map made first ++ (told ++ xs)) has
+rack_next made (Some h) first before after told more is some none has =
+    ap (map made) some ∙ map-append made before (h ∷ []) ∙ ap (λ xs. xs ++ made h ∷ []) is
+    ∙ append_assoc (map made first) told (made h ∷ []) ∙ ap (λ xs. map made first ++ (told ++ xs)) has
+
+-- no state has instances
+pub bare_all : (head : Head) (events : List Event) (stands : List ℕ) (places : List (Option Step)) (due : Due) →
+    IsTied head events stands places due → (s : ℕ) → instances_at places s ≡ []
+bare_all head events stands places due t s = go (step_at places s) (t.kept s)
+  where
+    go : (place : Option Step) → IfSome place (IsKept events s) → instances_of place ≡ []
+    go None h = refl
+    go (Some step) h = h.bare

@@ -4,7 +4,6 @@ use Rattle.std.specs.Prelude.{slice_index, slice_set}
 use Rattle.std.specs.List.{filter}
 use Rattle.std.proofs.lemmas.Bool.{and_right, eq-eqb, ne_eqb, lt-ltb, le-leb, lt-leb}
 use Rattle.hp_states.specs.declared.limits.TheConstants.{ONLINE}
-use Rattle.hp_states.specs.Sections.{name_of_builtin}
 use Rattle.hp_event.specs.declared.event.Op.{Op}
 use Rattle.hp_event.specs.declared.event.Op.TheVariants.{Setup}
 use Rattle.hp_event.specs.declared.head.Head.{Head}
@@ -21,44 +20,61 @@ use Rattle.hp_model.proofs.HeadlineProof.{lawful_more}
 use Rattle.hp_play.specs.declared.due.Due.{Due}
 use Rattle.hp_play.specs.declared.due.Due.TheVariants.{Operation as Idle, Adding, Added}
 use Rattle.hp_play.specs.Form.{plain}
-use Rattle.hp_play.specs.Kept.{Kept}
-use Rattle.hp_play.specs.Machine.{place_at, fresh}
+use Rattle.hp_table.specs.Step.{Step, step_at, bare}
+use Rattle.hp_model.specs.Refusals.{refusal}
+use Rattle.hp_model.specs.Resolved.{resolved}
+use Rattle.hp_model.specs.RegistrationShape.{ok_value}
+use Rattle.hp_play.specs.Machine.{fresh}
 use Rattle.hp_play.specs.Tied.{IsPlainHead, registered_so, is_at, IsKept, IsRegistering, is_reached, IsIdle, IsDue, IsTied}
 use Rattle.hp_play.proofs.TieFolds.{sites_push, quiet_more, seated_more}
-use Rattle.hp_play.proofs.TieLists.{place_at-set_same, at_each, filter_gap}
-use Rattle.hp_play.proofs.TieParts.{sub_found, kept_same, idle_free}
-use Rattle.hp_play.proofs.SetupRefusal.{IsAsked, setup_passes, named_sub}
+use Rattle.hp_play.proofs.TieLists.{step_at-set_same, at_each, filter_gap}
+use Rattle.hp_play.proofs.TieParts.{SubFound, kept_same, idle_free}
+use Rattle.hp_play.proofs.SetupRefusal.{named_sub}
 
--- a setup of a state that has no name begins
-pub setup_stands : (head : Head) (es : List Event) (stands : List ℕ) (places : List (Option Kept)) (state sub : ℕ) →
-    IsTied head es stands places Idle → IsAsked head state sub → place_at places state ≡ None → name_of_builtin state ≡ None →
-    Stands head es (RegBegin head.possible state (Setup state sub plain))
-setup_stands head es stands places state sub tied asked vacant unnamed = record {
+-- a setup that isn't refused: the state that it registers, where nothing is
+pub record IsAsked (head : Head) (es : List Event) (places : List (Option Step)) (asked sub state : ℕ) : Type 0 where
+  pub passes : refusal head es head.possible (Setup asked sub plain) ≡ None
+  pub state_is : resolved head es (Setup asked sub plain) ≡ Some state
+  pub below : state < ONLINE
+  pub vacant : step_at places state ≡ None
+  pub found : SubFound head sub
+  pub some_sub : 1 ≤ sub
+  pub few_subs : sub ≤ length head.subs
+
+-- its begin
+pub setup_stands : (head : Head) (es : List Event) (stands : List ℕ) (places : List (Option Step)) (asked sub state : ℕ) →
+    IsTied head es stands places Idle → IsAsked head es places asked sub state →
+    Stands head es (RegBegin head.possible state (Setup asked sub plain))
+setup_stands head es stands places asked sub state tied a = record {
   free = idle_free head es tied.seated tied.due_is;
-  has_sub = named_sub head state sub (sub_found head sub tied.plain asked.some_sub asked.few_subs);
-  passes = record {
-    not_refused = setup_passes head es stands places state sub tied asked vacant unnamed;
-    not_waiting = rw (tied.due_is.no_walk, tied.due_is.no_registration) refl;
-  };
-  state_is = rw asked.fixed refl;
+  has_sub = named_sub head asked sub a.found;
+  passes = record { not_refused = a.passes; not_waiting = rw (tied.due_is.no_walk, tied.due_is.no_registration) refl };
+  state_is = a.state_is;
 }
 
+-- what the state has then
+abbrev pub begun : {head : Head} {sub : ℕ} → SubFound head sub → Option Step
+begun {head} {sub} found = Some (bare (fresh sub found.sub))
+
 -- the registration that just began
-abbrev begun_registering : (head : Head) (es : List Event) (places : List (Option Kept)) (state sub : ℕ) → IsIdle es →
-    state < length places → registered head state es ≡ None →
-    IsRegistering head (es ++ RegBegin head.possible state (Setup state sub plain) ∷ [])
-    (place_at (slice_set places state (Some (fresh sub []))) state) state
-begun_registering head es places state sub idle within vacant =
-    let op : Op = Setup state sub plain in
+abbrev begun_registering : (head : Head) (es : List Event) (places : List (Option Step)) (asked sub state value : ℕ)
+    (found : SubFound head sub) → IsIdle es → state < length places → registered head state es ≡ None →
+    ok_value (Setup asked sub plain) state ≡ value →
+    IsRegistering head (es ++ RegBegin head.possible state (Setup asked sub plain) ∷ [])
+    (step_at (slice_set places state (begun found)) state) state value
+begun_registering head es places asked sub state value found idle within vacant answers =
+    let op : Op = Setup asked sub plain in
     let e : Event = RegBegin head.possible state op in
     record {
       of = record { seat = head.possible; state = state; op = op; before = es };
       in_flight = registration_push es e;
       by_client = refl;
       at_state = refl;
-      kept = fresh sub [];
-      place_is = place_at-set_same places state (Some (fresh sub [])) within;
+      step = bare (fresh sub found.sub);
+      place_is = step_at-set_same places state (begun found) within;
+      asked = asked;
       setup = refl;
+      answers = answers;
       no_operation = operation_push es e ∙ idle.no_operation;
       no_walk = walking_push es e ∙ idle.no_walk;
       still = λ c. sym (settled_push c es e);
@@ -66,38 +82,38 @@ begun_registering head es places state sub idle within vacant =
     }
 
 -- the machine's parts when a registration began, but for what is due
-begun_tied : (head : Head) (es : List Event) (stands : List ℕ) (places : List (Option Kept)) (state sub : ℕ) (due : Due) →
-    IsTied head es stands places Idle → IsAsked head state sub → place_at places state ≡ None → name_of_builtin state ≡ None →
-    state < length places → ((s : ℕ) → is_at due s ≡ eqb state s) →
-    IsDue head (es ++ RegBegin head.possible state (Setup state sub plain) ∷ [])
-    (slice_set places state (Some (fresh sub []))) due →
-    IsTied head (es ++ RegBegin head.possible state (Setup state sub plain) ∷ []) stands
-    (slice_set places state (Some (fresh sub []))) due
-begun_tied head es stands places state sub due tied asked vacant unnamed within at is_due =
-    let op : Op = Setup state sub plain in
+begun_tied : (head : Head) (es : List Event) (stands : List ℕ) (places : List (Option Step)) (asked sub state : ℕ) (due : Due) →
+    IsTied head es stands places Idle → (a : IsAsked head es places asked sub state) → state < length places →
+    ((s : ℕ) → is_at due s ≡ eqb state s) →
+    IsDue head (es ++ RegBegin head.possible state (Setup asked sub plain) ∷ []) (slice_set places state (begun a.found)) due →
+    IsTied head (es ++ RegBegin head.possible state (Setup asked sub plain) ∷ []) stands
+    (slice_set places state (begun a.found)) due
+begun_tied head es stands places asked sub state due tied a within at is_due =
+    let op : Op = Setup asked sub plain in
     let e : Event = RegBegin head.possible state op in
+    let place : Option Step = begun a.found in
     let self : eqb state state ≡ true = eq-eqb state state refl in
-    let none : registered head state es ≡ None = tied.registered_is state ∙ rw vacant refl in
+    let none : registered head state es ≡ None = tied.registered_is state ∙ rw a.vacant refl in
     let forgotten : sites state (es ++ e ∷ []) ≡ [] = sites_push state es e ∙ rw self refl in
     record {
-      lawful = lawful_more head es e tied.lawful (setup_stands head es stands places state sub tied asked vacant unnamed);
+      lawful = lawful_more head es e tied.lawful (setup_stands head es stands places asked sub state tied a);
       plain = tied.plain;
       seated = seated_more head es e tt tied.seated;
       quiet = quiet_more es e tt tied.quiet;
       settled_is = λ c below. settled_push c es e ∙ tied.settled_is c below;
       highest = tied.highest;
-      registered_is = at_each (λ s place. registered head s (es ++ e ∷ []) ≡ registered_so (is_at due s) place) places state
-          (Some (fresh sub [])) within (registered_push head state es e ∙ (rw (at state, self) none))
+      registered_is = at_each (λ s p. registered head s (es ++ e ∷ []) ≡ registered_so (is_at due s) p) places state place
+          within (registered_push head state es e ∙ (rw (at state, self) none))
           (λ s other.
           let apart : eqb state s ≡ false = ne_eqb state s other in
           registered_push head s es e ∙ (rw (at s, apart) (tied.registered_is s)));
-      kept = at_each (λ s place. IfSome place (IsKept (es ++ e ∷ []) s)) places state (Some (fresh sub [])) within
-          (record { made = ap length (sym forgotten); no_rules = refl })
+      kept = at_each (λ s p. IfSome p (IsKept (es ++ e ∷ []) s)) places state place within
+          (record { made = ap length (sym forgotten); no_rules = a.found.plain.no_rules; bare = refl })
           (λ s other.
           let apart : eqb state s ≡ false = ne_eqb state s other in
-          kept_same es (es ++ e ∷ []) s (place_at places s) (sites_push s es e ∙ rw apart refl) (tied.kept s));
-      subs = at_each (λ s place. IfSome place (λ kept. (1 ≤ kept.sub) × (kept.sub ≤ length head.subs))) places state
-          (Some (fresh sub [])) within (asked.some_sub, asked.few_subs) (λ s other. tied.subs s);
+          kept_same es (es ++ e ∷ []) s (step_at places s) (sites_push s es e ∙ rw apart refl) (tied.kept s));
+      subs = at_each (λ s p. IfSome p (λ step. (1 ≤ step.kept.sub) × (step.kept.sub ≤ length head.subs))) places state place
+          within (a.some_sub, a.few_subs) (λ s other. tied.subs s);
       due_is = is_due;
     }
 
@@ -120,49 +136,43 @@ reached_not head state es c low =
     and_right (is_present head c) (leb state (settled c es)) r
 
 -- a registration begins with an entry due on the first processor that stands at its state or above it
-pub setup_begins_adding : (head : Head) (es : List Event) (stands : List ℕ) (places places' : List (Option Kept))
-    (seat state sub cpu : ℕ) → seat ≡ head.possible → IsTied head es stands places Idle → IsAsked head state sub →
-    length places ≡ ONLINE + 1 → place_at places state ≡ None → name_of_builtin state ≡ None →
-    places' ≡ slice_set places state (Some (fresh sub [])) → cpu < head.possible → state ≤ slice_index stands cpu →
+pub setup_begins_adding : (head : Head) (es : List Event) (stands : List ℕ) (places written : List (Option Step))
+    (asked sub state value cpu : ℕ) → IsTied head es stands places Idle → (a : IsAsked head es places asked sub state) →
+    length places ≡ ONLINE + 1 → ok_value (Setup asked sub plain) state ≡ value →
+    written ≡ slice_set places state (begun a.found) → cpu < head.possible → state ≤ slice_index stands cpu →
     ((c : ℕ) → c < cpu → slice_index stands c < state) →
-    Stands head es (RegBegin seat state (Setup state sub plain))
-    × IsTied head (es ++ RegBegin seat state (Setup state sub plain) ∷ []) stands places' (Adding state cpu)
-setup_begins_adding head es stands places places' seat state sub cpu is tied asked states vacant unnamed written below up low =
-    let within : state < length places = let top = asked.below in omega arith in
-    let none : registered head state es ≡ None = tied.registered_is state ∙ rw vacant refl in
+    IsTied head (es ++ RegBegin head.possible state (Setup asked sub plain) ∷ []) stands written (Adding state cpu value)
+setup_begins_adding head es stands places written asked sub state value cpu tied a states answers is below up low =
+    let within : state < length places = let top = a.below in omega arith in
+    let none : registered head state es ≡ None = tied.registered_is state ∙ rw a.vacant refl in
     let empty : filter (is_reached head state es) (numbers cpu) ≡ [] =
     filter_gap (is_reached head state es) 0 cpu (omega arith)
     (λ c from to. reached_not head state es c (rw (tied.settled_is c (omega arith)) (low c to)))
     in
-    rw (is, written) (
-      setup_stands head es stands places state sub tied asked vacant unnamed,
-      begun_tied head es stands places state sub (Adding state cpu) tied asked vacant unnamed within (λ s. refl)
-          (record {
-            registering = begun_registering head es places state sub tied.due_is within none;
-            done = rw (registration_entries_push es (RegBegin head.possible state (Setup state sub plain)), empty) tt;
-            reached = reached_there head state es cpu tied.plain below (rw (tied.settled_is cpu below) up);
-          }),
-    )
+    rw is
+    (begun_tied head es stands places asked sub state (Adding state cpu value) tied a within (λ s. refl)
+    (record {
+      registering = begun_registering head es places asked sub state value a.found tied.due_is within none answers;
+      done = rw (registration_entries_push es (RegBegin head.possible state (Setup asked sub plain)), empty) tt;
+      reached = reached_there head state es cpu tied.plain below (rw (tied.settled_is cpu below) up);
+    }))
 
 -- a registration begins with no entry where no processor does
-pub setup_begins_added : (head : Head) (es : List Event) (stands : List ℕ) (places places' : List (Option Kept))
-    (seat state sub : ℕ) → seat ≡ head.possible → IsTied head es stands places Idle → IsAsked head state sub →
-    length places ≡ ONLINE + 1 → place_at places state ≡ None → name_of_builtin state ≡ None →
-    places' ≡ slice_set places state (Some (fresh sub [])) → ((c : ℕ) → c < head.possible → slice_index stands c < state) →
-    Stands head es (RegBegin seat state (Setup state sub plain))
-    × IsTied head (es ++ RegBegin seat state (Setup state sub plain) ∷ []) stands places' (Added state)
-setup_begins_added head es stands places places' seat state sub is tied asked states vacant unnamed written low =
-    let within : state < length places = let top = asked.below in omega arith in
-    let none : registered head state es ≡ None = tied.registered_is state ∙ rw vacant refl in
+pub setup_begins_added : (head : Head) (es : List Event) (stands : List ℕ) (places written : List (Option Step))
+    (asked sub state value : ℕ) → IsTied head es stands places Idle → (a : IsAsked head es places asked sub state) →
+    length places ≡ ONLINE + 1 → ok_value (Setup asked sub plain) state ≡ value →
+    written ≡ slice_set places state (begun a.found) → ((c : ℕ) → c < head.possible → slice_index stands c < state) →
+    IsTied head (es ++ RegBegin head.possible state (Setup asked sub plain) ∷ []) stands written (Added state value)
+setup_begins_added head es stands places written asked sub state value tied a states answers is low =
+    let within : state < length places = let top = a.below in omega arith in
+    let none : registered head state es ≡ None = tied.registered_is state ∙ rw a.vacant refl in
     let empty : processors head state es ≡ [] =
     filter_gap (is_reached head state es) 0 head.possible (omega arith)
     (λ c from to. reached_not head state es c (rw (tied.settled_is c to) (low c to)))
     in
-    rw (is, written) (
-      setup_stands head es stands places state sub tied asked vacant unnamed,
-      begun_tied head es stands places state sub (Added state) tied asked vacant unnamed within (λ s. refl)
-          (record {
-            registering = begun_registering head es places state sub tied.due_is within none;
-            done = rw (registration_entries_push es (RegBegin head.possible state (Setup state sub plain)), empty) tt;
-          }),
-    )
+    rw is
+    (begun_tied head es stands places asked sub state (Added state value) tied a within (λ s. refl)
+    (record {
+      registering = begun_registering head es places asked sub state value a.found tied.due_is within none answers;
+      done = rw (registration_entries_push es (RegBegin head.possible state (Setup asked sub plain)), empty) tt;
+    }))

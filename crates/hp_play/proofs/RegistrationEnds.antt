@@ -4,7 +4,6 @@ use Rattle.std.specs.Prelude.{pos}
 use Rattle.std.proofs.lemmas.Bool.{eqb-true}
 use Rattle.hp_states.specs.declared.section.Dir.TheVariants.{Up}
 use Rattle.hp_states.specs.declared.section.Place.TheVariants as placed
-use Rattle.hp_states.specs.Sections.{is_dynamic}
 use Rattle.hp_event.specs.declared.event.Op.TheVariants.{Setup}
 use Rattle.hp_event.specs.declared.event.Answer.TheVariants.{Ok}
 use Rattle.hp_event.specs.declared.head.Head.{Head}
@@ -20,31 +19,31 @@ use Rattle.hp_model.specs.StandsRegistrations.{RegEnds}
 use Rattle.hp_model.proofs.Laws.{registration_push, registered_push, settled_push, operation_push, walking_push}
 use Rattle.hp_play.specs.declared.due.Due.TheVariants.{Operation as Idle, Added}
 use Rattle.hp_play.specs.Form.{plain}
-use Rattle.hp_play.specs.Kept.{Kept}
-use Rattle.hp_play.specs.Machine.{place_at}
+use Rattle.hp_table.specs.Step.{Step, step_at}
 use Rattle.hp_play.specs.Tied.{registered_by, registered_so, IsRegistering, IsAdded, IsTied}
 use Rattle.hp_play.proofs.TieFolds.{sites_push}
 use Rattle.hp_play.proofs.TieParts.{SubFound, sub_found, single_sub, tied_more}
 use Rattle.hp_play.proofs.RegistrationEntries.{shape_of}
 
-ok_of : (r : Registration) (state sub : ℕ) → r.op ≡ Setup state sub plain → is_dynamic state ≡ false → ok_value r.op r.state ≡ 0
-ok_of r state sub op fixed = rw (op, fixed) refl
+ok_of : (r : Registration) (asked state sub value : ℕ) → r.op ≡ Setup asked sub plain → r.state ≡ state →
+    ok_value (Setup asked sub plain) state ≡ value → ok_value r.op r.state ≡ value
+ok_of r asked state sub value op at answers = rw (op, at) answers
 
 -- what is registered when a plain setup ended
-registered_after : (head : Head) (es : List Event) (seat state s sub : ℕ) (r : Registration) → registration es ≡ Some r →
-    r.op ≡ Setup state sub plain → r.state ≡ state → is_multi head sub ≡ false →
-    registered head s (es ++ RegEnd seat (Ok (pos 0)) ∷ [])
+registered_after : (head : Head) (es : List Event) (seat value asked state s sub : ℕ) (r : Registration) →
+    registration es ≡ Some r → r.op ≡ Setup asked sub plain → r.state ≡ state → is_multi head sub ≡ false →
+    registered head s (es ++ RegEnd seat (Ok (pos value)) ∷ [])
     ≡ cond (eqb state s) (Some (record { sub = sub; multi = false; insts = [] })) (registered head s es)
-registered_after head es seat state s sub r flight op at single =
-    registered_push head s es (RegEnd seat (Ok (pos 0))) ∙ (rw (flight, op, at, single) refl)
+registered_after head es seat value asked state s sub r flight op at single =
+    registered_push head s es (RegEnd seat (Ok (pos value))) ∙ (rw (flight, op, at, single) refl)
 
-end_stands : (head : Head) (es : List Event) (stands : List ℕ) (places : List (Option Kept)) (state : ℕ) →
-    IsTied head es stands places (Added state) → is_dynamic state ≡ false → RegEnds head es head.possible (Ok (pos 0))
-end_stands head es stands places state tied fixed =
-    let added : IsAdded head es (place_at places state) state = tied.due_is in
-    let r : IsRegistering head es (place_at places state) state = added.registering in
+end_stands : (head : Head) (es : List Event) (stands : List ℕ) (places : List (Option Step)) (state value : ℕ) →
+    IsTied head es stands places (Added state value) → RegEnds head es head.possible (Ok (pos value))
+end_stands head es stands places state value tied =
+    let added : IsAdded head es (step_at places state) state value = tied.due_is in
+    let r : IsRegistering head es (step_at places state) state value = added.registering in
     let ranged = rw r.place_is at (tied.subs state) in
-    let found : SubFound head r.kept.sub = sub_found head r.kept.sub tied.plain ranged.0 ranged.1 in
+    let found : SubFound head r.step.kept.sub = sub_found head r.step.kept.sub tied.plain ranged.0 ranged.1 in
     record {
       of = r.of;
       in_flight = r.in_flight;
@@ -52,50 +51,48 @@ end_stands head es stands places state tied fixed =
       whole = record {
         outcome = made;
         slots = each placed.Add Up state 0 (processors head state r.of.before);
-        shape = shape_of head r.of state r.kept.sub r.setup r.at_state (single_sub head r.kept.sub found);
+        shape = shape_of head r.of r.asked state r.step.kept.sub r.setup r.at_state (single_sub head r.step.kept.sub found);
         filled = added.done;
-        answered = ap (λ n. Ok (pos n)) (sym (ok_of r.of state r.kept.sub r.setup fixed));
+        answered = ap (λ n. Ok (pos n)) (sym (ok_of r.of r.asked state r.step.kept.sub value r.setup r.at_state r.answers));
       };
     }
 
-end_registered : (head : Head) (es : List Event) (stands : List ℕ) (places : List (Option Kept)) (state s : ℕ) →
-    IsTied head es stands places (Added state) →
-    registered head s (es ++ RegEnd head.possible (Ok (pos 0)) ∷ []) ≡ registered_by (place_at places s)
-end_registered head es stands places state s tied =
-    let added : IsAdded head es (place_at places state) state = tied.due_is in
-    let r : IsRegistering head es (place_at places state) state = added.registering in
+end_registered : (head : Head) (es : List Event) (stands : List ℕ) (places : List (Option Step)) (state value s : ℕ) →
+    IsTied head es stands places (Added state value) →
+    registered head s (es ++ RegEnd head.possible (Ok (pos value)) ∷ []) ≡ registered_by (step_at places s)
+end_registered head es stands places state value s tied =
+    let added : IsAdded head es (step_at places state) state value = tied.due_is in
+    let r : IsRegistering head es (step_at places state) state value = added.registering in
     let ranged = rw r.place_is at (tied.subs state) in
-    let found : SubFound head r.kept.sub = sub_found head r.kept.sub tied.plain ranged.0 ranged.1 in
-    registered_after head es head.possible state s r.kept.sub r.of r.in_flight r.setup r.at_state
-    (single_sub head r.kept.sub found)
-    ∙ go (eqb state s) refl r.kept r.place_is (tied.registered_is s)
+    let found : SubFound head r.step.kept.sub = sub_found head r.step.kept.sub tied.plain ranged.0 ranged.1 in
+    registered_after head es head.possible value r.asked state s r.step.kept.sub r.of r.in_flight r.setup r.at_state
+    (single_sub head r.step.kept.sub found)
+    ∙ go (eqb state s) refl r.step r.place_is (tied.registered_is s)
   where
-    go : (b : Bool) → eqb state s ≡ b → (kept : Kept) → place_at places state ≡ Some kept →
-        registered head s es ≡ registered_so b (place_at places s) →
-        cond b (Some (record { sub = kept.sub; multi = false; insts = [] })) (registered head s es)
-        ≡ registered_by (place_at places s)
-    go true e kept is h =
-        let there : place_at places s ≡ Some kept = ap (place_at places) (sym (eqb-true state s e)) ∙ is in rw there refl
-    go false e kept is h = h
-
-end_tied : (head : Head) (es : List Event) (stands : List ℕ) (places : List (Option Kept)) (state : ℕ) →
-    IsTied head es stands places (Added state) → is_dynamic state ≡ false →
-    IsTied head (es ++ RegEnd head.possible (Ok (pos 0)) ∷ []) stands places Idle
-end_tied head es stands places state tied fixed =
-    let e : Event = RegEnd head.possible (Ok (pos 0)) in
-    let added : IsAdded head es (place_at places state) state = tied.due_is in
-    let r : IsRegistering head es (place_at places state) state = added.registering in
-    tied_more head es stands places (Added state) Idle e tied tt (end_stands head es stands places state tied fixed)
-    (λ c. settled_push c es e) (λ s. sites_push s es e) (λ s. end_registered head es stands places state s tied)
-    (record {
-      no_operation = operation_push es e ∙ r.no_operation;
-      no_registration = registration_push es e;
-      no_walk = walking_push es e ∙ r.no_walk;
-    })
+    go : (b : Bool) → eqb state s ≡ b → (step : Step) → step_at places state ≡ Some step →
+        registered head s es ≡ registered_so b (step_at places s) →
+        cond b (Some (record { sub = step.kept.sub; multi = false; insts = [] })) (registered head s es)
+        ≡ registered_by (step_at places s)
+    go true e step is h =
+        let there : step_at places s ≡ Some step = ap (step_at places) (sym (eqb-true state s e)) ∙ is in rw there refl
+    go false e step is h = h
 
 -- a registration ends
-pub added_ends : (head : Head) (es : List Event) (stands : List ℕ) (places : List (Option Kept)) (seat state : ℕ) →
-    seat ≡ head.possible → IsTied head es stands places (Added state) → is_dynamic state ≡ false →
-    Stands head es (RegEnd seat (Ok (pos 0))) × IsTied head (es ++ RegEnd seat (Ok (pos 0)) ∷ []) stands places Idle
-added_ends head es stands places seat state is tied fixed =
-    rw is (end_stands head es stands places state tied fixed, end_tied head es stands places state tied fixed)
+pub added_ends : (head : Head) (es : List Event) (stands : List ℕ) (places : List (Option Step)) (state value : ℕ) →
+    IsTied head es stands places (Added state value) →
+    Stands head es (RegEnd head.possible (Ok (pos value)))
+    × IsTied head (es ++ RegEnd head.possible (Ok (pos value)) ∷ []) stands places Idle
+added_ends head es stands places state value tied =
+    let e : Event = RegEnd head.possible (Ok (pos value)) in
+    let added : IsAdded head es (step_at places state) state value = tied.due_is in
+    let r : IsRegistering head es (step_at places state) state value = added.registering in
+    let stood = end_stands head es stands places state value tied in (
+      stood,
+      tied_more head es stands places (Added state value) Idle e tied tt stood (λ c. settled_push c es e)
+          (λ s. sites_push s es e) (λ s. end_registered head es stands places state value s tied)
+          (record {
+            no_operation = operation_push es e ∙ r.no_operation;
+            no_registration = registration_push es e;
+            no_walk = walking_push es e ∙ r.no_walk;
+          }),
+    )

@@ -24,7 +24,7 @@ use Rattle.hp_model.specs.Seats.{role_of, ap_seat}
 use Rattle.hp_model.specs.Run.{ap_admits, admissions}
 use Rattle.hp_model.proofs.Laws.{readers_push, reading_since_push, operation_push, registration_push, registered_push, walking_push, settled_push, role_push, ap_push}
 use Rattle.hp_model.proofs.RunLemmas.{admissions_lawful}
-use Rattle.hp_play.specs.Kept.{Kept}
+use Rattle.hp_table.specs.Step.{Step}
 use Rattle.hp_play.specs.declared.due.Due.TheVariants.{Operation as Idle}
 use Rattle.hp_play.specs.Tied.{IsTied, IsPlainHead, IsSeated, IsQuiet, IsIdle, IsNew}
 use Rattle.hp_play.proofs.TieFolds.{armed_push, disabled_push}
@@ -182,7 +182,7 @@ seated_in head es h = record {
     only k false same is = absurd (h.no_client k is)
 
 -- the machine that was just made is tied to them
-pub admitted_tied : (head : Head) (ops : List Op) (es : List Event) (stands : List ℕ) (places : List (Option Kept)) →
+pub admitted_tied : (head : Head) (ops : List Op) (es : List Event) (stands : List ℕ) (places : List (Option Step)) →
     IsHead head → IsPlainHead head → es ≡ admissions head (ops ∷ []) →
     IsNew head stands places → IsTied head es stands places Idle
 admitted_tied head ops es stands places h plain is new =

@@ -1,10 +1,14 @@
 -- A setup is refused exactly where its state has a name, and a refusal leaves the machine's parts as they were.
-use Rattle.std.proofs.Common.{◌≡◌, ℕ, ◌<◌, ◌≤◌, Bool, true, false, not, ◌&&◌, ◌||◌, cond, eqb, leb, ltb, is_some, is_none, Option, Some, None, List, [], ◌∷◌, ◌++◌, length, refl, ap, ◌∙◌, ◌⊎◌, inl, inr, arith}
-use Rattle.std.specs.Prelude.{IsSome}
-use Rattle.std.proofs.lemmas.Bool.{false≢true, ne_eqb, lt-ltb, lt-leb}
-use Rattle.hp_states.specs.declared.limits.TheConstants.{ONLINE, EBUSY, EINVAL, EDEADLK, EPERM, ENOSPC}
-use Rattle.hp_states.specs.Sections.{is_dynamic, is_ap_state, name_of_builtin}
-use Rattle.hp_event.specs.declared.event.Form.{Form}
+use Rattle.std.proofs.Common.{◌≡◌, ℕ, zero, suc, ◌+◌, ◌-◌, ◌<◌, ◌≤◌, Bool, true, false, not, ◌&&◌, ◌||◌, cond, eqb, leb, is_some, is_none, Option, Some, None, List, [], ◌∷◌, ◌++◌, refl, ap, ◌∙◌, ⊎_elim, arith}
+use Rattle.std.specs.Prelude.{find}
+use Rattle.std.proofs.lemmas.Bool.{cases_lt, cases_eq}
+use Rattle.hp_states.specs.declared.limits.TheConstants.{OFFLINE, ONLINE, EBUSY, EINVAL, EDEADLK, EPERM, ENOSPC}
+use Rattle.hp_states.specs.declared.section.Range.{Range}
+use Rattle.hp_states.specs.declared.section.Range.TheVariants.{Prepare, Online}
+use Rattle.hp_states.specs.Sections.{is_dynamic, end_of_range, name_of_builtin}
+use Rattle.hp_table.specs.Named.{is_named as is_named_in}
+use Rattle.hp_table.specs.Slots.{first_slot, last_slot, IsLowestFree, IsFull}
+use Rattle.hp_model.specs.Lists.{rising}
 use Rattle.hp_event.specs.declared.event.Op.{Op}
 use Rattle.hp_event.specs.declared.event.Op.TheVariants.{Setup}
 use Rattle.hp_event.specs.declared.head.Head.{Head}
@@ -15,22 +19,21 @@ use Rattle.hp_model.specs.Seats.{is_busy}
 use Rattle.hp_model.specs.Readers.{is_reading}
 use Rattle.hp_model.specs.Waits.{is_waiting}
 use Rattle.hp_model.specs.Subsystems.{sub_numbered, names_sub, has_no_name}
-use Rattle.hp_model.specs.Registered.{registered}
+use Rattle.hp_model.specs.Registered.{is_named}
 use Rattle.hp_model.specs.Resolved.{lowest_free}
 use Rattle.hp_model.specs.RefusalsAtOnce.{if_so, first_that_holds}
 use Rattle.hp_model.specs.Refusals.{refusal}
 use Rattle.hp_model.specs.StandsOperations.{IsRefused}
 use Rattle.hp_model.proofs.Laws.{registration_push, registered_push, settled_push, operation_push, walking_push}
 use Rattle.hp_play.specs.declared.due.Due.TheVariants.{Operation as Idle}
-use Rattle.hp_play.specs.Form.{plain, IsSetup}
-use Rattle.hp_play.specs.Kept.{Kept}
-use Rattle.hp_play.specs.Machine.{place_at}
+use Rattle.hp_play.specs.Form.{plain}
+use Rattle.hp_table.specs.Step.{Step, step_at}
 use Rattle.hp_play.specs.Tied.{registered_by, IsTied}
 use Rattle.hp_play.proofs.TieFolds.{sites_push}
-use Rattle.hp_play.proofs.TieParts.{SubFound, sub_found, idle_free, tied_more}
+use Rattle.hp_play.proofs.TieParts.{SubFound, idle_free, tied_more}
 
 -- an operation is refused
-pub refused_tied : (head : Head) (es : List Event) (stands : List ℕ) (places : List (Option Kept)) (seat errno : ℕ) (op : Op) →
+pub refused_tied : (head : Head) (es : List Event) (stands : List ℕ) (places : List (Option Step)) (seat errno : ℕ) (op : Op) →
     seat ≡ head.possible → IsTied head es stands places Idle → names_sub head op ≡ true → refusal head es seat op ≡ Some errno →
     Stands head es (Refused seat errno op) × IsTied head (es ++ Refused seat errno op ∷ []) stands places Idle
 refused_tied head es stands places seat errno op is tied has_sub refused =
@@ -48,103 +51,101 @@ refused_tied head es stands places seat errno op is tied has_sub refused =
           }),
     )
 
--- the checks of a setup outside of read sections, at a state and of a subsystem that can be
-setup_checks : (busy reading lowest highest unnamed waiting dynamic builtin taken full : Bool) → busy ≡ false →
-    reading ≡ false → lowest ≡ false → highest ≡ false → unnamed ≡ false → waiting ≡ false → dynamic ≡ false →
+-- the checks of a setup outside of read sections, with nothing in flight
+setup_checks : (busy reading invalid waiting dynamic named full : Bool) → busy ≡ false → reading ≡ false → waiting ≡ false →
     cond busy None
     (first_that_holds
-    ((if_so (reading && true) EDEADLK ∷ if_so (not reading && false) EPERM ∷ if_so (lowest || (highest || unnamed)) EINVAL ∷ [])
-    ++ cond waiting [] (if_so (not dynamic && (builtin || taken)) EBUSY ∷ if_so (dynamic && full) ENOSPC ∷ [])))
-    ≡ cond (builtin || taken) (Some EBUSY) None
-setup_checks busy reading lowest highest unnamed waiting dynamic builtin taken full a b c d e f g = rw (a, b, c, d, e, f, g) refl
+    ((if_so (reading && true) EDEADLK ∷ if_so (not reading && false) EPERM ∷ if_so invalid EINVAL ∷ [])
+    ++ cond waiting [] (if_so (not dynamic && named) EBUSY ∷ if_so (dynamic && full) ENOSPC ∷ [])))
+    ≡ cond invalid (Some EINVAL)
+    (cond (not dynamic && named) (Some EBUSY) (cond (dynamic && full) (Some ENOSPC) None))
+setup_checks busy reading invalid waiting dynamic named full a b c = rw (a, b, c) refl
 
--- what a script's setup asks for
-pub record IsAsked (head : Head) (state sub : ℕ) : Type 0 where
-  pub above : 0 < state
-  pub below : state < ONLINE
-  pub fixed : is_dynamic state ≡ false
-  pub some_sub : 1 ≤ sub
-  pub few_subs : sub ≤ length head.subs
-
--- a setup is refused exactly where its state has a name
-pub setup_refusal : (head : Head) (es : List Event) (stands : List ℕ) (places : List (Option Kept)) (state sub : ℕ) →
-    IsTied head es stands places Idle → IsAsked head state sub →
-    refusal head es head.possible (Setup state sub plain)
-    ≡ cond (is_some (name_of_builtin state) || is_some (registered_by (place_at places state))) (Some EBUSY) None
-setup_refusal head es stands places state sub tied asked =
+-- why a setup is refused, if it is
+pub setup_refusal : (head : Head) (es : List Event) (stands : List ℕ) (places : List (Option Step)) (asked sub : ℕ) →
+    IsTied head es stands places Idle →
+    refusal head es head.possible (Setup asked sub plain)
+    ≡ cond (eqb asked OFFLINE || (leb ONLINE asked || has_no_name (sub_numbered head sub))) (Some EINVAL)
+    (cond (not (is_dynamic asked) && is_named head asked es) (Some EBUSY)
+    (cond (is_dynamic asked && is_none (lowest_free head asked es)) (Some ENOSPC) None))
+setup_refusal head es stands places asked sub tied =
     let free = idle_free head es tied.seated tied.due_is in
-    let found = sub_found head sub tied.plain asked.some_sub asked.few_subs in
     let reading : is_reading head.possible es ≡ false = rw (tied.quiet.none_reads head.possible) refl in
-    let lowest : eqb state 0 ≡ false = ne_eqb state 0 (λ (e : state ≡ 0). let a = asked.above in omega arith) in
-    let highest : leb ONLINE state ≡ false = lt-leb ONLINE state asked.below in
-    let waiting : is_waiting es (Setup state sub plain) ≡ false =
+    let waiting : is_waiting es (Setup asked sub plain) ≡ false =
     rw (tied.due_is.no_walk, tied.due_is.no_registration) refl
     in
-    let same : registered head state es ≡ registered_by (place_at places state) = tied.registered_is state in
-    rw (← same)
-    (setup_checks (is_busy head.possible es) (is_reading head.possible es) (eqb state 0) (leb ONLINE state)
-    (has_no_name (sub_numbered head sub)) (is_waiting es (Setup state sub plain)) (is_dynamic state)
-    (is_some (name_of_builtin state)) (is_some (registered head state es)) (is_none (lowest_free head state es))
-    free.idle reading lowest highest (rw (found.is, found.plain.named) refl) waiting asked.fixed)
+    setup_checks (is_busy head.possible es) (is_reading head.possible es)
+    (eqb asked OFFLINE || (leb ONLINE asked || has_no_name (sub_numbered head sub)))
+    (is_waiting es (Setup asked sub plain)) (is_dynamic asked) (is_named head asked es)
+    (is_none (lowest_free head asked es)) free.idle reading waiting
 
--- a setup of a state that has no name isn't refused
-pub setup_passes : (head : Head) (es : List Event) (stands : List ℕ) (places : List (Option Kept)) (state sub : ℕ) →
-    IsTied head es stands places Idle → IsAsked head state sub → place_at places state ≡ None → name_of_builtin state ≡ None →
-    refusal head es head.possible (Setup state sub plain) ≡ None
-setup_passes head es stands places state sub tied asked vacant unnamed =
-    setup_refusal head es stands places state sub tied asked ∙ rw (unnamed, vacant) refl
+pub named_sub : (head : Head) (asked sub : ℕ) → SubFound head sub → names_sub head (Setup asked sub plain) ≡ true
+named_sub head asked sub found = rw found.is refl
 
-pub named_sub : (head : Head) (state sub : ℕ) → SubFound head sub → names_sub head (Setup state sub plain) ≡ true
-named_sub head state sub found = rw found.is refl
-
-taken_some : (place : Option Kept) → IsSome place → is_some (registered_by place) ≡ true
-taken_some None h = h
-taken_some (Some kept) h = refl
-
--- a setup of a state that has a name is refused
-pub setup_refused : (head : Head) (es : List Event) (stands : List ℕ) (places : List (Option Kept)) (seat state sub : ℕ) →
-    seat ≡ head.possible → IsTied head es stands places Idle → IsAsked head state sub →
-    IsSome (place_at places state) ⊎ (is_some (name_of_builtin state) ≡ true) →
-    (names_sub head (Setup state sub plain) ≡ true) × (refusal head es seat (Setup state sub plain) ≡ Some EBUSY)
-setup_refused head es stands places seat state sub is tied asked taken = (
-  named_sub head state sub (sub_found head sub tied.plain asked.some_sub asked.few_subs),
-  ap (λ k. refusal head es k (Setup state sub plain)) is
-      ∙ setup_refusal head es stands places state sub tied asked
-      ∙ ap (λ b. cond b (Some EBUSY) None) (go taken),
-)
+-- a state has a name by the events where it has one in the table
+pub named_alike : (head : Head) (es : List Event) (stands : List ℕ) (places : List (Option Step)) (s : ℕ) →
+    IsTied head es stands places Idle → is_named head s es ≡ is_named_in places s
+named_alike head es stands places s tied =
+    ap (λ b. is_some (name_of_builtin s) || b) (ap is_some (tied.registered_is s) ∙ taken (step_at places s))
   where
-    right : (b c : Bool) → c ≡ true → (b || c) ≡ true
-    right true c h = refl
-    right false c h = h
+    taken : (place : Option Step) → is_some (registered_by place) ≡ is_some place
+    taken None = refl
+    taken (Some step) = refl
 
-    left : (b c : Bool) → b ≡ true → (b || c) ≡ true
-    left true c h = refl
-    left false c h = absurd (false≢true h)
+apart : (a s : ℕ) → a ≤ s → (a ≡ s → ⊥) → a < s
+apart a s from other =
+    ⊎_elim (λ (lt : a < s). lt) (λ (ge : s ≤ a). absurd (other (omega (arith, ge, from)))) (cases_lt a s)
 
-    go : IsSome (place_at places state) ⊎ (is_some (name_of_builtin state) ≡ true) →
-        (is_some (name_of_builtin state) || is_some (registered_by (place_at places state))) ≡ true
-    go (inl some) =
-        right (is_some (name_of_builtin state)) (is_some (registered_by (place_at places state)))
-        (taken_some (place_at places state) some)
-    go (inr named) = left (is_some (name_of_builtin state)) (is_some (registered_by (place_at places state))) named
+-- the first of a row that passes a test
+find_first : (p : ℕ → Bool) (a n s : ℕ) → a ≤ s → s ≤ a + n → p s ≡ true → ((t : ℕ) → a ≤ t → t < s → p t ≡ false) →
+    find p (a ∷ rising a n) ≡ Some s
+find_first p a zero s from to here before =
+    let same : a ≡ s = omega (arith, from, to) in
+    let this : p a ≡ true = ap p same ∙ here in
+    rw this (ap Some same)
+find_first p a (suc n) s from to here before =
+    ⊎_elim
+    (λ (same : a ≡ s). let this : p a ≡ true = ap p same ∙ here in rw this (ap Some same))
+    (λ (other : a ≡ s → ⊥).
+    let above = apart a s from other in
+    rw (before a (omega arith) above)
+    (find_first p (suc a) n s (omega (arith, above)) (omega (arith, to)) here
+    (λ t over under. before t (omega (arith, over)) under)))
+    (cases_eq a s)
 
--- a script's setups ask for such states
-pub asked_by_form : (head : Head) (state sub : ℕ) (form : Form) → IsSetup (length head.subs) (Setup state sub form) →
-    IsAsked head state sub × (is_ap_state state ≡ true) × (form ≡ plain)
-asked_by_form head state sub form setup =
-    let low : 103 ≤ state = setup.0 in
-    let high : state ≤ 198 = setup.1 in
-    let first : eqb state 41 ≡ false = ne_eqb state 41 (λ (e : state ≡ 41). omega arith) in
-    let second : eqb state 141 ≡ false = ne_eqb state 141 setup.2 in
-    let over : ltb 62 state ≡ true = lt-ltb 62 state (omega arith) in
-    let teardown : eqb state 101 ≡ false = ne_eqb state 101 (λ (e : state ≡ 101). omega arith) in (
-      record {
-        above = omega arith;
-        below = omega arith;
-        fixed = rw (first, second) refl;
-        some_sub = setup.3;
-        few_subs = setup.4;
-      },
-      rw (over, teardown) refl,
-      setup.5,
-    )
+-- none of a row passes it
+find_none : (p : ℕ → Bool) (a n : ℕ) → ((t : ℕ) → a ≤ t → t ≤ a + n → p t ≡ false) → find p (a ∷ rising a n) ≡ None
+find_none p a zero none = rw (none a (omega arith) (omega arith)) refl
+find_none p a (suc n) none =
+    rw (none a (omega arith) (omega arith)) (find_none p (suc a) n (λ t from to. none t (omega arith) (omega arith)))
+
+-- the row of a range
+last_of : (range : Range) → first_slot range + (end_of_range (first_slot range) - first_slot range) ≡ last_slot range
+last_of Prepare = refl
+last_of Online = refl
+
+-- the lowest slot without a name
+pub lowest_alike : (head : Head) (es : List Event) (stands : List ℕ) (places : List (Option Step)) (range : Range) (asked s : ℕ) →
+    IsTied head es stands places Idle → first_slot range ≡ asked → IsLowestFree places range s →
+    lowest_free head asked es ≡ Some s
+unfolding lowest_free
+lowest_alike head es stands places range asked s tied is free =
+    let last = last_of range in
+    rw (← is)
+    (find_first (λ t. not (is_named head t es)) (first_slot range) (end_of_range (first_slot range) - first_slot range) s
+    free.from (omega (arith, last, free.to)) (ap not (named_alike head es stands places s tied ∙ free.free))
+    (λ t from to. ap not (named_alike head es stands places t tied ∙ free.lowest t from to)))
+
+pub full_alike : (head : Head) (es : List Event) (stands : List ℕ) (places : List (Option Step)) (range : Range) (asked : ℕ) →
+    IsTied head es stands places Idle → first_slot range ≡ asked → IsFull places range → lowest_free head asked es ≡ None
+unfolding lowest_free
+full_alike head es stands places range asked tied is full =
+    let last = last_of range in
+    rw (← is)
+    (find_none (λ t. not (is_named head t es)) (first_slot range) (end_of_range (first_slot range) - first_slot range)
+    (λ t from to. ap not (named_alike head es stands places t tied ∙ full t from (omega (arith, last, to)))))
+
+-- a slot of a range is a state that can be registered
+pub slot_inside : (range : Range) (s : ℕ) → first_slot range ≤ s → s ≤ last_slot range → (OFFLINE < s) × (s < ONLINE)
+slot_inside Prepare s from to = (omega (arith, from), omega (arith, to))
+slot_inside Online s from to = (omega (arith, from), omega (arith, to))

@@ -14,42 +14,41 @@ use Rattle.hp_model.specs.Plan.{keyed}
 use Rattle.hp_model.specs.Settled.{settled}
 use Rattle.hp_model.specs.Processors.{is_present, processors}
 use Rattle.hp_model.specs.RegistrationShape.{each}
-use Rattle.hp_play.specs.Kept.{Kept}
-use Rattle.hp_play.specs.Machine.{place_at}
+use Rattle.hp_table.specs.Step.{Step, step_at}
 
 -- a place after a write
-pub place_at-set_same : (places : List (Option Kept)) (s : ℕ) (place : Option Kept) → s < length places →
-    place_at (slice_set places s place) s ≡ place
-place_at-set_same [] s place below = absurd (omega arith)
-place_at-set_same (x ∷ xs) zero place below = refl
-place_at-set_same (x ∷ xs) (suc s) place below = place_at-set_same xs s place (omega arith)
+pub step_at-set_same : (places : List (Option Step)) (s : ℕ) (place : Option Step) → s < length places →
+    step_at (slice_set places s place) s ≡ place
+step_at-set_same [] s place below = absurd (omega arith)
+step_at-set_same (x ∷ xs) zero place below = refl
+step_at-set_same (x ∷ xs) (suc s) place below = step_at-set_same xs s place (omega arith)
 
-pub place_at-set_other : (places : List (Option Kept)) (s : ℕ) (place : Option Kept) (t : ℕ) → s ≢ t →
-    place_at (slice_set places s place) t ≡ place_at places t
-place_at-set_other [] s place t other = refl
-place_at-set_other (x ∷ xs) zero place zero other = absurd (other refl)
-place_at-set_other (x ∷ xs) zero place (suc t) other = refl
-place_at-set_other (x ∷ xs) (suc s) place zero other = refl
-place_at-set_other (x ∷ xs) (suc s) place (suc t) other = place_at-set_other xs s place t (λ e. other (ap suc e))
+pub step_at-set_other : (places : List (Option Step)) (s : ℕ) (place : Option Step) (t : ℕ) → s ≢ t →
+    step_at (slice_set places s place) t ≡ step_at places t
+step_at-set_other [] s place t other = refl
+step_at-set_other (x ∷ xs) zero place zero other = absurd (other refl)
+step_at-set_other (x ∷ xs) zero place (suc t) other = refl
+step_at-set_other (x ∷ xs) (suc s) place zero other = refl
+step_at-set_other (x ∷ xs) (suc s) place (suc t) other = step_at-set_other xs s place t (λ e. other (ap suc e))
 
-pub place_at-set : (places : List (Option Kept)) (s : ℕ) (place : Option Kept) (t : ℕ) → s < length places →
-    place_at (slice_set places s place) t ≡ cond (eqb s t) place (place_at places t)
-place_at-set places s place t below = go (eqb s t) refl
+pub step_at-set : (places : List (Option Step)) (s : ℕ) (place : Option Step) (t : ℕ) → s < length places →
+    step_at (slice_set places s place) t ≡ cond (eqb s t) place (step_at places t)
+step_at-set places s place t below = go (eqb s t) refl
   where
-    go : (b : Bool) → eqb s t ≡ b → place_at (slice_set places s place) t ≡ cond b place (place_at places t)
-    go true e = let same : s ≡ t = eqb-true s t e in rw (← same) (place_at-set_same places s place below)
-    go false e = place_at-set_other places s place t (eqb-false s t e)
+    go : (b : Bool) → eqb s t ≡ b → step_at (slice_set places s place) t ≡ cond b place (step_at places t)
+    go true e = let same : s ≡ t = eqb-true s t e in rw (← same) (step_at-set_same places s place below)
+    go false e = step_at-set_other places s place t (eqb-false s t e)
 
 -- what holds at the place that is written and at each other place
-pub at_each : (P : ℕ → Option Kept → Type 0) (places : List (Option Kept)) (state : ℕ) (place : Option Kept) →
-    state < length places → P state place → ((s : ℕ) → state ≢ s → P s (place_at places s)) →
-    (s : ℕ) → P s (place_at (slice_set places state place) s)
+pub at_each : (P : ℕ → Option Step → Type 0) (places : List (Option Step)) (state : ℕ) (place : Option Step) →
+    state < length places → P state place → ((s : ℕ) → state ≢ s → P s (step_at places s)) →
+    (s : ℕ) → P s (step_at (slice_set places state place) s)
 at_each P places state place below here there s =
     ⊎_elim
     (λ (same : state ≡ s).
-    subst (λ t. P t (place_at (slice_set places state place) t)) same
-    (subst (P state) (sym (place_at-set_same places state place below)) here))
-    (λ (other : state ≡ s → ⊥). subst (P s) (sym (place_at-set_other places state place s other)) (there s other))
+    subst (λ t. P t (step_at (slice_set places state place) t)) same
+    (subst (P state) (sym (step_at-set_same places state place below)) here))
+    (λ (other : state ≡ s → ⊥). subst (P s) (sym (step_at-set_other places state place s other)) (there s other))
     (cases_eq state s)
 
 -- one number more, which the test takes or leaves

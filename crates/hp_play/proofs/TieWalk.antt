@@ -18,14 +18,13 @@ use Rattle.hp_model.proofs.HeadlineProof.{lawful_more}
 use Rattle.hp_play.specs.Tied.{IsTied, IsEntered, IsWalking, registered_so, is_at, IsDue}
 use Rattle.hp_play.specs.declared.due.Due.{Due}
 use Rattle.hp_play.specs.declared.due.Due.TheVariants.{Operation as Idle, Walk as Walking, Crossing, Crossed, End}
-use Rattle.hp_play.specs.Kept.{Kept}
-use Rattle.hp_play.specs.Machine.{place_at}
+use Rattle.hp_table.specs.Step.{Step, step_at}
 use Rattle.hp_play.proofs.TieFolds.{sites_push, answers_push, quiet_more, seated_more}
 use Rattle.hp_play.proofs.TieLists.{keyed_none}
 use Rattle.hp_play.proofs.TieParts.{kept_same, entered_more, tied_more}
 use Rattle.hp_play.proofs.WalkRows.{up_stands, walk_stands, top_stands, end_stands, walked_stands}
 
-pub up_enters : (head : Head) (es : List Event) (stands : List ℕ) (places : List (Option Kept)) (c : ℕ) →
+pub up_enters : (head : Head) (es : List Event) (stands : List ℕ) (places : List (Option Step)) (c : ℕ) →
     IsTied head es stands places Idle → c < head.possible →
     IsTied head (es ++ Enter head.possible (op.Up c) ∷ []) stands places (Walking c)
 up_enters head es stands places c t there =
@@ -46,19 +45,19 @@ up_enters head es stands places c t there =
     })
 
 -- an empty place has no key
-pub no_key : (head : Head) (es : List Event) (t : ℕ) (place : Option Kept) → registered head t es ≡ registered_so false place →
+pub no_key : (head : Head) (es : List Event) (t : ℕ) (place : Option Step) → registered head t es ≡ registered_so false place →
     place ≡ None → keys head es t ≡ []
 no_key head es t place is none = rw (is, none) refl
 
 -- a taken place has one key
-pub one_key : (head : Head) (es : List Event) (t : ℕ) (place : Option Kept) (kept : Kept) →
-    registered head t es ≡ registered_so false place → place ≡ Some kept → keys head es t ≡ 0 ∷ []
-one_key head es t place kept is some = rw (is, some) refl
+pub one_key : (head : Head) (es : List Event) (t : ℕ) (place : Option Step) (step : Step) →
+    registered head t es ≡ registered_so false place → place ≡ Some step → keys head es t ≡ 0 ∷ []
+one_key head es t place step is some = rw (is, some) refl
 
 -- the walk that has begun, with no entry yet up to a state
-begun_walk : (head : Head) (es : List Event) (stands : List ℕ) (places : List (Option Kept)) (c from at : ℕ) →
+begun_walk : (head : Head) (es : List Event) (stands : List ℕ) (places : List (Option Step)) (c from at : ℕ) →
     IsTied head es stands places (Walking c) → from < ONLINE → from ≤ at →
-    ((t : ℕ) → from < t → t ≤ at → place_at places t ≡ None) →
+    ((t : ℕ) → from < t → t ≤ at → step_at places t ≡ None) →
     IsWalking head (es ++ WalkBegin head.possible c from ONLINE ∷ []) c at
 begun_walk head es stands places c from at t low below none =
     let e : Event = WalkBegin head.possible c from ONLINE in
@@ -67,7 +66,7 @@ begun_walk head es stands places c from at t low below none =
     let entries : walk_entries c (es ++ e ∷ []) ≡ [] = walk_entries_push c es e ∙ rw self refl in
     let empty : keyed (keys head es) (rising from (at - from)) ≡ [] =
     keyed_none (keys head es) from (at - from)
-    (λ u above to. no_key head es u (place_at places u) (t.registered_is u) (none u above (omega (arith, to)))) in
+    (λ u above to. no_key head es u (step_at places u) (t.registered_is u) (none u above (omega (arith, to)))) in
     record {
       entered = entered_more head es e c (operation_push es e) (registration_push es e) b.entered;
       flight = record { seat = head.possible; from = from; to = ONLINE; before = es };
@@ -82,7 +81,7 @@ begun_walk head es stands places c from at t low below none =
       registered_same = λ s. sym (registered_push head s es e);
     }
 
-walk_begun : (head : Head) (es : List Event) (stands : List ℕ) (places : List (Option Kept)) (c from : ℕ) (next : Due) →
+walk_begun : (head : Head) (es : List Event) (stands : List ℕ) (places : List (Option Step)) (c from : ℕ) (next : Due) →
     IsTied head es stands places (Walking c) → c < head.possible → from ≡ slice_index stands c → from < ONLINE →
     ((s : ℕ) → is_at next s ≡ false) →
     IsDue head (es ++ WalkBegin head.possible c from ONLINE ∷ []) places next →
@@ -94,9 +93,9 @@ walk_begun head es stands places c from next t there is low elsewhere due =
     (λ s. registered_push head s es e ∙ (rw (elsewhere s) (t.registered_is s))) due
 
 -- the walk begins, and its first entry is at the first registered state
-pub walk_begins : (head : Head) (es : List Event) (stands : List ℕ) (places : List (Option Kept)) (c from s : ℕ) →
+pub walk_begins : (head : Head) (es : List Event) (stands : List ℕ) (places : List (Option Step)) (c from s : ℕ) →
     IsTied head es stands places (Walking c) → c < head.possible → from ≡ slice_index stands c → from < ONLINE →
-    from < s → ((t : ℕ) → from < t → t < s → place_at places t ≡ None) →
+    from < s → ((t : ℕ) → from < t → t < s → step_at places t ≡ None) →
     IsTied head (es ++ WalkBegin head.possible c from ONLINE ∷ []) stands places (Crossing c s)
 walk_begins head es stands places c from s t there is low above none =
     walk_begun head es stands places c from (Crossing c s) t there is low (λ u. refl)
@@ -108,16 +107,16 @@ walk_begins head es stands places c from s t there is low above none =
     })
 
 -- the walk begins, and nothing is registered on its way
-pub walk_begins_bare : (head : Head) (es : List Event) (stands : List ℕ) (places : List (Option Kept)) (c from : ℕ) →
+pub walk_begins_bare : (head : Head) (es : List Event) (stands : List ℕ) (places : List (Option Step)) (c from : ℕ) →
     IsTied head es stands places (Walking c) → c < head.possible → from ≡ slice_index stands c → from < ONLINE →
-    ((t : ℕ) → from < t → t ≤ ONLINE → place_at places t ≡ None) →
+    ((t : ℕ) → from < t → t ≤ ONLINE → step_at places t ≡ None) →
     IsTied head (es ++ WalkBegin head.possible c from ONLINE ∷ []) stands places (Crossed c)
 walk_begins_bare head es stands places c from t there is low none =
     walk_begun head es stands places c from (Crossed c) t there is low (λ u. refl)
     (begun_walk head es stands places c from ONLINE t low (omega (arith, low)) none)
 
 -- the walk ends, and its processor is up
-pub walk_ends : (head : Head) (es : List Event) (stands : List ℕ) (places : List (Option Kept)) (c : ℕ) →
+pub walk_ends : (head : Head) (es : List Event) (stands : List ℕ) (places : List (Option Step)) (c : ℕ) →
     IsTied head es stands places (Crossed c) → c < length stands →
     IsTied head (es ++ WalkEnd head.possible c (Ok (pos 0)) ∷ []) (set stands c ONLINE) places End
 walk_ends head es stands places c t there =
@@ -132,7 +131,7 @@ walk_ends head es stands places c t there =
       settled_is = λ d i. settled_push d es e ∙ settled_after d (t.settled_is d i) (eqb c d) refl;
       highest = λ d. high d (eqb c d) refl;
       registered_is = λ s. registered_push head s es e ∙ t.registered_is s;
-      kept = λ s. kept_same es (es ++ e ∷ []) s (place_at places s) (sites_push s es e) (t.kept s);
+      kept = λ s. kept_same es (es ++ e ∷ []) s (step_at places s) (sites_push s es e) (t.kept s);
       subs = t.subs;
       due_is =
           record {
@@ -161,7 +160,7 @@ walk_ends head es stands places c t there =
         let v : slice_index (set stands c ONLINE) d ≡ slice_index stands d = get_or-set_other stands c d ONLINE 0 other in
         let m = t.highest d in omega (arith, v, m)
 
-op_ended : (head : Head) (es : List Event) (stands : List ℕ) (places : List (Option Kept)) (due : Due) (c : ℕ) →
+op_ended : (head : Head) (es : List Event) (stands : List ℕ) (places : List (Option Step)) (due : Due) (c : ℕ) →
     IsTied head es stands places due → ((s : ℕ) → is_at due s ≡ false) →
     Stands head es (OpEnd head.possible (Ok (pos 0))) → IsEntered head es c → walking es ≡ [] →
     IsTied head (es ++ OpEnd head.possible (Ok (pos 0)) ∷ []) stands places Idle
@@ -176,13 +175,13 @@ op_ended head es stands places due c t elsewhere stand entered still =
       no_walk = walking_push es e ∙ still;
     })
 
-pub op_ends : (head : Head) (es : List Event) (stands : List ℕ) (places : List (Option Kept)) →
+pub op_ends : (head : Head) (es : List Event) (stands : List ℕ) (places : List (Option Step)) →
     IsTied head es stands places End → IsTied head (es ++ OpEnd head.possible (Ok (pos 0)) ∷ []) stands places Idle
 op_ends head es stands places t =
     op_ended head es stands places End t.due_is.cpu t (λ s. refl) (end_stands head es stands places t) t.due_is.entered
     t.due_is.no_walk
 
-pub top_ends : (head : Head) (es : List Event) (stands : List ℕ) (places : List (Option Kept)) (c : ℕ) →
+pub top_ends : (head : Head) (es : List Event) (stands : List ℕ) (places : List (Option Step)) (c : ℕ) →
     IsTied head es stands places (Walking c) → c < head.possible → ONLINE ≤ slice_index stands c →
     IsTied head (es ++ OpEnd head.possible (Ok (pos 0)) ∷ []) stands places Idle
 top_ends head es stands places c t there high =

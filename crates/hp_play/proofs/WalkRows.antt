@@ -17,10 +17,10 @@ use Rattle.hp_model.specs.WalkShape.{crossed, went}
 use Rattle.hp_model.specs.Lawful.{Stands}
 use Rattle.hp_play.specs.Tied.{IsTied}
 use Rattle.hp_play.specs.declared.due.Due.TheVariants.{Operation as Idle, Walk as Walking, Crossed, End}
-use Rattle.hp_play.specs.Kept.{Kept}
+use Rattle.hp_table.specs.Step.{Step}
 use Rattle.hp_play.proofs.TieParts.{idle_free}
 
-up_passes : (head : Head) (es : List Event) (stands : List ℕ) (places : List (Option Kept)) (c : ℕ) →
+up_passes : (head : Head) (es : List Event) (stands : List ℕ) (places : List (Option Step)) (c : ℕ) →
     IsTied head es stands places Idle → c < head.possible → Passes head es head.possible (op.Up c)
 up_passes head es stands places c t there =
     let k = head.possible in
@@ -38,7 +38,7 @@ up_passes head es stands places c t there =
       not_waiting = rw t.due_is.no_operation refl;
     }
 
-pub up_stands : (head : Head) (es : List Event) (stands : List ℕ) (places : List (Option Kept)) (c : ℕ) →
+pub up_stands : (head : Head) (es : List Event) (stands : List ℕ) (places : List (Option Step)) (c : ℕ) →
     IsTied head es stands places Idle → c < head.possible → Stands head es (Enter head.possible (op.Up c))
 up_stands head es stands places c t there =
     record { free = idle_free head es t.seated t.due_is; takes_map = refl; passes = up_passes head es stands places c t there }
@@ -46,7 +46,7 @@ up_stands head es stands places c t there =
 not_below : (c n : ℕ) → n ≤ c → nat_lt c n ≡ false
 not_below c n h = grind (arith, nat_tests)
 
-pub up_refused : (head : Head) (es : List Event) (stands : List ℕ) (places : List (Option Kept)) (c : ℕ) →
+pub up_refused : (head : Head) (es : List Event) (stands : List ℕ) (places : List (Option Step)) (c : ℕ) →
     IsTied head es stands places Idle → head.possible ≤ c → refusal head es head.possible (op.Up c) ≡ Some EINVAL
 up_refused head es stands places c t away =
     let k = head.possible in
@@ -56,7 +56,7 @@ up_refused head es stands places c t away =
 not_top : (n : ℕ) → n < ONLINE → nat_eq n ONLINE ≡ false
 not_top n h = grind (arith, nat_tests)
 
-pub walk_stands : (head : Head) (es : List Event) (stands : List ℕ) (places : List (Option Kept)) (c from : ℕ) →
+pub walk_stands : (head : Head) (es : List Event) (stands : List ℕ) (places : List (Option Step)) (c from : ℕ) →
     IsTied head es stands places (Walking c) → c < head.possible → from ≡ slice_index stands c → from < ONLINE →
     Stands head es (WalkBegin head.possible c from ONLINE)
 walk_stands head es stands places c from t there is low =
@@ -73,7 +73,7 @@ walk_stands head es stands places c from t there is low =
       no_registration = rw b.entered.no_registration refl;
     }
 
-pub top_stands : (head : Head) (es : List Event) (stands : List ℕ) (places : List (Option Kept)) (c : ℕ) →
+pub top_stands : (head : Head) (es : List Event) (stands : List ℕ) (places : List (Option Step)) (c : ℕ) →
     IsTied head es stands places (Walking c) → c < head.possible → ONLINE ≤ slice_index stands c →
     Stands head es (OpEnd head.possible (Ok (pos 0)))
 top_stands head es stands places c t there high =
@@ -89,7 +89,7 @@ top_stands head es stands places c t there high =
       gives = rw (b.entered.up, b.unanswered, at) refl;
     }
 
-pub end_stands : (head : Head) (es : List Event) (stands : List ℕ) (places : List (Option Kept)) →
+pub end_stands : (head : Head) (es : List Event) (stands : List ℕ) (places : List (Option Step)) →
     IsTied head es stands places End → Stands head es (OpEnd head.possible (Ok (pos 0)))
 end_stands head es stands places t =
     let b = t.due_is in
@@ -101,7 +101,7 @@ end_stands head es stands places t =
       gives = rw (b.entered.up, b.answered) refl;
     }
 
-pub walked_stands : (head : Head) (es : List Event) (stands : List ℕ) (places : List (Option Kept)) (c : ℕ) →
+pub walked_stands : (head : Head) (es : List Event) (stands : List ℕ) (places : List (Option Step)) (c : ℕ) →
     IsTied head es stands places (Crossed c) → Stands head es (WalkEnd head.possible c (Ok (pos 0)))
 walked_stands head es stands places c t =
     let w = t.due_is in

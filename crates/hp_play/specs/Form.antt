@@ -1,9 +1,9 @@
 -- The form of script that is played today: processors, subsystems with both callbacks and one instance, and one
 -- actor that first registers and then brings processors up. This project's own.
-use Rattle.std.specs.Prelude.{◌≡◌, ◌≢◌, ℕ, ◌≤◌, Bool, true, false, ◌&&◌, ◌||◌, ◌==◌, nat_le, IsTrue, List, [], ◌∷◌, ◌++◌, map, length, codes, decimal, All}
+use Rattle.std.specs.Prelude.{◌≡◌, ℕ, ◌≤◌, Bool, true, false, ◌&&◌, ◌||◌, ◌==◌, nat_le, IsTrue, List, [], ◌∷◌, ◌++◌, map, length, codes, decimal, All, if◌then◌else◌}
 use Rattle.std.specs.List.{flat_map}
-use Rattle.hp_states.specs.declared.limits.TheConstants.{MAX_CPUS, MAX_SUBS, MAX_NAME_LEN, MAX_SCRIPT_BYTES, ONLINE_DYN}
-use Rattle.hp_play.specs.declared.limits.TheConstants.{MAX_NAMED_CPU, MAX_PLAYED, MIN_SETUP, MAX_SETUP}
+use Rattle.hp_states.specs.declared.limits.TheConstants.{MAX_CPUS, MAX_SUBS, MAX_NAME_LEN, MAX_SCRIPT_BYTES}
+use Rattle.hp_play.specs.declared.limits.TheConstants.{MAX_NAMED_CPU, MAX_PLAYED, MAX_SETUP}
 use Rattle.hp_event.specs.declared.event.Op.{Op}
 use Rattle.hp_event.specs.declared.event.Op.TheVariants.{Up, Setup}
 use Rattle.hp_event.specs.declared.event.Form.{Form}
@@ -12,7 +12,7 @@ use Rattle.hp_event.specs.declared.head.Head.{Head}
 use Rattle.hp_model.specs.Words.{line}
 use Rattle.hp_model.specs.EventLine.{op_words}
 
--- the values that the lines of a script say
+-- the values that the lines of a script say, with the names of subsystems as they are written
 pub record Lines : Type 0 where
   pub cpus : ℕ
   pub subs : List (List ℕ)
@@ -26,20 +26,18 @@ is_name_byte b =
     || (nat_le 65 b && nat_le b 90)
     || (nat_le 45 b && nat_le b 58) || b == 95
 
--- a name is 1 to 32 such bytes, and not the dash alone
+-- a name as a line writes it is 1 to 32 such bytes
 pub record IsName (name : List ℕ) : Type 0 where
   pub some : 1 ≤ length name
   pub few : length name ≤ MAX_NAME_LEN
   pub bytes : All (λ b. IsTrue (is_name_byte b)) name
-  pub no_dash : name ≢ 45 ∷ []
 
 abbrev pub plain : Form
 plain = record { nocalls = false; locked = false }
 
--- a setup of an ONLINE state that a script may name, for one of the subsystems
+-- a setup of any number up to the highest, be it a state's or not, for one of the subsystems
 abbrev pub IsSetup : (subs : ℕ) → Op → Type 0
-IsSetup subs (Setup state sub form) =
-    (MIN_SETUP ≤ state) × (state ≤ MAX_SETUP) × (state ≢ ONLINE_DYN) × (1 ≤ sub) × (sub ≤ subs) × (form ≡ plain)
+IsSetup subs (Setup state sub form) = (state ≤ MAX_SETUP) × (1 ≤ sub) × (sub ≤ subs) × (form ≡ plain)
 IsSetup subs _ = ⊥
 
 abbrev pub IsUp : Op → Type 0
@@ -61,8 +59,8 @@ pub record IsForm (hooks : ℕ) (l : Lines) : Type 0 where
   pub all_ups : All IsUp ups
   pub few_setups : length setups ≤ hooks
 
-abbrev pub sub_line : (name : List ℕ) → List ℕ
-sub_line name = line (codes "sub" ∷ name ∷ codes "both" ∷ codes "single" ∷ [])
+abbrev pub sub_line : (word : List ℕ) → List ℕ
+sub_line word = line (codes "sub" ∷ word ∷ codes "both" ∷ codes "single" ∷ [])
 
 abbrev pub op_line : Op → List ℕ
 op_line op = line (op_words op)
@@ -81,8 +79,19 @@ pub record IsScript (hooks : ℕ) (bytes : List ℕ) (l : Lines) : Type 0 where
   pub form : IsForm hooks l
   pub spelled : bytes ≡ spelling l
 
-abbrev pub sub_of : (name : List ℕ) → Sub
-sub_of name = record { name = name; up = true; down = true; multi = false; plan = [] }
+-- whether a word is `-`
+abbrev pub is_dash : (word : List ℕ) → Bool
+is_dash [] = false
+is_dash (b ∷ []) = b == 45
+is_dash (b ∷ c ∷ bs) = false
+
+-- the name that a word spells: the dash alone spells no name, and any other word itself
+abbrev pub named : (word : List ℕ) → List ℕ
+named word = if is_dash word then [] else word
+
+-- the subsystem that a line says
+abbrev pub sub_of : (word : List ℕ) → Sub
+sub_of word = record { name = named word; up = true; down = true; multi = false; plan = [] }
 
 -- the head that the lines say
 abbrev pub head_of : Lines → Head

@@ -2,11 +2,11 @@ pub mod Form
 pub mod Refusals
 pub mod Reading
 pub mod Parsed
-pub mod Kept
 pub mod Machine
 pub mod Tied
 pub mod Plays
 pub mod Parts
+pub mod Commands
 pub mod Main
 pub mod Stops
 pub mod Racked

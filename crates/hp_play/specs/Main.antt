@@ -4,36 +4,33 @@ use Rattle.std.specs.Io.KnownBytes.{prepend_known, append_known, IsAtEnd}
 use Rattle.hp_states.specs.declared.limits.TheConstants.{MAX_SCRIPT_BYTES, ONLINE}
 use Rattle.hp_event.specs.declared.event.Event.{Event}
 use Rattle.hp_event.specs.declared.head.Head.{Head}
-use Rattle.hp_model.specs.JournalText.{journal_text}
-use Rattle.hp_model.specs.Summary.{summary}
+use Rattle.hp_event.specs.declared.event.Op.{Op}
+use Rattle.hp_play.specs.declared.command.Command.{Command}
+use Rattle.hp_play.specs.Commands.{IsCommand, output}
 use Rattle.hp_play.specs.declared.error.ScriptKind.TheVariants.{NotBuilt}
 use Rattle.hp_play.specs.Refusals.{refusal_line}
 use Rattle.hp_play.specs.Played.{IsJournalOf}
 use Rattle.hp_play.specs.Racked.{EndsWith, calls_below}
 use Rattle.hp_play.specs.Form.{Lines, IsScript, head_of}
 
--- the one word of the command
-abbrev pub IsPlay : List (List ℕ) → Type 0
-IsPlay words = words ≡ codes "play" ∷ []
-
 abbrev pub usage_line : List ℕ
 usage_line = codes "usage: hp play|replay|states|report|gen|bench [--seed N] [--size N]" ++ 10 ∷ []
 
--- the text of a journal, and then its summary
-abbrev pub output : Head → List Event → List ℕ
-output head events = journal_text head events ++ summary head events
+-- What is written of a head and the operations of its actor, and what the rack then holds: there is one journal of them,
+-- of which the command's output is written. The rack has as many hooks as before, and the last of them, those of the
+-- registered states in rising number, were called as often as the journal says.
+pub record WasPlayed (command : Command) (head : Head) (ops : List Op) (hooks : ℕ) (made written : List ℕ) : Type 0 where
+  pub events : List Event
+  pub journal : IsJournalOf head ops events
+  pub no_hook_lost : length made ≡ hooks
+  pub rack : EndsWith made (calls_below head events (ONLINE + 1))
+  pub written_is : written ≡ output command head events
 
--- The script that the bytes are, the journal of it whose text and summary are written, and the rack: it has as many
--- hooks as before, and the last of them, those of the registered states in rising number, were called as often as the
--- journal says.
-pub record IsPlayed (hooks : ℕ) (made : List ℕ) (script output_bytes : List ℕ) : Type 0 where
+-- the script that the bytes are was played
+pub record IsPlayed (command : Command) (hooks : ℕ) (made : List ℕ) (script written : List ℕ) : Type 0 where
   pub lines : Lines
   pub of_form : IsScript hooks script lines
-  pub events : List Event
-  pub journal : IsJournalOf (head_of lines) lines.ops events
-  pub no_hook_lost : length made ≡ hooks
-  pub rack : EndsWith made (calls_below (head_of lines) events (ONLINE + 1))
-  pub written : output_bytes ≡ output (head_of lines) events
+  pub played : WasPlayed command (head_of lines) lines.ops hooks made written
 
 -- the bytes were read: all that there were, or one past the limit
 pub record WasRead (left now : Option (List ℕ)) (script : List ℕ) : Type 0 where
@@ -46,24 +43,26 @@ IsNoScript hooks told = IfSome told (λ bytes. (l : Lines) → IsScript hooks by
 
 -- The usage line answers any other words, and then nothing is read.
 pub record IsUsage (words : List (List ℕ)) (left now : Option (List ℕ)) (bytes : List ℕ) : Type 0 where
-  pub other_words : IsPlay words → ⊥
+  pub other_words : (command : Command) → IsCommand words command → ⊥
   pub unread : now ≡ left
   pub line : bytes ≡ usage_line
 
 -- A refusal answers input that isn't of the form.
 pub record IsRefusal (words : List (List ℕ)) (hooks : ℕ) (left now : Option (List ℕ)) (bytes : List ℕ) : Type 0 where
-  pub command : IsPlay words
+  pub command : Command
+  pub asked : IsCommand words command
   pub script : List ℕ
   pub read : WasRead left now script
   pub no_form : IsNoScript hooks left
   pub line : bytes ≡ refusal_line 0 NotBuilt
 
--- The text and the summary of the script's journal answer a script.
+-- What the command writes of the script's journal answers a script.
 pub record IsDone (words : List (List ℕ)) (hooks : ℕ) (made : List ℕ) (left now : Option (List ℕ)) (bytes : List ℕ) : Type 0 where
-  pub command : IsPlay words
+  pub command : Command
+  pub asked : IsCommand words command
   pub script : List ℕ
   pub read : WasRead left now script
-  pub played : IsPlayed hooks made script bytes
+  pub played : IsPlayed command hooks made script bytes
 
 pub data Answer : Type 0 where
   done : Answer

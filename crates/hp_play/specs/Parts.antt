@@ -1,21 +1,28 @@
 -- What is so of a machine, and what a turn makes of it. This project's own.
-use Rattle.std.specs.Prelude.{◌≡◌, ℕ, ◌+◌, ◌<◌, Bool, true, false, ◌&&◌, not, is_some, if◌then◌else◌, Option, None, length}
+use Rattle.std.specs.Prelude.{◌≡◌, ℕ, ◌+◌, ◌<◌, Bool, true, false, ◌&&◌, not, is_some, if◌then◌else◌, Option, Some, None, List, length}
+use Rattle.hp_states.specs.declared.limits.TheConstants.{OFFLINE, ONLINE}
 use Rattle.hp_event.specs.declared.event.Op.{Op}
+use Rattle.hp_event.specs.declared.event.Op.TheVariants.{Setup}
+use Rattle.hp_model.specs.Resolved.{resolved}
+use Rattle.hp_table.specs.Named.{is_named}
+use Rattle.hp_play.specs.Form.{plain}
 use Rattle.hp_model.specs.Refusals.{refusal}
 use Rattle.hp_play.specs.declared.due.Due.TheVariants.{Operation}
 use Rattle.hp_play.specs.declared.machine.Machine.{Machine}
 use Rattle.hp_play.specs.Machine.{IsReady, work, is_of, is_in_flight, is_setup}
 use Rattle.hp_play.specs.Tied.{IsTied}
 use Rattle.hp_play.specs.Plays.{Plays}
+use Rattle.hp_event.specs.declared.head.Head.{Head}
+use Rattle.hp_play.specs.Played.{IsJournalOf}
 use Rattle.hp_play.specs.Racked.{made_of}
 
 -- ready for a turn
 abbrev pub Ready : {H : Type 0} → Machine H → Type 0
-Ready m = IsReady m.journal m.settled.items m.places.items m.due
+Ready m = IsReady m.journal m.settled.items m.table m.due
 
 -- tied to its journal
 abbrev pub Tied : {H : Type 0} → Machine H → Type 0
-Tied m = IsTied m.journal.head m.journal.events m.settled.items m.places.items m.due
+Tied m = IsTied m.journal.head m.journal.events m.settled.items m.table m.due
 
 -- the head and the processors stay, and each event takes one promised place
 abbrev pub Keeps : {H : Type 0} → Machine H → Machine H → Type 0
@@ -33,7 +40,7 @@ work_of m = work m.due (length m.settled.items)
 
 -- the hooks that its states have
 abbrev pub hooks_of : {H : Type 0} → Machine H → ℕ
-hooks_of m = length (made_of m.places.items)
+hooks_of m = length (made_of m.table)
 
 -- Advances of an operation, which answer it or not: what was played is of this operation, and if it isn't answered, then
 -- something is due of it, and less than before is left.
@@ -73,3 +80,19 @@ one_if taken = if taken then 1 else 0
 pub record Gives {H : Type 0} (op : Op) (old new : Machine H) (hook hook_now : Option H) : Type 0 where
   pub left : hook_now ≡ left_of (registers op old) hook
   pub taken : hooks_of new ≡ hooks_of old + one_if (registers op old)
+
+-- a setup that isn't refused, and the state that it registers: nothing is there, and it has no name from the start
+pub record Resolves {H : Type 0} (m : Machine H) (asked sub state : ℕ) : Type 0 where
+  pub passes : refusal m.journal.head m.journal.events m.journal.head.possible (Setup asked sub plain) ≡ None
+  pub state_is : resolved m.journal.head m.journal.events (Setup asked sub plain) ≡ Some state
+  pub above : OFFLINE < state
+  pub below : state < ONLINE
+  pub unnamed : is_named m.table state ≡ false
+
+-- a machine that played the operations of a head's actor: its journal is one of them, and nothing is in flight
+pub record HasRun {H : Type 0} (head : Head) (ops : List Op) (m : Machine H) : Type 0 where
+  pub head_is : m.journal.head ≡ head
+  pub journal : IsJournalOf head ops m.journal.events
+  pub ready : Ready m
+  pub tied : Tied m
+  pub free : m.due ≡ Operation

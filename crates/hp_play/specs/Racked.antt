@@ -7,7 +7,7 @@ use Rattle.hp_event.specs.declared.head.Head.{Head}
 use Rattle.hp_model.specs.Lists.{numbers}
 use Rattle.hp_model.specs.Calls.{sites}
 use Rattle.hp_model.specs.Registered.{Registered, registered}
-use Rattle.hp_play.specs.Kept.{Kept}
+use Rattle.hp_table.specs.Step.{Step}
 
 abbrev pub calls_of : (calls : ℕ) → Option Registered → List ℕ
 calls_of n None = []
@@ -22,12 +22,17 @@ unfoldable pub calls_below : Head → List Event → ℕ → List ℕ
 calls_below head events n = flat_map (calls_at head events) (numbers n)
 
 -- how often the hook of a place was called
-abbrev pub made_at : Option Kept → List ℕ
+abbrev pub made_at : Option Step → List ℕ
 made_at None = []
-made_at (Some kept) = kept.made ∷ []
+made_at (Some step) = step.kept.made ∷ []
 
-abbrev pub made_of : List (Option Kept) → List ℕ
+abbrev pub made_of : List (Option Step) → List ℕ
 made_of places = flat_map made_at places
+
+-- the item, if there is one
+abbrev pub listed : {A : Type 0} → Option A → List A
+listed None = []
+listed (Some x) = x ∷ []
 
 -- a list ends with another
 abbrev pub EndsWith : List ℕ → (last : List ℕ) → Type 0

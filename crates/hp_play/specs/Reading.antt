@@ -1,11 +1,11 @@
 -- Reading a script from left to right: a reader answers a value and the bytes behind it, or nothing. That this
 -- reads exactly the form of `Form` is what the contract of the code says. This project's own.
-use Rattle.std.specs.Prelude.{ℕ, suc, zero, ◌+◌, ◌-◌, ◌*◌, min, Bool, false, ◌&&◌, ◌==◌, nat_le, not, List, [], ◌∷◌, ◌++◌, length, codes, Option, Some, None, if◌then◌else◌}
+use Rattle.std.specs.Prelude.{ℕ, suc, zero, ◌+◌, ◌-◌, ◌*◌, min, Bool, ◌&&◌, ◌==◌, nat_le, not, List, [], ◌∷◌, ◌++◌, length, codes, Option, Some, None, if◌then◌else◌}
 use Rattle.std.specs.List.{list_all}
-use Rattle.hp_states.specs.declared.limits.TheConstants.{MAX_CPUS, MAX_SUBS, MAX_NAME_LEN, MAX_SCRIPT_BYTES, ONLINE_DYN}
+use Rattle.hp_states.specs.declared.limits.TheConstants.{MAX_CPUS, MAX_SUBS, MAX_NAME_LEN, MAX_SCRIPT_BYTES}
 use Rattle.hp_event.specs.declared.event.Op.{Op}
 use Rattle.hp_event.specs.declared.event.Op.TheVariants.{Up, Setup}
-use Rattle.hp_play.specs.declared.limits.TheConstants.{MAX_NAMED_CPU, MAX_PLAYED, MIN_SETUP, MAX_SETUP, MAX_DIGITS}
+use Rattle.hp_play.specs.declared.limits.TheConstants.{MAX_NAMED_CPU, MAX_PLAYED, MAX_SETUP, MAX_DIGITS}
 use Rattle.hp_play.specs.Form.{Lines, is_name_byte, plain}
 
 infixl 10 ◌>>=◌
@@ -35,14 +35,8 @@ number_of [] = None
 number_of (b ∷ bs) =
     if nat_le (length (b ∷ bs)) MAX_DIGITS && not (b == 48 && nat_le 1 (length bs)) then read_on 0 (b ∷ bs) else None
 
-abbrev pub is_dash : (word : List ℕ) → Bool
-is_dash [] = false
-is_dash (b ∷ []) = b == 45
-is_dash (b ∷ c ∷ bs) = false
-
 abbrev pub is_name : (word : List ℕ) → Bool
-is_name word =
-    nat_le 1 (length word) && nat_le (length word) MAX_NAME_LEN && not (is_dash word) && list_all is_name_byte word
+is_name word = nat_le 1 (length word) && nat_le (length word) MAX_NAME_LEN && list_all is_name_byte word
 
 unfoldable pub number_to : (end : ℕ) (bytes : List ℕ) → Option (ℕ × List ℕ)
 number_to end bytes = do
@@ -73,10 +67,9 @@ actor_at bytes = do
   rest ← behind (codes "actor ") bytes
   name_to 10 rest
 
--- a setup that may be played, for one of the subsystems
+-- a setup of the form, for one of the subsystems
 abbrev pub is_setup : (subs state sub : ℕ) → Bool
-is_setup subs state sub =
-    nat_le MIN_SETUP state && nat_le state MAX_SETUP && not (state == ONLINE_DYN) && nat_le 1 sub && nat_le sub subs
+is_setup subs state sub = nat_le state MAX_SETUP && nat_le 1 sub && nat_le sub subs
 
 unfoldable pub setup_at : (subs : ℕ) (bytes : List ℕ) → Option (Op × List ℕ)
 setup_at subs bytes = do

@@ -10,7 +10,7 @@ use Rattle.hp_event.specs.declared.event.Answer.TheVariants.{Ok}
 use Rattle.hp_event.specs.declared.head.Sub.{Sub}
 use Rattle.hp_event.specs.declared.head.Head.{Head}
 use Rattle.hp_event.specs.declared.event.Event.{Event}
-use Rattle.hp_model.specs.Lists.{is_empty, numbers, rising}
+use Rattle.hp_model.specs.Lists.{numbers, rising}
 use Rattle.hp_model.specs.Lawful.{IsLawful}
 use Rattle.hp_model.specs.Seats.{role_of, ap_seat}
 use Rattle.hp_model.specs.Readers.{readers, reading_since}
@@ -26,17 +26,15 @@ use Rattle.hp_model.specs.Sequence.{answers}
 use Rattle.hp_model.specs.Plan.{keyed}
 use Rattle.hp_model.specs.Crossing.{slots, Fill}
 use Rattle.hp_model.specs.WalkShape.{crossed}
-use Rattle.hp_model.specs.RegistrationShape.{each}
+use Rattle.hp_model.specs.RegistrationShape.{each, ok_value}
 use Rattle.hp_model.specs.Processors.{is_present, processors}
 use Rattle.hp_play.specs.declared.due.Due.{Due}
 use Rattle.hp_play.specs.declared.due.Due.TheVariants.{Operation as Idle, Adding, Added, Walk as Walking, Crossing, Crossed, End}
 use Rattle.hp_play.specs.Form.{plain}
-use Rattle.hp_play.specs.Kept.{Kept}
-use Rattle.hp_play.specs.Machine.{place_at}
+use Rattle.hp_table.specs.Step.{Step, step_at}
 
--- a subsystem of the form: a name, both callbacks, one instance, no rules
+-- a subsystem of the form: both callbacks, one instance, no rules
 pub record IsPlainSub (sub : Sub) : Type 0 where
-  pub named : is_empty sub.name ≡ false
   pub has_startup : sub.up ≡ true
   pub is_single : sub.multi ≡ false
   pub no_rules : sub.plan ≡ []
@@ -59,33 +57,36 @@ pub record IsQuiet (events : List Event) : Type 0 where
   pub disarmed : (c : ℕ) → armed c events ≡ None
 
 -- what a place says is registered, unless it is being registered
-abbrev pub registered_by : Option Kept → Option Registered
+abbrev pub registered_by : Option Step → Option Registered
 registered_by None = None
-registered_by (Some kept) = Some (record { sub = kept.sub; multi = false; insts = [] })
+registered_by (Some step) = Some (record { sub = step.kept.sub; multi = false; insts = [] })
 
 abbrev pub is_at : Due → (state : ℕ) → Bool
-is_at (Adding state cpu) s = state == s
-is_at (Added state) s = state == s
+is_at (Adding state cpu value) s = state == s
+is_at (Added state value) s = state == s
 is_at _ s = false
 
-abbrev pub registered_so : (in_flight : Bool) → Option Kept → Option Registered
+abbrev pub registered_so : (in_flight : Bool) → Option Step → Option Registered
 registered_so true place = None
 registered_so false place = registered_by place
 
--- a place's hook was called as often as the journal says since it was set up, by no rules
-pub record IsKept (events : List Event) (state : ℕ) (kept : Kept) : Type 0 where
-  pub made : kept.made ≡ length (sites state events)
-  pub no_rules : kept.plan ≡ []
+-- a state's hook was called as often as the journal says since it was set up, by no rules; it has no instances
+pub record IsKept (events : List Event) (state : ℕ) (step : Step) : Type 0 where
+  pub made : step.kept.made ≡ length (sites state events)
+  pub no_rules : step.kept.plan ≡ []
+  pub bare : step.insts ≡ []
 
--- the registration in flight: the client's setup of a plain subsystem
-pub record IsRegistering (head : Head) (events : List Event) (place : Option Kept) (state : ℕ) : Type 0 where
+-- the registration in flight: the client's setup of a plain subsystem, and the number that its Ok answers
+pub record IsRegistering (head : Head) (events : List Event) (place : Option Step) (state value : ℕ) : Type 0 where
   pub of : Registration
   pub in_flight : registration events ≡ Some of
   pub by_client : of.seat ≡ head.possible
   pub at_state : of.state ≡ state
-  pub kept : Kept
-  pub place_is : place ≡ Some kept
-  pub setup : of.op ≡ op.Setup state kept.sub plain
+  pub step : Step
+  pub place_is : place ≡ Some step
+  pub asked : ℕ
+  pub setup : of.op ≡ op.Setup asked step.kept.sub plain
+  pub answers : ok_value (op.Setup asked step.kept.sub plain) state ≡ value
   pub no_operation : operation events ≡ None
   pub no_walk : walking events ≡ []
   pub still : (c : ℕ) → settled c of.before ≡ settled c events
@@ -96,15 +97,15 @@ abbrev pub is_reached : Head → (state : ℕ) → List Event → (cpu : ℕ) �
 is_reached head s events c = is_present head c && nat_le s (settled c events)
 
 -- the entries so far are those of the processors below one, which is next
-pub record IsAdding (head : Head) (events : List Event) (place : Option Kept) (state cpu : ℕ) : Type 0 where
-  pub registering : IsRegistering head events place state
+pub record IsAdding (head : Head) (events : List Event) (place : Option Step) (state cpu value : ℕ) : Type 0 where
+  pub registering : IsRegistering head events place state value
   pub done :
       Fill (each placed.Add Up state 0 (filter (is_reached head state registering.of.before) (numbers cpu)))
       (registration_entries events)
   pub reached : is_reached head state registering.of.before cpu ≡ true
 
-pub record IsAdded (head : Head) (events : List Event) (place : Option Kept) (state : ℕ) : Type 0 where
-  pub registering : IsRegistering head events place state
+pub record IsAdded (head : Head) (events : List Event) (place : Option Step) (state value : ℕ) : Type 0 where
+  pub registering : IsRegistering head events place state value
   pub done :
       Fill (each placed.Add Up state 0 (processors head state registering.of.before))
       (registration_entries events)
@@ -155,29 +156,29 @@ pub record IsCrossing (head : Head) (events : List Event) (cpu state : ℕ) : Ty
   pub above : 0 < state
 
 -- what comes next is due by the events
-abbrev pub IsDue : Head → List Event → List (Option Kept) → Due → Type 0
+abbrev pub IsDue : Head → List Event → List (Option Step) → Due → Type 0
 IsDue head events places Idle = IsIdle events
-IsDue head events places (Adding state cpu) = IsAdding head events (place_at places state) state cpu
-IsDue head events places (Added state) = IsAdded head events (place_at places state) state
+IsDue head events places (Adding state cpu value) = IsAdding head events (step_at places state) state cpu value
+IsDue head events places (Added state value) = IsAdded head events (step_at places state) state value
 IsDue head events places (Walking cpu) = IsBeforeWalk head events cpu
 IsDue head events places (Crossing cpu state) = IsCrossing head events cpu state
 IsDue head events places (Crossed cpu) = IsWalking head events cpu ONLINE
 IsDue head events places End = IsAfterWalk head events
 
-pub record IsTied (head : Head) (events : List Event) (stands : List ℕ) (places : List (Option Kept)) (due : Due) : Type 0 where
+pub record IsTied (head : Head) (events : List Event) (stands : List ℕ) (places : List (Option Step)) (due : Due) : Type 0 where
   pub lawful : IsLawful head events
   pub plain : IsPlainHead head
   pub seated : IsSeated head events
   pub quiet : IsQuiet events
   pub settled_is : (c : ℕ) → c < head.possible → settled c events ≡ slice_index stands c
   pub highest : (c : ℕ) → slice_index stands c ≤ ONLINE
-  pub registered_is : (s : ℕ) → registered head s events ≡ registered_so (is_at due s) (place_at places s)
-  pub kept : (s : ℕ) → IfSome (place_at places s) (IsKept events s)
-  pub subs : (s : ℕ) → IfSome (place_at places s) (λ kept. (1 ≤ kept.sub) × (kept.sub ≤ length head.subs))
+  pub registered_is : (s : ℕ) → registered head s events ≡ registered_so (is_at due s) (step_at places s)
+  pub kept : (s : ℕ) → IfSome (step_at places s) (IsKept events s)
+  pub subs : (s : ℕ) → IfSome (step_at places s) (λ step. (1 ≤ step.kept.sub) × (step.kept.sub ≤ length head.subs))
   pub due_is : IsDue head events places due
 
 -- processor 0 is up, the others are down, and nothing is registered
-pub record IsNew (head : Head) (stands : List ℕ) (places : List (Option Kept)) : Type 0 where
+pub record IsNew (head : Head) (stands : List ℕ) (places : List (Option Step)) : Type 0 where
   pub at_start : (c : ℕ) → c < head.possible → slice_index stands c ≡ (if c == 0 then ONLINE else OFFLINE)
   pub highest : (c : ℕ) → slice_index stands c ≤ ONLINE
-  pub vacant : (s : ℕ) → place_at places s ≡ None
+  pub vacant : (s : ℕ) → step_at places s ≡ None

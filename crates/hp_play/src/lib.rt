@@ -8,16 +8,20 @@
 mod command;
 mod due;
 mod error;
+mod hooks;
 mod limits;
 mod machine;
 mod reader;
-mod record;
 mod run;
 mod script;
 #[cfg(test)]
 mod tests;
 #[cfg(test)]
 mod tests_reader;
+#[cfg(test)]
+mod tests_refusals;
+#[cfg(test)]
+mod tests_states;
 mod top;
 mod words;
 

@@ -4,9 +4,7 @@
 pub const MAX_NAMED_CPU: u32 = 4095;
 /// The most operations of the one actor.
 pub const MAX_PLAYED: u32 = 256;
-/// The lowest state at which a setup may be played.
-pub const MIN_SETUP: u32 = 103;
-/// The highest state at which a setup may be played.
-pub const MAX_SETUP: u32 = 198;
+/// The highest number that a setup may have for its state; which of them are states, the machine says.
+pub const MAX_SETUP: u32 = 65_535;
 /// The most digits of a number that is read: with so many it fits a `u32`.
 pub const MAX_DIGITS: u32 = 9;

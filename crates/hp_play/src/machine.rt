@@ -8,18 +8,23 @@ ghost use Rattle.hp_states.specs.Rules.{site_at};
 ghost use Rattle.hp_event.specs.declared.event.Op.{Op as AnOp};
 ghost use Rattle.hp_model.specs.Subsystems.{names_sub};
 ghost use Rattle.hp_model.specs.Refusals.{refusal};
-ghost use Rattle.hp_play.specs.Machine.{IsCounted, is_in_flight, place_at, pushed, called};
+ghost use Rattle.hp_play.specs.Machine.{IsCounted, is_in_flight, pushed, seat_at};
+ghost use Rattle.hp_table.specs.Step.{step_at, changed_at, called_step};
+ghost use Rattle.hp_table.specs.Instances.{instances_at};
 ghost use Rattle.hp_play.specs.Tied.{IsPlainHead, IsNew};
 ghost use Rattle.hp_model.specs.Heads.{IsHead};
 ghost use Rattle.hp_model.specs.Run.{admissions};
+ghost use Rattle.hp_play.specs.Commands.{output};
 ghost use Rattle.hp_play.specs.Racked.{made_of};
 ghost use Rattle.hp_play.specs.Parts.{Ready, Tied, Advances, hooks_of};
 
+use crate::command::Command;
 use crate::due::Due;
-use crate::record::Record;
+use crate::hooks::{keep, take_hook};
 use hp_event::{Event, Head, How, Journal, JournalError, NoMemory, Op, Role};
 use hp_hook::{Hook, Rack};
-use hp_states::{Dir, MAX_CPUS, MAX_EVENTS, OFFLINE, ONLINE};
+use hp_states::{Dir, MAX_CPUS, MAX_EVENTS, OFFLINE, ONLINE, is_ap};
+use hp_table::Table;
 use std::alloc::Global;
 
 mod rounds;
@@ -34,7 +39,7 @@ pub const OPERATION_ROOM: u32 = ONLINE + 4;
 pub struct Machine<H: Hook> {
     journal: Journal,
     settled: Vec<u32>,
-    places: Vec<Option<Record<H>>>,
+    table: Table<H>,
     due: Due,
 }
 
@@ -44,7 +49,7 @@ impl<H: Hook> Machine<H> {
         requires { head.possible ≤ MAX_CPUS }
         ensures ready { IfOk result (λ m. Ready m) }
         ensures journal { IfOk result (λ m. m.journal ≡ record { head = head; events = []; promised = 0 }) }
-        ensures new { IfOk result (λ m. IsNew head m.settled.items m.places.items) }
+        ensures new { IfOk result (λ m. IsNew head m.settled.items m.table) }
         ensures hooks { IfOk result (λ m. hooks_of m ≡ 0) }
         ensures due { IfOk result (λ m. m.due ≡ Due.Operation) }
     {
@@ -52,14 +57,10 @@ impl<H: Hook> Machine<H> {
         for cpu in 0..head.possible {
             settled.push(if cpu == 0 { ONLINE } else { OFFLINE })?;
         }
-        let mut places = Vec::new(alloc);
-        for _ in 0..ONLINE + 1 {
-            places.push(None)?;
-        }
         Ok(Machine {
             journal: Journal::new(alloc, head),
             settled,
-            places,
+            table: Table::new(alloc)?,
             due: Due::Operation,
         })
     }
@@ -69,7 +70,7 @@ impl<H: Hook> Machine<H> {
         requires ready { Ready self.old }
         requires head { IsHead self.old.journal.head }
         requires plain { IsPlainHead self.old.journal.head }
-        requires new { IsNew self.old.journal.head self.old.settled.items self.old.places.items }
+        requires new { IsNew self.old.journal.head self.old.settled.items self.old.table }
         requires free { self.old.due ≡ Due.Operation }
         requires empty { (self.old.journal.events ≡ []) × (self.old.journal.promised ≡ 0) }
         ensures ready { IfOk result (λ _. Ready self.new) }
@@ -115,21 +116,18 @@ impl<H: Hook> Machine<H> {
 
     /// Whether something is registered at a state.
     fn is_registered(&self, state: u32) -> bool
-        requires states { length self.now.places.items ≡ ONLINE + 1 }
-        requires state { state ≤ ONLINE }
-        ensures yes { IsTrue result → IsSome (place_at self.now.places.items state) }
-        ensures no { result ≡ false → place_at self.now.places.items state ≡ None }
+        ensures yes { IsTrue result → IsSome (step_at self.now.table state) }
+        ensures no { result ≡ false → step_at self.now.table state ≡ None }
     {
-        self.places[state as usize].is_some()
+        self.table.step(state).is_some()
     }
 
     /// The lowest registered state above one, if there is one.
     fn next_state(&self, at: u32) -> Option<u32>
-        requires states { length self.now.places.items ≡ ONLINE + 1 }
         requires at { at ≤ ONLINE }
-        ensures found { IfSome result (λ s. (at < s) × (s ≤ ONLINE) × IsSome (place_at self.now.places.items s)) }
-        ensures first { IfSome result (λ s. (t : ℕ) → at < t → t < s → place_at self.now.places.items t ≡ None) }
-        ensures none { IfNone result ((t : ℕ) → at < t → t ≤ ONLINE → place_at self.now.places.items t ≡ None) }
+        ensures found { IfSome result (λ s. (at < s) × (s ≤ ONLINE) × IsSome (step_at self.now.table s)) }
+        ensures first { IfSome result (λ s. (t : ℕ) → at < t → t < s → step_at self.now.table t ≡ None) }
+        ensures none { IfNone result ((t : ℕ) → at < t → t ≤ ONLINE → step_at self.now.table t ≡ None) }
     {
         for state in at + 1..ONLINE + 1 {
             if self.is_registered(state) {
@@ -156,31 +154,31 @@ impl<H: Hook> Machine<H> {
         None
     }
 
+    /// Who makes an entry on a processor at a state: at an AP state its own seat, else the client's.
+    fn seat_at(&self, cpu: u32, state: u32) -> u32
+        requires cpus { length self.now.settled.items ≤ MAX_CPUS }
+        requires state { state ≤ ONLINE }
+        ensures { result ≡ seat_at (length self.now.settled.items) cpu state }
+    {
+        if is_ap(state) { cpu } else { self.client() }
+    }
+
     /// Makes one entry: calls the hook of a state for a processor, upwards, and writes it down. The
     /// hook has no rules, so it answers 0.
-    fn call(&mut self, cpu: u32, state: u32)
-        requires states { length self.old.places.items ≡ ONLINE + 1 }
-        requires state { state ≤ ONLINE }
-        requires registered { IsSome (place_at self.old.places.items state) }
-        requires few { IsCounted (length self.old.journal.events) (place_at self.old.places.items state) }
+    fn call(&mut self, seat: u32, cpu: u32, state: u32)
+        requires registered { IsSome (step_at self.old.table state) }
+        requires few { IsCounted (length self.old.journal.events) (step_at self.old.table state) }
         requires promised { 0 < self.old.journal.promised }
         ensures same { (self.new.settled ≡ self.old.settled) × (self.new.due ≡ self.old.due) }
-        ensures called { IfSome (place_at self.old.places.items state) (λ kept.
-            self.new.places.items ≡ slice_set self.old.places.items state
-            (Some (called kept (site_at cpu 0 Dir.Up)))) }
+        ensures called { self.new.table ≡ changed_at self.old.table state (called_step (site_at cpu 0 Dir.Up)) }
         ensures hooks { hooks_of self.new ≡ hooks_of self.old }
         ensures event { self.new.journal ≡ pushed self.old.journal
-            (Event.Call cpu cpu state 0 Dir.Up How.RanOk) }
+            (Event.Call seat cpu state 0 Dir.Up How.RanOk) }
     {
         let _within = self.journal.promised();
-        match &mut self.places[state as usize] {
-            Some(record) => {
-                let _code = record.hook.call(cpu, 0, Dir::Up);
-            }
-            None => unreachable!(),
-        }
+        let _code = self.table.call(state, cpu, 0, Dir::Up);
         self.journal.push(Event::Call {
-            seat: cpu,
+            seat,
             cpu,
             state,
             inst: 0,
@@ -213,7 +211,7 @@ impl<H: Hook> Machine<H> {
         ensures ok { OnOk result (self.new.journal
             ≡ record self.old.journal { promised = self.old.journal.promised + events }) }
         ensures err { OnErr result (self.new.journal ≡ self.old.journal) }
-        ensures same { (self.new.settled ≡ self.old.settled) × (self.new.places ≡ self.old.places)
+        ensures same { (self.new.settled ≡ self.old.settled) × (self.new.table ≡ self.old.table)
             × (self.new.due ≡ self.old.due) }
     {
         match self.journal.reserve(events) {
@@ -229,30 +227,61 @@ impl<H: Hook> Machine<H> {
         requires free { is_in_flight self.old.due ≡ false }
         ensures ready { Ready self.new }
         ensures journal { self.new.journal ≡ record self.old.journal { promised = 0 } }
-        ensures same { (self.new.settled ≡ self.old.settled) × (self.new.places ≡ self.old.places)
+        ensures same { (self.new.settled ≡ self.old.settled) × (self.new.table ≡ self.old.table)
             × (self.new.due ≡ self.old.due) }
     {
         self.journal.give_back(self.journal.promised());
     }
 
-    /// The journal; the hooks of the registered states go behind those of the rack, in rising state.
-    pub fn retire(self, rack: &mut Rack<H>) -> Result<Journal, NoMemory>
-        ensures journal { IfOk result (λ journal. journal ≡ self.journal) }
-        ensures rack { IfOk result (λ _. map (λ h. H.made h) rack.new.hooks.items
-            ≡ map (λ h. H.made h) rack.old.hooks.items ++ made_of self.places.items) }
+    /// What a command writes.
+    pub fn text(&self, alloc: Global, command: Command) -> Result<Vec<u8>, NoMemory>
+        requires tied { Tied self.now }
+        requires free { self.now.due ≡ Due.Operation }
+        ensures { IfOk result (λ text. text.items ≡ output command self.now.journal.head self.now.journal.events) }
+    {
+        match command {
+            Command::Play => self.journal_and_summary(alloc),
+            Command::States => self.states_file(alloc),
+        }
+    }
+
+    /// The text of the journal, and then its summary.
+    fn journal_and_summary(&self, alloc: Global) -> Result<Vec<u8>, NoMemory>
+        ensures { IfOk result (λ text. text.items
+            ≡ output Command.Play self.now.journal.head self.now.journal.events) }
+    {
+        let mut text = hp_print::journal_text(alloc, &self.journal)?;
+        let summary = hp_print::summary(alloc, &self.journal)?;
+        text.extend_from_slice(&summary)?;
+        Ok(text)
+    }
+
+    /// The states file.
+    fn states_file(&self, alloc: Global) -> Result<Vec<u8>, NoMemory>
+        requires tied { Tied self.now }
+        requires free { self.now.due ≡ Due.Operation }
+        ensures { IfOk result (λ text. text.items
+            ≡ output Command.States self.now.journal.head self.now.journal.events) }
+    {
+        hp_files::show_states(alloc, self.journal.head(), &self.table)
+    }
+
+    /// The hooks of the registered states go behind those of the rack, in rising state.
+    pub fn retire(self, rack: &mut Rack<H>) -> Result<(), NoMemory>
+        requires states { length self.table ≡ ONLINE + 1 }
+        requires bare { (s : ℕ) → instances_at self.table s ≡ [] }
+        ensures { IfOk result (λ _. map (λ h. H.made h) rack.new.hooks.items
+            ≡ map (λ h. H.made h) rack.old.hooks.items ++ made_of self.table) }
     {
         let Machine {
-            journal,
+            journal: _,
             settled: _,
-            places,
+            mut table,
             due: _,
         } = self;
-        for place in places {
-            if let Some(record) = place {
-                let Record { sub: _, hook } = record;
-                rack.hooks.push(hook)?;
-            }
+        for state in 0..ONLINE + 1 {
+            keep(&mut rack.hooks, take_hook(&mut table, state))?;
         }
-        Ok(journal)
+        Ok(())
     }
 }

@@ -3,7 +3,7 @@
 //! The form is `specs/Form.antt`, and this project's own. The time is linear in the bytes, and
 //! memory is taken for what is kept alone: the subsystems, their names and the operations.
 
-ghost use Rattle.std.specs.Prelude.{◌≡◌, ◌-◌, ◌++◌, ◌≤◌, length, map, min, IfOk, IfErr};
+ghost use Rattle.std.specs.Prelude.{◌≡◌, ◌++◌, length, map, IfOk, IfErr};
 ghost use Rattle.std.specs.Option.{option_map};
 ghost use Rattle.hp_play.specs.Form.{sub_of};
 ghost use Rattle.hp_play.specs.Reading.{cpus_at, sub_at, actor_at, setup_at, up_at, is_setup, run_of, ops_of, script_of};
@@ -11,11 +11,11 @@ ghost use Rattle.hp_play.specs.Parsed.{Reads, RefusesOrWants, GivesOps, Gives};
 ghost use Rattle.hp_states.specs.declared.limits.TheConstants.{MAX_SUBS};
 
 use crate::error::{ParseError, ScriptKind};
-use crate::limits::{MAX_NAMED_CPU, MAX_PLAYED, MAX_SETUP, MIN_SETUP};
+use crate::limits::{MAX_NAMED_CPU, MAX_PLAYED, MAX_SETUP};
 use crate::script::Script;
-use crate::words::{behind, name_to, number_to};
+use crate::words::{behind, name_to, named, number_to};
 use hp_event::{Form, Head, Name, NoMemory, Numbers, Op, Sub, Subs};
-use hp_states::{HookPlan, MAX_CPUS, MAX_SCRIPT_BYTES, MAX_SUBS, ONLINE_DYN};
+use hp_states::{HookPlan, MAX_CPUS, MAX_SCRIPT_BYTES, MAX_SUBS};
 use std::alloc::Global;
 
 /// The line `cpus N`: N, and the bytes behind the line.
@@ -32,15 +32,15 @@ fn cpus_at(bytes: &[u8]) -> Option<(u32, &[u8])>
     }
 }
 
-/// The line `sub NAME both single`: the name, and the bytes behind the line.
+/// The line `sub NAME both single`: the word for the name, and the bytes behind the line.
 #[tactic(auto, unfolding(crate::specs::Reading::sub_at))]
 fn sub_at(bytes: &[u8]) -> Option<(&[u8], &[u8])>
     ensures { option_map (λ x. (x.0.now, x.1.now)) result ≡ sub_at bytes.now }
 {
     let rest = behind(b"sub ", bytes)?;
-    let (name, rest) = name_to(b' ', rest)?;
+    let (word, rest) = name_to(b' ', rest)?;
     let rest = behind(b"both single\n", rest)?;
-    Some((name, rest))
+    Some((word, rest))
 }
 
 /// The line `actor NAME`: the name, and the bytes behind the line.
@@ -55,7 +55,7 @@ fn actor_at(bytes: &[u8]) -> Option<(&[u8], &[u8])>
 fn is_setup(subs: u32, state: u32, sub: u32) -> bool
     ensures { result ≡ is_setup subs state sub }
 {
-    MIN_SETUP <= state && state <= MAX_SETUP && state != ONLINE_DYN && 1 <= sub && sub <= subs
+    state <= MAX_SETUP && 1 <= sub && sub <= subs
 }
 
 /// The line `setup S SUB`, for one of so many subsystems, and the bytes behind the line.
@@ -91,11 +91,11 @@ fn up_at(bytes: &[u8]) -> Option<(Op, &[u8])>
     }
 }
 
-/// A subsystem of this name, with both callbacks and one instance.
-fn make_sub(alloc: Global, name: &[u8]) -> Result<Sub, NoMemory>
-    ensures { IfOk result (λ sub. sub ≡ sub_of name.now) }
+/// The subsystem of the name that this word spells, with both callbacks and one instance.
+fn make_sub(alloc: Global, word: &[u8]) -> Result<Sub, NoMemory>
+    ensures { IfOk result (λ sub. sub ≡ sub_of word.now) }
 {
-    let name = Vec::from_slice(alloc, name)?;
+    let name = Vec::from_slice(alloc, named(word))?;
     Ok(Sub {
         name: Name::from_vec(name),
         up: true,

@@ -1,61 +1,41 @@
 //! The run of a script.
 
-ghost use Rattle.std.specs.Prelude.{◌≡◌, ℕ, ◌+◌, ◌*◌, ◌<◌, ◌≤◌, ◌++◌, [], ◌∷◌, IfOk, OnOk, IfSome, IfNone, All, map, length, count_by, vec_len, is_some, true, if◌then◌else◌};
+ghost use Rattle.std.specs.Prelude.{◌≡◌, ◌+◌, ◌≤◌, ◌++◌, IfOk, All, map, length, count_by, vec_len};
 ghost use Rattle.hp_model.specs.Heads.{IsHead};
+ghost use Rattle.hp_play.specs.Commands.{output};
 ghost use Rattle.hp_play.specs.Machine.{IsPlayableIn, is_setup};
-ghost use Rattle.hp_play.specs.Played.{IsJournalOf};
-ghost use Rattle.hp_play.specs.Racked.{EndsWith, calls_below};
+ghost use Rattle.hp_play.specs.Main.{WasPlayed};
+ghost use Rattle.hp_play.specs.Parts.{HasRun, Tied, hooks_of};
+ghost use Rattle.hp_play.specs.Racked.{EndsWith, made_of};
 ghost use Rattle.hp_play.specs.Tied.{IsPlainHead};
 
+use crate::command::Command;
+use crate::hooks::{hook_for, keep};
 use crate::limits::MAX_PLAYED;
 use crate::machine::Machine;
 use crate::script::Script;
-use hp_event::{Journal, NoMemory, Op};
+use hp_event::NoMemory;
 use hp_hook::{Hook, Rack};
 use hp_states::{MAX_CPUS, ONLINE};
 use std::alloc::Global;
 
-/// The hook of an operation: a setup takes the rack's last.
-fn hook_for<H: Hook>(op: &Op, rack: &mut Rack<H>) -> Option<H>
-    requires { is_setup op.now ≡ true → 0 < length rack.old.hooks.items }
-    ensures setup { is_some result ≡ is_setup op.now }
-    ensures last { IfSome result (λ hook. rack.old.hooks.items ≡ rack.new.hooks.items ++ hook ∷ []) }
-    ensures none { IfNone result (rack.old.hooks.items ≡ rack.new.hooks.items) }
-{
-    match op {
-        Op::Setup { .. } => rack.hooks.pop(),
-        _ => None,
-    }
-}
-
-/// Puts a hook that its operation left behind those that came back before.
-fn keep<H: Hook>(spent: &mut Vec<H>, hook: Option<H>) -> Result<(), NoMemory>
-    ensures last { OnOk result (IfSome hook (λ h. spent.new.items ≡ spent.old.items ++ h ∷ [])) }
-    ensures none { OnOk result (IfNone hook (spent.new.items ≡ spent.old.items)) }
-{
-    if let Some(hook) = hook {
-        spent.push(hook)?;
-    }
-    Ok(())
-}
-
-/// Plays a script on a machine of its own, by rounds, and answers the journal.
+/// Plays a script on a machine of its own, by rounds: the machine, and the hooks that came back.
 ///
-/// Each setup takes the last hook of the rack. Behind the hooks that were left the rack then has those that came
-/// back, and last those of the registered states, in rising state: as many as before. Where memory is wanting, some
-/// hooks of the rack are lost.
-pub fn play<H: Hook>(alloc: Global, script: Script, rack: &mut Rack<H>) -> Result<Journal, NoMemory>
+/// Each setup takes the last hook of the rack.
+fn run<H: Hook>(
+    alloc: Global,
+    script: Script,
+    rack: &mut Rack<H>,
+) -> Result<(Machine<H>, Vec<H>), NoMemory>
     requires cpus { script.head.possible ≤ MAX_CPUS }
     requires ops { vec_len script.ops ≤ MAX_PLAYED }
     requires playable { All (IsPlayableIn (length script.head.subs)) script.ops.items }
     requires hooks { count_by is_setup script.ops.items ≤ length rack.old.hooks.items }
     requires head { IsHead script.head }
     requires plain { IsPlainHead script.head }
-    ensures head { IfOk result (λ journal. journal.head ≡ script.head) }
-    ensures journal { IfOk result (λ journal. IsJournalOf script.head script.ops.items journal.events) }
-    ensures whole { IfOk result (λ _. length rack.new.hooks.items ≡ length rack.old.hooks.items) }
-    ensures rack { IfOk result (λ journal. EndsWith (map (λ h. H.made h) rack.new.hooks.items)
-        (calls_below script.head journal.events (ONLINE + 1))) }
+    ensures ran { IfOk result (λ x. HasRun script.head script.ops.items x.0) }
+    ensures whole { IfOk result (λ x. length rack.new.hooks.items + length x.1.items + hooks_of x.0
+        ≡ length rack.old.hooks.items) }
 {
     let Script { head, ops } = script;
     let mut machine = Machine::new(alloc, head)?;
@@ -66,8 +46,46 @@ pub fn play<H: Hook>(alloc: Global, script: Script, rack: &mut Rack<H>) -> Resul
         machine.operate(*op, &mut hook)?;
         keep(&mut spent, hook)?;
     }
+    Ok((machine, spent))
+}
+
+/// Puts the hooks that came back behind those of the rack, and behind them those of the registered
+/// states, in rising state.
+fn put_back<H: Hook>(machine: Machine<H>, spent: Vec<H>, rack: &mut Rack<H>) -> Result<(), NoMemory>
+    requires tied { Tied machine }
+    requires states { length machine.table ≡ ONLINE + 1 }
+    ensures whole { IfOk result (λ _. length rack.new.hooks.items
+        ≡ length rack.old.hooks.items + length spent.items + hooks_of machine) }
+    ensures rack { IfOk result (λ _. EndsWith (map (λ h. H.made h) rack.new.hooks.items) (made_of machine.table)) }
+{
     for hook in spent {
         rack.hooks.push(hook)?;
     }
     machine.retire(rack)
+}
+
+/// Plays a script, and answers what the command writes of it.
+///
+/// Behind the hooks that were left the rack then has those that came back, and last those of the
+/// registered states, in rising state: as many as before. Where memory is wanting, some hooks of the
+/// rack are lost.
+pub fn play<H: Hook>(
+    alloc: Global,
+    command: Command,
+    script: Script,
+    rack: &mut Rack<H>,
+) -> Result<Vec<u8>, NoMemory>
+    requires cpus { script.head.possible ≤ MAX_CPUS }
+    requires ops { vec_len script.ops ≤ MAX_PLAYED }
+    requires playable { All (IsPlayableIn (length script.head.subs)) script.ops.items }
+    requires hooks { count_by is_setup script.ops.items ≤ length rack.old.hooks.items }
+    requires head { IsHead script.head }
+    requires plain { IsPlainHead script.head }
+    ensures { IfOk result (λ text. WasPlayed command script.head script.ops.items (length rack.old.hooks.items)
+        (map (λ h. H.made h) rack.new.hooks.items) text.items) }
+{
+    let (machine, spent) = run(alloc, script, rack)?;
+    let text = machine.text(alloc, command)?;
+    put_back(machine, spent, rack)?;
+    Ok(text)
 }

@@ -12,7 +12,7 @@ use std::sync::Arc;
 use std::sync::atomic::{AtomicU64, Ordering};
 use std::test::*;
 
-const TWO_STARTUPS: &[u8] = b"\
+pub(crate) const TWO_STARTUPS: &[u8] = b"\
     cpus 2\n\
     sub net:a both single\n\
     sub net:b both single\n\
@@ -125,10 +125,10 @@ impl Hook for SharedHook {
     }
 }
 
-/// A rack of four hooks of scripts.
-fn four_hooks(alloc: Global) -> Result<Rack<ScriptHook>, AllocError> {
+/// A rack of so many hooks of scripts.
+pub(crate) fn some_hooks(alloc: Global, count: u32) -> Result<Rack<ScriptHook>, AllocError> {
     let mut hooks = Vec::new(alloc);
-    for _ in 0..4 {
+    for _ in 0..count {
         hooks.push(ScriptHook::new())?;
     }
     Ok(Rack { hooks })
@@ -146,7 +146,7 @@ fn ample_sink(alloc: Global) -> Result<MemSink, AllocError>
     ensures { IfOk result (λ sink. sink.faults ≡ 0) }
 {
     let mut sink = MemSink::new(alloc);
-    sink.bytes.reserve(1024)?;
+    sink.bytes.reserve(4096)?;
     Ok(sink)
 }
 
@@ -177,24 +177,35 @@ fn run<H: Hook>(
     Ok(status)
 }
 
-/// What is written where a script is played with a rack and nothing fails.
-fn played<H: Hook>(
+/// What a command writes of a script with a rack, where nothing fails.
+pub(crate) fn written<H: Hook>(
     rt: &impl Abort,
     alloc: Global,
+    command: &str,
     script: &[u8],
     rack: &mut Rack<H>,
 ) -> Result<Vec<u8>, Fail> {
     let mut source = source_of(alloc, script)?;
     let mut sink = ample_sink(alloc)?;
-    let status = run(rt, alloc, &["play"], &mut source, &mut sink, rack)?;
+    let status = run(rt, alloc, &[command], &mut source, &mut sink, rack)?;
     assert_eq!(rt; status, 0);
     Ok(sink.bytes)
+}
+
+/// What `play` writes.
+pub(crate) fn played<H: Hook>(
+    rt: &impl Abort,
+    alloc: Global,
+    script: &[u8],
+    rack: &mut Rack<H>,
+) -> Result<Vec<u8>, Fail> {
+    written(rt, alloc, "play", script, rack)
 }
 
 #[test]
 fn a_script_is_played(rt: HostRuntime) -> Result<(), Fail> {
     let alloc = rt.alloc();
-    let mut rack = four_hooks(alloc)?;
+    let mut rack = some_hooks(alloc, 4)?;
     let written = played(&rt, alloc, TWO_STARTUPS, &mut rack)?;
     assert_eq!(rt; written.as_slice(), TWO_STARTUPS_PLAYED);
     assert_eq!(rt; rack.hooks.len(), 4);
@@ -225,7 +236,7 @@ fn hooks_of_the_caller_are_called(rt: HostRuntime) -> Result<(), Fail> {
 #[test]
 fn each_failing_read_is_told(rt: HostRuntime) -> Result<(), Fail> {
     let alloc = rt.alloc();
-    let mut rack = four_hooks(alloc)?;
+    let mut rack = some_hooks(alloc, 4)?;
     let mut failed = 0;
     for call in 1..100 {
         let mut source = source_of(alloc, TWO_STARTUPS)?;
@@ -250,7 +261,7 @@ fn each_failing_read_is_told(rt: HostRuntime) -> Result<(), Fail> {
 #[test]
 fn each_failing_write_is_told(rt: HostRuntime) -> Result<(), Fail> {
     let alloc = rt.alloc();
-    let mut rack = four_hooks(alloc)?;
+    let mut rack = some_hooks(alloc, 4)?;
     let mut failed = 0;
     for call in 1..100 {
         let mut source = source_of(alloc, TWO_STARTUPS)?;
@@ -280,7 +291,7 @@ fn each_failing_write_is_told(rt: HostRuntime) -> Result<(), Fail> {
 #[test]
 fn first_bytes_stay_where_a_write_fails(rt: HostRuntime) -> Result<(), Fail> {
     let alloc = rt.alloc();
-    let mut rack = four_hooks(alloc)?;
+    let mut rack = some_hooks(alloc, 4)?;
     let mut source = source_of(alloc, TWO_STARTUPS)?;
     let mut sink = ample_sink(alloc)?;
     sink.step = 1;
@@ -294,7 +305,7 @@ fn first_bytes_stay_where_a_write_fails(rt: HostRuntime) -> Result<(), Fail> {
 #[test]
 fn other_words_are_answered_by_the_usage_line(rt: HostRuntime) -> Result<(), Fail> {
     let alloc = rt.alloc();
-    let mut rack = four_hooks(alloc)?;
+    let mut rack = some_hooks(alloc, 4)?;
     let lines: [&[&str]; 8] = [
         &[],
         &["fly"],
@@ -322,7 +333,7 @@ fn other_words_are_answered_by_the_usage_line(rt: HostRuntime) -> Result<(), Fai
 #[test]
 fn operations_are_refused(rt: HostRuntime) -> Result<(), Fail> {
     let alloc = rt.alloc();
-    let mut rack = four_hooks(alloc)?;
+    let mut rack = some_hooks(alloc, 4)?;
     let written = played(&rt, alloc, REFUSALS, &mut rack)?;
     assert_eq!(rt; written.as_slice(), REFUSALS_PLAYED);
     assert_eq!(rt; rack.hooks.len(), 4);
@@ -332,7 +343,7 @@ fn operations_are_refused(rt: HostRuntime) -> Result<(), Fail> {
 #[test]
 fn other_bytes_are_refused(rt: HostRuntime) -> Result<(), Fail> {
     let alloc = rt.alloc();
-    let mut rack = four_hooks(alloc)?;
+    let mut rack = some_hooks(alloc, 4)?;
     let long = vec![in alloc; b'\n'; 1_048_577]?;
     let longer = vec![in alloc; b'\n'; 1_048_700]?;
     let scripts: [(&[u8], usize); 6] = [

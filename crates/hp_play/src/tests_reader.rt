@@ -1,6 +1,6 @@
 //! Scripts that are of the form, with what they say, and scripts that are not, each with the reason.
 
-use crate::{ParseError, Script, ScriptKind, parse, refusal_line};
+use crate::{ParseError, Script, ScriptKind, parse};
 use hp_event::{Form, Op};
 use hp_states::MAX_SCRIPT_BYTES;
 use std::alloc::{AllocError, Global};
@@ -166,8 +166,94 @@ fn ends_of_the_ranges(rt: HostRuntime) -> Result<(), Fail> {
 }
 
 #[test]
+fn states_of_setups(rt: HostRuntime) -> Result<(), Fail> {
+    let setups: [(&[u8], Op, &str); 15] = [
+        (b"setup 0 1\n", setup(0, 1), "the lowest"),
+        (b"setup 1 1\n", setup(1, 1), "a state of PREPARE"),
+        (b"setup 40 1\n", setup(40, 1), "below a dynamic range"),
+        (
+            b"setup 41 1\n",
+            setup(41, 1),
+            "the dynamic state of PREPARE",
+        ),
+        (b"setup 62 1\n", setup(62, 1), "cpu:bringup"),
+        (b"setup 99 2\n", setup(99, 2), "a state of STARTING"),
+        (b"setup 102 1\n", setup(102, 1), "online:idle"),
+        (
+            b"setup 141 1\n",
+            setup(141, 1),
+            "the dynamic state of ONLINE",
+        ),
+        (b"setup 199 2\n", setup(199, 2), "sched:active"),
+        (b"setup 200 1\n", setup(200, 1), "online"),
+        (b"setup 201 1\n", setup(201, 1), "no state"),
+        (b"setup 255 1\n", setup(255, 1), "8 bits"),
+        (b"setup 256 1\n", setup(256, 1), "9 bits"),
+        (b"setup 65534 2\n", setup(65_534, 2), "below the highest"),
+        (b"setup 65535 1\n", setup(65_535, 1), "the highest"),
+    ];
+    for (line, op, why) in setups {
+        let mut bytes = Vec::from_slice(
+            rt.alloc(),
+            b"cpus 2\nsub a both single\nsub b both single\nactor a\n",
+        )?;
+        bytes.extend_from_slice(line)?;
+        let said = Said {
+            possible: 2,
+            names: &[b"a", b"b"],
+            ops: &[op],
+        };
+        assert!(rt; says(rt.alloc(), &bytes, 1, &said)?, "{why}");
+        assert!(rt; refuses(rt.alloc(), &bytes, 0)?, "no hook");
+    }
+    Ok(())
+}
+
+#[test]
+fn names(rt: HostRuntime) -> Result<(), Fail> {
+    let named: [(&[u8], &[u8], &str); 9] = [
+        (b"-", b"", "the dash alone"),
+        (b"--", b"--", "two dashes"),
+        (b"-a", b"-a", "a dash at the front"),
+        (b"a-", b"a-", "a dash at the end"),
+        (b".", b".", "a dot"),
+        (b"/", b"/", "a slash"),
+        (b"_", b"_", "an underscore"),
+        (b":", b":", "a colon"),
+        (LONG, LONG, "32 bytes"),
+    ];
+    for (word, name, why) in named {
+        let mut bytes = Vec::from_slice(rt.alloc(), b"cpus 1\nsub ")?;
+        bytes.extend_from_slice(word)?;
+        bytes.extend_from_slice(b" both single\nactor ")?;
+        bytes.extend_from_slice(word)?;
+        bytes.extend_from_slice(b"\nsetup 103 1\n")?;
+        let said = Said {
+            possible: 1,
+            names: &[name],
+            ops: &[setup(103, 1)],
+        };
+        assert!(rt; says(rt.alloc(), &bytes, 1, &said)?, "{why}");
+    }
+    Ok(())
+}
+
+#[test]
+fn subsystems_without_names(rt: HostRuntime) -> Result<(), Fail> {
+    let bytes =
+        b"cpus 2\nsub - both single\nsub a both single\nsub - both single\nactor -\nsetup 150 3\nup 1\n";
+    let said = Said {
+        possible: 2,
+        names: &[b"", b"a", b""],
+        ops: &[setup(150, 3), Op::Up(1)],
+    };
+    assert!(rt; says(rt.alloc(), bytes, 1, &said)?);
+    Ok(())
+}
+
+#[test]
 fn refused_lines(rt: HostRuntime) -> Result<(), Fail> {
-    let scripts: [(&[u8], &str); 14] = [
+    let scripts: [(&[u8], &str); 15] = [
         (b"", "no lines"),
         (b"cpus 1\n", "no actor"),
         (b"cpus 1\nactor a", "no last newline"),
@@ -179,7 +265,11 @@ fn refused_lines(rt: HostRuntime) -> Result<(), Fail> {
         (b"cpus 65\nactor a\n", "too many processors"),
         (b"cpus 4294967297\nactor a\n", "a number past 32 bits"),
         (b"cpus 1\n\nactor a\n", "an empty line"),
-        (b"cpus 1\nactor -\n", "no name"),
+        (b"cpus 1\nactor \n", "no word"),
+        (
+            b"cpus 1\nactor abcdefghijklmnopqrstuvwxyz:_/.-90\n",
+            "33 bytes",
+        ),
         (b"cpus 1\nactor a\nactor b\n", "two actors"),
         (b"# note\ncpus 1\nactor a\n", "a comment"),
     ];
@@ -192,7 +282,7 @@ fn refused_lines(rt: HostRuntime) -> Result<(), Fail> {
 #[test]
 fn refused_subsystems(rt: HostRuntime) -> Result<(), Fail> {
     let scripts: [(&[u8], &str); 7] = [
-        (b"cpus 1\nsub - both single\nactor a\n", "no name"),
+        (b"cpus 1\nsub  both single\nactor a\n", "no word"),
         (b"cpus 1\nsub a up single\nactor a\n", "one callback"),
         (b"cpus 1\nsub a both multi\nactor a\n", "instances"),
         (
@@ -220,10 +310,14 @@ fn refused_subsystems(rt: HostRuntime) -> Result<(), Fail> {
 
 #[test]
 fn refused_operations(rt: HostRuntime) -> Result<(), Fail> {
-    let operations: [(&[u8], &str); 12] = [
-        (b"setup 141 1\n", "the dynamic state"),
-        (b"setup 102 1\n", "a state too low"),
-        (b"setup 199 1\n", "a state too high"),
+    let operations: [(&[u8], &str); 16] = [
+        (b"setup 65536 1\n", "a state too high"),
+        (b"setup 65686 1\n", "150 past 16 bits"),
+        (b"setup 100000 1\n", "a state of six digits"),
+        (b"setup 4294967446 1\n", "150 past 32 bits"),
+        (b"setup -1 1\n", "a state with a sign"),
+        (b"setup 00 1\n", "a 0 in front of a state"),
+        (b"setup 0150 1\n", "a 0 in front of a state"),
         (b"setup 150 0\n", "no subsystem"),
         (b"setup 150 2\n", "a subsystem that is not there"),
         (b"setup 150 1 nocalls\n", "a form"),
@@ -284,36 +378,5 @@ fn limits(rt: HostRuntime) -> Result<(), Fail> {
     let ups = MAX_SCRIPT_BYTES / up.len() as u32;
     let long = repeated(rt.alloc(), b"cpus 2\nactor a\n", up, ups, b"")?;
     assert!(rt; refuses(rt.alloc(), &long, 0)?, "too many bytes");
-    Ok(())
-}
-
-#[test]
-fn refusals(rt: HostRuntime) -> Result<(), Fail> {
-    let lines: [(ScriptKind, &[u8]); 12] = [
-        (ScriptKind::TooLong, b"error: line 3: too long\n"),
-        (ScriptKind::BadByte, b"error: line 3: bad byte\n"),
-        (ScriptKind::NoCpus, b"error: line 3: no cpus\n"),
-        (ScriptKind::BadWord, b"error: line 3: bad word\n"),
-        (ScriptKind::BadOrder, b"error: line 3: bad order\n"),
-        (ScriptKind::StillLocked, b"error: line 3: still locked\n"),
-        (ScriptKind::BadForm, b"error: line 3: bad form\n"),
-        (ScriptKind::BadNumber, b"error: line 3: bad number\n"),
-        (ScriptKind::NoSub, b"error: line 3: no sub\n"),
-        (ScriptKind::TooMany, b"error: line 3: too many\n"),
-        (ScriptKind::NoActor, b"error: line 3: no actor\n"),
-        (ScriptKind::NotBuilt, b"error: line 3: not built\n"),
-    ];
-    for (kind, line) in lines {
-        let answer = refusal_line(rt.alloc(), 3, kind)
-            .ok()
-            .ok_or("out of memory")?;
-        assert_eq!(rt; answer.as_slice(), line);
-    }
-    let answer = refusal_line(rt.alloc(), 0, ScriptKind::NotBuilt)
-        .ok()
-        .ok_or("out of memory")?;
-    assert_eq!(rt; answer.as_slice(), b"error: line 0: not built\n".as_slice());
-    assert_eq!(rt; ScriptKind::TooLong as u32, 1);
-    assert_eq!(rt; ScriptKind::NotBuilt as u32, 12);
     Ok(())
 }

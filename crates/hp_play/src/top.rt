@@ -2,15 +2,16 @@
 
 ghost use Rattle.std.specs.Prelude.{◌≡◌, ℕ, ◌+◌, ◌<◌, ◌≤◌, List, length, take, map, string_bytes, IfOk, IfErr, OnOk, OnErr, MatchResult, ◌⊎◌};
 ghost use Rattle.std.specs.Io.KnownBytes.{append_known};
-ghost use Rattle.hp_play.specs.Main.{IsPlay, IsPlayed, WasRead, Writes, WritesPart, Answer, output};
+ghost use Rattle.hp_play.specs.Commands.{IsCommand};
+ghost use Rattle.hp_play.specs.Main.{IsPlayed, WasRead, Writes, WritesPart, Answer};
 ghost use Rattle.hp_play.specs.Stops.{Stops, Refuses};
 
-use crate::command::is_play;
+use crate::command::{Command, command_of};
 use crate::error::{ParseError, refusal_line};
 use crate::limits::MAX_PLAYED;
 use crate::reader::parse;
 use crate::run::play;
-use hp_event::{Journal, NoMemory};
+use hp_event::NoMemory;
 use hp_hook::{Hook, Rack};
 use hp_io::{Failed, ReadError, Sink, Source, read_up_to, write_all};
 use hp_states::MAX_SCRIPT_BYTES;
@@ -52,16 +53,6 @@ const WRITE_FAULT: u8 = 4;
 /// The status of want of memory.
 pub const NO_MEMORY: u8 = 5;
 
-/// The text of a journal, and then its summary.
-fn text_of(alloc: Global, journal: &Journal) -> Result<Vec<u8>, NoMemory>
-    ensures { IfOk result (λ text. text.items ≡ output journal.now.head journal.now.events) }
-{
-    let mut text = hp_print::journal_text(alloc, journal)?;
-    let summary = hp_print::summary(alloc, journal)?;
-    text.extend_from_slice(&summary)?;
-    Ok(text)
-}
-
 /// Writes bytes, and answers a status, or that a write failed.
 fn write<K: Sink>(sink: &mut K, bytes: &[u8], status: u8) -> u8
     requires { K.faults sink.old < u64.MAX }
@@ -93,59 +84,63 @@ fn read<S: Source>(alloc: Global, source: &mut S) -> Result<Vec<u8>, Stop>
     }
 }
 
-/// The text and the summary of the journal of the script that these bytes are.
-fn text_of_script<H: Hook>(alloc: Global, bytes: &[u8], rack: &mut Rack<H>) -> Result<Vec<u8>, Stop>
-    ensures played { IfOk result (λ text. IsPlayed (length rack.old.hooks.items)
+/// What a command writes of the script that these bytes are.
+fn text_of_script<H: Hook>(
+    alloc: Global,
+    command: Command,
+    bytes: &[u8],
+    rack: &mut Rack<H>,
+) -> Result<Vec<u8>, Stop>
+    ensures played { IfOk result (λ text. IsPlayed command (length rack.old.hooks.items)
         (map (λ h. H.made h) rack.new.hooks.items) bytes.now text.items) }
     ensures stop { IfErr result (Refuses (length rack.old.hooks.items) bytes.now) }
 {
     let hooks = rack.hooks.len().min(MAX_PLAYED as usize) as u32;
     match parse(alloc, bytes, hooks) {
-        Ok(script) => {
-            let journal = play(alloc, script, rack)?;
-            Ok(text_of(alloc, &journal)?)
-        }
+        Ok(script) => Ok(play(alloc, command, script, rack)?),
         Err(ParseError::Bad { line, kind }) => Err(Stop::Refused(refusal_line(alloc, line, kind)?)),
         Err(ParseError::NoMemory) => Err(Stop::NoMemory),
     }
 }
 
-/// What `play` writes: the text and the summary of the journal of the script that the source holds.
+/// What a command writes of the script that the source holds.
 fn played<S: Source, H: Hook>(
     alloc: Global,
+    command: Command,
     source: &mut S,
     rack: &mut Rack<H>,
 ) -> Result<Vec<u8>, Stop>
     requires { S.faults source.old < u64.MAX }
     ensures played { IfOk result (λ text. (script : List ℕ) × WasRead (S.left source.old) (S.left source.new) script
-        × IsPlayed (length rack.old.hooks.items) (map (λ h. H.made h) rack.new.hooks.items)
+        × IsPlayed command (length rack.old.hooks.items) (map (λ h. H.made h) rack.new.hooks.items)
         script text.items) }
     ensures faults { OnOk result (S.faults source.new ≡ S.faults source.old) }
     ensures stop { IfErr result (Stops (length rack.old.hooks.items)
         (S.left source.old) (S.left source.new) (S.faults source.old) (S.faults source.new)) }
 {
     match read(alloc, source) {
-        Ok(script) => text_of_script(alloc, script.as_slice(), rack),
+        Ok(script) => text_of_script(alloc, command, script.as_slice(), rack),
         Err(stop) => Err(stop),
     }
 }
 
 /// The program `hp`: does what the words say, and answers the exit status. It always returns.
 ///
-/// The one command is the word `play`. It reads a script from the source, plays it with the hooks
-/// of the rack, and writes the text of its journal and the summary to the sink.
+/// There are two commands, each of one word. Both read a script from the source and play it with the
+/// hooks of the rack. `play` writes the text of its journal and the summary to the sink, `states` the
+/// states file after the run.
 ///
 /// | Status | comes | written |
 /// |---|---|---|
-/// | 0 | done | the journal's text and its summary |
-/// | 1 | exactly where the words are another line than `play`; nothing is read | the usage line |
+/// | 0 | done | what the command writes |
+/// | 1 | exactly where the words are no command; nothing is read | the usage line |
 /// | 2 | exactly where what was read is no script of the form | the line `error: line 0: not built` |
 /// | 3 | only where a read failed | nothing |
 /// | 4 | only where a write failed | the first bytes of what was to be written |
 /// | 5 | memory was wanting | nothing |
 ///
 /// For the statuses 0 and 2 the source was read to its end, or to one byte past the most bytes that
-/// a script has. The journal of status 0 is the run of the script's actor by rounds, and lawful:
+/// a script has. What is written under status 0 is of one journal. It is the run of the script's actor by rounds, and lawful:
 /// `specs/Played.antt` says what is so of it. The rack then has as many hooks as before; the last are
 /// those of the registered states, in rising state, each called as often as the journal says. The
 /// statuses are this project's own.
@@ -174,20 +169,20 @@ pub fn hp_main<S: Source, K: Sink, H: Hook>(
         (S.left source.old) (S.left source.new) (K.taken sink.old) (K.taken sink.new) }
 
     // A fault has its cause in the object that failed.
-    ensures read_fault { result ≡ READ_FAULT → IsPlay (map string_bytes words.now.items)
+    ensures read_fault { result ≡ READ_FAULT → (command : Command) × IsCommand (map string_bytes words.now.items) command
         × (S.faults source.new ≡ S.faults source.old + 1) × (K.taken sink.new ≡ K.taken sink.old) }
     ensures write_fault { result ≡ WRITE_FAULT → (K.faults sink.new ≡ K.faults sink.old + 1)
         × WritesPart (map string_bytes words.now.items) (length rack.old.hooks.items)
         (map (λ h. H.made h) rack.new.hooks.items) (S.left source.old) (S.left source.new) (K.taken sink.old) (K.taken sink.new) }
-    ensures no_memory { result ≡ NO_MEMORY → IsPlay (map string_bytes words.now.items)
+    ensures no_memory { result ≡ NO_MEMORY → (command : Command) × IsCommand (map string_bytes words.now.items) command
         × (K.taken sink.new ≡ K.taken sink.old) }
     ensures source_faults { (result ≡ READ_FAULT → ⊥) → S.faults source.new ≡ S.faults source.old }
     ensures sink_faults { (result ≡ WRITE_FAULT → ⊥) → K.faults sink.new ≡ K.faults sink.old }
 {
-    if !is_play(words) {
+    let Some(command) = command_of(words) else {
         return write(sink, USAGE, BAD_WORDS);
-    }
-    match played(alloc, source, rack) {
+    };
+    match played(alloc, command, source, rack) {
         Ok(text) => write(sink, &text, DONE),
         Err(Stop::Refused(line)) => write(sink, &line, BAD_SCRIPT),
         Err(Stop::ReadFault) => READ_FAULT,

@@ -5,8 +5,8 @@
 ghost use Rattle.std.specs.Prelude.{◌≡◌, ◌≤◌, length};
 ghost use Rattle.std.specs.List.{list_all};
 ghost use Rattle.std.specs.Option.{option_map};
-ghost use Rattle.hp_play.specs.Form.{is_name_byte};
-ghost use Rattle.hp_play.specs.Reading.{behind, word_to, read_on, number_of, is_dash, is_name, number_to, name_to};
+ghost use Rattle.hp_play.specs.Form.{is_name_byte, is_dash, named};
+ghost use Rattle.hp_play.specs.Reading.{behind, word_to, read_on, number_of, is_name, number_to, name_to};
 ghost use Rattle.hp_play.specs.declared.limits.TheConstants.{MAX_DIGITS};
 
 use crate::limits::MAX_DIGITS;
@@ -56,12 +56,6 @@ fn number_of(word: &[u8]) -> Option<u32>
     value_of(word)
 }
 
-fn is_dash(word: &[u8]) -> bool
-    ensures { result ≡ is_dash word.now }
-{
-    matches!(word, [b'-'])
-}
-
 fn is_name_byte(byte: u8) -> bool
     ensures { result ≡ is_name_byte byte }
 {
@@ -74,11 +68,11 @@ fn are_name_bytes(word: &[u8]) -> bool
     word.iter().all(|byte| is_name_byte(*byte))
 }
 
-/// Whether a word is a name: 1 to 32 letters, digits and `:` `_` `/` `.` `-`, and not `-` alone.
+/// Whether a word can stand for a name: 1 to 32 letters, digits and `:` `_` `/` `.` `-`.
 fn is_name(word: &[u8]) -> bool
     ensures { result ≡ is_name word.now }
 {
-    if word.is_empty() || word.len() > MAX_NAME_LEN as usize || is_dash(word) {
+    if word.is_empty() || word.len() > MAX_NAME_LEN as usize {
         return false;
     }
     are_name_bytes(word)
@@ -94,7 +88,7 @@ pub fn number_to(end: u8, bytes: &[u8]) -> Option<(u32, &[u8])>
     Some((number, rest))
 }
 
-/// The name before the first byte `end`, and the bytes behind that byte.
+/// The word for a name before the first byte `end`, and the bytes behind that byte.
 #[tactic(auto, unfolding(crate::specs::Reading::name_to))]
 pub fn name_to(end: u8, bytes: &[u8]) -> Option<(&[u8], &[u8])>
     ensures { option_map (λ x. (x.0.now, x.1.now)) result ≡ name_to end bytes.now }
@@ -105,4 +99,17 @@ pub fn name_to(end: u8, bytes: &[u8]) -> Option<(&[u8], &[u8])>
     } else {
         None
     }
+}
+
+fn is_dash(word: &[u8]) -> bool
+    ensures { result ≡ is_dash word.now }
+{
+    matches!(word, [b'-'])
+}
+
+/// The name that a word spells: none for `-`, and the word itself else.
+pub fn named(word: &[u8]) -> &[u8]
+    ensures { result.now ≡ named word.now }
+{
+    if is_dash(word) { &[] } else { word }
 }

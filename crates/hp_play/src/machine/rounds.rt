@@ -8,7 +8,7 @@ use super::{Machine, OPERATION_ROOM};
 use crate::due::Due;
 use hp_event::{NoMemory, Op};
 use hp_hook::Hook;
-use hp_states::MAX_EVENTS;
+use hp_states::{MAX_EVENTS, is_ap};
 
 impl<H: Hook> Machine<H> {
     /// Plays an operation until it is answered. A setup takes its hook exactly where it isn't refused; every
@@ -80,8 +80,8 @@ impl<H: Hook> Machine<H> {
         ensures hooks { hooks_of self.new ≡ hooks_of self.old }
     {
         match self.due {
-            Due::Adding { state, cpu } => self.add(state, cpu),
-            Due::Crossing { cpu, state } => self.cross(cpu, state),
+            Due::Adding { state, cpu, value } if is_ap(state) => self.add(state, cpu, value),
+            Due::Crossing { cpu, state } if is_ap(state) => self.cross(cpu, state),
             _ => {}
         }
     }
@@ -99,9 +99,20 @@ impl<H: Hook> Machine<H> {
     {
         match self.due {
             Due::Operation => unreachable!(),
-            Due::Adding { .. } | Due::Crossing { .. } => false,
-            Due::Added { state } => {
-                self.end_registration(state, op);
+            Due::Adding { state, cpu, value } => {
+                if !is_ap(state) {
+                    self.add(state, cpu, value);
+                }
+                false
+            }
+            Due::Crossing { cpu, state } => {
+                if !is_ap(state) {
+                    self.cross(cpu, state);
+                }
+                false
+            }
+            Due::Added { state, value } => {
+                self.end_registration(state, value, op);
                 true
             }
             Due::Walk { cpu } => self.walk_or_end(cpu, op),

@@ -107,7 +107,7 @@ impl<H: Hook> Machine<H> {
         self.due = Due::Operation;
     }
 
-    /// The entry of the walk at a state, made by the processor's own seat.
+    /// The entry of the walk at a state.
     pub(super) fn cross(&mut self, cpu: u32, state: u32)
         requires ready { Ready self.old }
         requires tied { Tied self.old }
@@ -115,7 +115,8 @@ impl<H: Hook> Machine<H> {
         ensures enters { Enters self.old self.new }
         ensures hooks { hooks_of self.new ≡ hooks_of self.old }
     {
-        self.call(cpu, state);
+        let seat = self.seat_at(cpu, state);
+        self.call(seat, cpu, state);
         self.due = match self.next_state(state) {
             Some(next) => Due::Crossing { cpu, state: next },
             None => Due::Crossed { cpu },

@@ -13,7 +13,8 @@ returns-in-Err-Refused-clause-write_fault g c = λ e.
         bytes = c.deref-in-Err-Refused.result.now;
         is_answer =
             record {
-              command = c.is_play.ensures.0 c.if-not-is_play.false;
+              command = c.in-Some.command;
+              asked = c.in-Some.ensures.some;
               script = refused.0.script;
               read = refused.0.read;
               no_form = refused.0.no_form;

@@ -17,7 +17,7 @@ loop-cpu-preserved g c =
       head = ap (λ j. j.head) c.push.ensures ∙ before.head;
       promised = search rules;
       settled_same = before.settled_same;
-      places_same = before.places_same;
+      table_same = before.table_same;
       events =
           ap (λ j. j.events) c.push.ensures ∙ ap (λ es. es ++ Admit cpu (Ap cpu) ∷ []) before.events ∙ sym (aps_next cpu);
       total =
@@ -40,7 +40,7 @@ returns-clause-tied g c =
     let seat : c.client-client.result ≡ c.args.self.now.journal.head.possible = c.client-client.ensures ∙ c.requires.ready.cpus in
     let all : c.loop-cpu.cpu ≡ c.args.self.now.journal.head.possible =
     omega (arith, c.loop-cpu.auto.cpu-end, c.loop-cpu-test.false, seat) in
-    rw (c.push-2.ensures, before.head, before.settled_same, before.places_same, before.due, c.requires.free)
+    rw (c.push-2.ensures, before.head, before.settled_same, before.table_same, before.due, c.requires.free)
     (admitted_tied _ (Up 0 ∷ []) _ _ _ c.requires.head c.requires.plain
     (all_admitted c.args.self.now.journal.head (Up 0 ∷ []) _ _ _ c.requires.plain.all_present before.events all seat)
     c.requires.new)

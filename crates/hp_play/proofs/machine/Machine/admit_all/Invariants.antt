@@ -7,12 +7,12 @@ use Rattle.hp_play.proofs.machine.Machine.admit_all.Given as goal
 abbrev pub invariant-loop-cpu : goal.invariant-loop-cpu
 invariant-loop-cpu g l =
     record {
-      ready : IsReady l.self.journal l.self.settled.items l.self.places.items l.self.due;
+      ready : IsReady l.self.journal l.self.settled.items l.self.table l.self.due;
       due : l.self.due ≡ l.fn.self.due;
       head : l.self.journal.head ≡ l.fn.self.journal.head;
       promised : l.self.journal.promised + l.cpu ≡ l.client + 1;
       settled_same : l.self.settled ≡ l.fn.self.settled;
-      places_same : l.self.places ≡ l.fn.self.places;
+      table_same : l.self.table ≡ l.fn.self.table;
       events : l.self.journal.events ≡ ap_admits 0 (numbers l.cpu);
       total : length l.self.journal.events ≡ l.cpu;
     }

@@ -1,7 +1,7 @@
 -- The hook that was called stays at its state.
-use Rattle.hp_play.proofs.Placed.{kept_at}
-use Rattle.hp_play.proofs.HookCount.{hooks_same}
+use Rattle.hp_play.proofs.Placed.{taken_at}
+use Rattle.hp_play.proofs.HookCount.{hooks_called}
 use Rattle.hp_play.proofs.machine.Machine.call.Goals as goal
 
 pub returns-clause-hooks : goal.returns-clause-hooks
-returns-clause-hooks g c = hooks_same _ c.args.state _ _ (kept_at _ c.requires.registered).1
+returns-clause-hooks g c = rw c.call-code.ensures.called (hooks_called _ c.args.state _ _ (taken_at _ c.requires.registered).1)

@@ -1,7 +1,6 @@
-use Rattle.std.proofs.Common.{◌≡◌, ℕ, ◌<◌, ◌≤◌, None, length, slice_index, if◌then◌else◌}
+use Rattle.std.proofs.Common.{◌≡◌, ℕ, ◌<◌, ◌≤◌, length, slice_index, if◌then◌else◌}
 use Rattle.std.specs.Prelude.{◌==◌}
 use Rattle.hp_states.specs.declared.limits.TheConstants.{ONLINE, OFFLINE}
-use Rattle.hp_play.specs.Machine.{place_at}
 use Rattle.hp_play.proofs.machine.Machine.new.Given as goal
 
 abbrev pub invariant-loop-cpu : goal.invariant-loop-cpu
@@ -10,11 +9,4 @@ invariant-loop-cpu g l =
       count : length l.settled.items ≡ l.cpu;
       settled : (c : ℕ) → c < l.cpu → slice_index l.settled.items c ≡ (if c == 0 then ONLINE else OFFLINE);
       highest : (c : ℕ) → slice_index l.settled.items c ≤ ONLINE;
-    }
-
-abbrev pub invariant-loop : goal.invariant-loop
-invariant-loop g l =
-    record {
-      count : length l.places.items ≡ l.counter;
-      empty : (s : ℕ) → place_at l.places.items s ≡ None;
     }

@@ -1,14 +1,13 @@
-use Rattle.std.proofs.Common.{◌≡◌, ◌++◌, map}
+use Rattle.std.proofs.Common.{◌≡◌, ℕ, ◌≤◌, ◌++◌, map, take}
+use Rattle.hp_table.specs.Step.{step_at}
 use Rattle.hp_play.specs.Racked.{made_of}
 use Rattle.hp_play.proofs.machine.Machine.retire.Given as goal
 
-abbrev pub invariant-loop-place : goal.invariant-loop-place
-invariant-loop-place g l =
+abbrev pub invariant-loop-state : goal.invariant-loop-state
+invariant-loop-state g l =
     record {
-      can_next : (goal.iterator-loop-place g).can_next l.place-iterator;
-      is_finite : (goal.iterator-loop-place g).is_finite l.place-iterator;
+      same : (s : ℕ) → l.state ≤ s → step_at l.table s ≡ step_at l.fn.self.table s;
       made :
-          map (λ h. g.H.Hook.made h) l.rack.hooks.items ++ made_of l.place-iterator.rest.items
-          ≡ map (λ h. g.H.Hook.made h) l.fn.rack.hooks.items ++ made_of l.fn.self.places.items;
-      same : l.self ≡ l.fn.self;
+          map (λ h. g.H.Hook.made h) l.rack.hooks.items
+          ≡ map (λ h. g.H.Hook.made h) l.fn.rack.hooks.items ++ made_of (take l.state l.fn.self.table);
     }

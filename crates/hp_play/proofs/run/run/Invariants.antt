@@ -4,7 +4,7 @@ use Rattle.hp_play.specs.declared.due.Due.TheVariants.{Operation}
 use Rattle.hp_play.specs.Machine.{is_setup}
 use Rattle.hp_play.specs.Parts.{Ready, Tied, hooks_of}
 use Rattle.hp_play.specs.Plays.{HasPlayed}
-use Rattle.hp_play.proofs.run.play.Given as goal
+use Rattle.hp_play.proofs.run.run.Given as goal
 
 abbrev pub invariant-loop-op : goal.invariant-loop-op
 invariant-loop-op g l =
@@ -19,14 +19,4 @@ invariant-loop-op g l =
       items : l.op-items ≡ l.fn.script.ops.items;
       hooks : count_by is_setup (drop l.op-index l.op-items) ≤ length l.rack.hooks.items;
       whole : length l.rack.hooks.items + length l.spent.items + hooks_of l.machine ≡ length l.fn.rack.hooks.items;
-    }
-
-abbrev pub invariant-loop-hook : goal.invariant-loop-hook
-invariant-loop-hook g l =
-    record {
-      can_next : (goal.iterator-loop-hook g).can_next l.hook-iterator;
-      is_finite : (goal.iterator-loop-hook g).is_finite l.hook-iterator;
-      whole :
-          length l.rack.hooks.items + length l.hook-iterator.rest.items + hooks_of l.machine
-          ≡ length l.fn.rack.hooks.items;
     }
