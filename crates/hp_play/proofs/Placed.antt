@@ -8,7 +8,7 @@ use Rattle.hp_table.specs.Step.{Step, step_at}
 use Rattle.hp_play.specs.declared.due.Due.{Due}
 use Rattle.hp_play.specs.declared.due.Due.TheVariants.{Operation}
 use Rattle.hp_play.specs.Machine.{is_in_flight}
-use Rattle.hp_play.proofs.TieLists.{step_at-set_other}
+use Rattle.hp_table.proofs.Places.{step_at-set_other}
 
 -- what a taken place has
 pub taken_at : (place : Option Step) → IsSome place → (step : Step) × (place ≡ Some step)

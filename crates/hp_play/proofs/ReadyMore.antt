@@ -7,7 +7,8 @@ use Rattle.hp_event.specs.declared.event.Event.{Event}
 use Rattle.hp_table.specs.Step.{Step, step_at}
 use Rattle.hp_play.specs.declared.due.Due.{Due}
 use Rattle.hp_play.specs.Machine.{IsReady, IsCounted, IsInRange, events_left, pushed}
-use Rattle.hp_play.proofs.TieLists.{step_at-set_same, at_each}
+use Rattle.hp_table.proofs.Places.{step_at-set_same}
+use Rattle.hp_play.proofs.TieLists.{at_each}
 
 counted_more : (n : ℕ) (place : Option Step) → IsCounted n place → IsCounted (n + 1) place
 counted_more n None counted = tt

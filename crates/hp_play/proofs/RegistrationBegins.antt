@@ -27,7 +27,8 @@ use Rattle.hp_model.specs.RegistrationShape.{ok_value}
 use Rattle.hp_play.specs.Machine.{fresh}
 use Rattle.hp_play.specs.Tied.{IsPlainHead, registered_so, is_at, IsKept, IsRegistering, is_reached, IsIdle, IsDue, IsTied}
 use Rattle.hp_play.proofs.TieFolds.{sites_push, quiet_more, seated_more}
-use Rattle.hp_play.proofs.TieLists.{step_at-set_same, at_each, filter_gap}
+use Rattle.hp_table.proofs.Places.{step_at-set_same}
+use Rattle.hp_play.proofs.TieLists.{at_each, filter_gap}
 use Rattle.hp_play.proofs.TieParts.{SubFound, kept_same, idle_free}
 use Rattle.hp_play.proofs.SetupRefusal.{named_sub}
 

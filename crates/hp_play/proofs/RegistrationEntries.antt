@@ -34,7 +34,8 @@ use Rattle.hp_table.specs.Step.{Step, step_at, called_step}
 use Rattle.hp_play.specs.Machine.{seat_at}
 use Rattle.hp_play.specs.Tied.{IsPlainSub, registered_so, is_at, IsRegistering, is_reached, IsAdding, IsDue, IsTied}
 use Rattle.hp_play.proofs.TieFolds.{quiet_more, seated_more}
-use Rattle.hp_play.proofs.TieLists.{step_at-set_same, at_each, filter_gap, filter_next, filter_split, each-append}
+use Rattle.hp_table.proofs.Places.{step_at-set_same}
+use Rattle.hp_play.proofs.TieLists.{at_each, filter_gap, filter_next, filter_split, each-append}
 use Rattle.hp_play.proofs.TieParts.{SubFound, sub_found, single_sub, entry_caller}
 use Rattle.hp_play.proofs.CalledPlace.{subs_called, kept_called}
 use Rattle.hp_play.proofs.RegistrationBegins.{reached_there, reached_not}

@@ -15,22 +15,9 @@ use Rattle.hp_model.specs.Settled.{settled}
 use Rattle.hp_model.specs.Processors.{is_present, processors}
 use Rattle.hp_model.specs.RegistrationShape.{each}
 use Rattle.hp_table.specs.Step.{Step, step_at}
+use Rattle.hp_table.proofs.Places.{step_at-set_same, step_at-set_other}
 
 -- a place after a write
-pub step_at-set_same : (places : List (Option Step)) (s : ℕ) (place : Option Step) → s < length places →
-    step_at (slice_set places s place) s ≡ place
-step_at-set_same [] s place below = absurd (omega arith)
-step_at-set_same (x ∷ xs) zero place below = refl
-step_at-set_same (x ∷ xs) (suc s) place below = step_at-set_same xs s place (omega arith)
-
-pub step_at-set_other : (places : List (Option Step)) (s : ℕ) (place : Option Step) (t : ℕ) → s ≢ t →
-    step_at (slice_set places s place) t ≡ step_at places t
-step_at-set_other [] s place t other = refl
-step_at-set_other (x ∷ xs) zero place zero other = absurd (other refl)
-step_at-set_other (x ∷ xs) zero place (suc t) other = refl
-step_at-set_other (x ∷ xs) (suc s) place zero other = refl
-step_at-set_other (x ∷ xs) (suc s) place (suc t) other = step_at-set_other xs s place t (λ e. other (ap suc e))
-
 pub step_at-set : (places : List (Option Step)) (s : ℕ) (place : Option Step) (t : ℕ) → s < length places →
     step_at (slice_set places s place) t ≡ cond (eqb s t) place (step_at places t)
 step_at-set places s place t below = go (eqb s t) refl

@@ -1,5 +1,7 @@
--- The line that says why a script is refused. This project's own.
+-- The line that says why a script is refused, and the words of an error. This project's own.
 use Rattle.std.specs.Prelude.{ℕ, List, [], ◌∷◌, ◌++◌, codes, decimal}
+use Rattle.hp_play.specs.declared.error.ParseError.{ParseError}
+use Rattle.hp_play.specs.declared.error.ParseError.TheVariants.{Bad, NoMemory}
 use Rattle.hp_play.specs.declared.error.ScriptKind.{ScriptKind}
 use Rattle.hp_play.specs.declared.error.ScriptKind.TheVariants.{TooLong, BadByte, NoCpus, BadWord, BadOrder, StillLocked, BadForm, BadNumber, NoSub, TooMany, NoActor, NotBuilt}
 
@@ -20,3 +22,8 @@ kind_text NotBuilt = codes "not built"
 -- the line is 0 where the script is refused as a whole
 abbrev pub refusal_line : (line : ℕ) → ScriptKind → List ℕ
 refusal_line line kind = codes "error: line " ++ decimal line ++ codes ": " ++ kind_text kind ++ 10 ∷ []
+
+-- what an error of the reader is written as
+abbrev pub error_text : ParseError → List ℕ
+error_text (Bad line kind) = codes "line " ++ decimal line ++ codes ": " ++ kind_text kind
+error_text NoMemory = codes "out of memory"

@@ -2,7 +2,7 @@
 
 ghost use Rattle.std.specs.Prelude.{◌≡◌, Some, IfOk};
 ghost use Rattle.hp_play.specs.declared.error.ParseError.TheVariants.{NoMemory};
-ghost use Rattle.hp_play.specs.Refusals.{kind_text, refusal_line};
+ghost use Rattle.hp_play.specs.Refusals.{error_text, kind_text, refusal_line};
 
 use hp_event::NoMemory;
 use std::alloc::{AllocError, AllocFailed, Global};
@@ -80,6 +80,8 @@ pub enum ParseError {
 
 /// Writes `line 3: bad word`, or that memory was wanting.
 impl fmt::Display for ParseError {
+    ghost output = { λ error. Some (error_text error) };
+
     fn fmt<W: fmt::Write>(&self, f: &mut fmt::Formatter<W>) -> fmt::Result {
         match self {
             ParseError::Bad { line, kind } => write!(f, "line {line}: {kind}"),

@@ -1,7 +1,7 @@
-use Rattle.std.proofs.Common.{◌≡◌, ℕ, ◌+◌, ◌<◌, ◌≤◌, IfSome, List, length, None, Option, sym, subst, arith, ◌⊎◌, inl, inr}
+use Rattle.std.proofs.Common.{◌≡◌, ℕ, ◌+◌, ◌<◌, ◌≤◌, IfSome, length, None, arith, ◌⊎◌, inl, inr}
 use Rattle.std.proofs.lemmas.Bool.{cases_lt}
 use Rattle.hp_states.specs.declared.limits.TheConstants.{ONLINE}
-use Rattle.hp_table.specs.Step.{Step, step_at}
+use Rattle.hp_table.specs.Step.{step_at}
 use Rattle.hp_table.specs.Sound.{IsSound}
 use Rattle.hp_table.proofs.Places.{step_at-past}
 use Rattle.hp_files.proofs.tests.are_known.Goals as goal
