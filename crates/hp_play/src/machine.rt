@@ -3,7 +3,7 @@
 //! Each function that makes an event keeps the machine tied to its journal (`specs/Tied.antt`): the
 //! event stands after those before it, and what the machine remembers is what the events say.
 
-ghost use Rattle.std.specs.Prelude.{◌≡◌, ℕ, ◌+◌, ◌-◌, ◌<◌, ◌≤◌, Some, None, true, false, IfOk, IfSome, IfNone, IsSome, IsTrue, OnOk, OnErr, List, [], ◌∷◌, ◌++◌, map, length, slice_index, slice_set};
+ghost use Rattle.std.specs.Prelude.{◌≡◌, ℕ, ◌+◌, ◌-◌, ◌<◌, ◌≤◌, Some, None, true, false, IfOk, IfSome, IfNone, IsSome, IsTrue, OnOk, OnErr, List, [], ◌∷◌, ◌++◌, map, length, slice_index};
 ghost use Rattle.hp_states.specs.Rules.{site_at};
 ghost use Rattle.hp_event.specs.declared.event.Op.{Op as AnOp};
 ghost use Rattle.hp_model.specs.Subsystems.{names_sub};

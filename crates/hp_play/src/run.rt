@@ -1,8 +1,7 @@
 //! The run of a script.
 
-ghost use Rattle.std.specs.Prelude.{◌≡◌, ◌+◌, ◌≤◌, ◌++◌, IfOk, All, map, length, count_by, vec_len};
+ghost use Rattle.std.specs.Prelude.{◌≡◌, ◌+◌, ◌≤◌, IfOk, All, map, length, count_by, vec_len};
 ghost use Rattle.hp_model.specs.Heads.{IsHead};
-ghost use Rattle.hp_play.specs.Commands.{output};
 ghost use Rattle.hp_play.specs.Machine.{IsPlayableIn, is_setup};
 ghost use Rattle.hp_play.specs.Main.{WasPlayed};
 ghost use Rattle.hp_play.specs.Parts.{HasRun, Tied, hooks_of};
