@@ -298,6 +298,34 @@ fn so_many_instances_and_no_more(rt: HostRuntime) -> Result<(), Fail> {
     Ok(())
 }
 
+/// The states of a large table: 128, none of them built in.
+const LARGE: [(u32, u32); 3] = [(1, 62), (65, 100), (103, 135)];
+
+#[test]
+fn a_large_table_is_read_state_by_state(rt: HostRuntime) -> Result<(), Fail> {
+    let mut table = Table::new(rt.alloc())?;
+    for (first, end) in LARGE {
+        for state in first..end {
+            put(&mut table, state, record_of(1, true, ScriptHook::new()))?;
+            for inst in 1..33 {
+                table.add_instance(state, inst)?;
+            }
+        }
+    }
+    assert_eq!(rt; table.keys_between(0, 200), 4096);
+    for (first, end) in LARGE {
+        let keys = (end - first) * 32;
+        assert_eq!(rt; table.keys_between(first - 1, end - 1), keys);
+        for state in first..end {
+            assert_eq!(rt; table.keys_between(state - 1, state), 32, "at {state}");
+            assert_eq!(rt; table.instances(state).len(), 32, "at {state}");
+            assert_eq!(rt; table.instances(state).first(), Some(&32), "at {state}");
+            assert_eq!(rt; call(&rt, &mut table, state, 0, Dir::Up), 0, "at {state}");
+        }
+    }
+    Ok(())
+}
+
 #[test]
 fn keys_are_counted_between_states(rt: HostRuntime) -> Result<(), Fail> {
     let mut table = Table::new(rt.alloc())?;
