@@ -16,7 +16,8 @@ use Rattle.hp_model.specs.StandsOperations.{WalkBegins, WalkEnds, OpEnds}
 use Rattle.hp_model.specs.StandsRegistrations.{RegEnds}
 use Rattle.hp_model.proofs.Owners.{same_some, none_some}
 use Rattle.hp_check.specs.Replay.{At, ended}
-use Rattle.hp_check.specs.Due.{walk_reached, registration_reached, faults, walk_answer, registration_answer}
+use Rattle.hp_model.specs.Faults.{faults, walk_answer, registration_answer}
+use Rattle.hp_check.specs.Due.{walk_reached, registration_reached}
 use Rattle.hp_check.proofs.WalkEnd as walk_end
 use Rattle.hp_check.proofs.RegistrationRow as reg
 

@@ -1,9 +1,7 @@
 -- The rows of an entry of a registration and of a registration's end: each stands where the replay says so.
-use Rattle.std.proofs.Common.{◌≡◌, ℕ, Bool, true, false, cond, not, ◌||◌, Option, Some, None, List, [], ◌∷◌, ◌++◌, map, refl, ap, sym, ◌∙◌, inl, inr, ◌⊎◌, append_assoc}
+use Rattle.std.proofs.Common.{◌≡◌, ℕ, Bool, true, not, ◌||◌, Option, Some, None, List, [], ◌∷◌, ◌++◌, map, refl, ap, sym, ◌∙◌}
 use Rattle.std.proofs.lemmas.List.{append-nil}
 use Rattle.hp_states.specs.declared.section.Dir.{Dir}
-use Rattle.hp_states.specs.declared.section.Dir.TheVariants.{Up, Down}
-use Rattle.hp_states.specs.declared.section.Place.{Place}
 use Rattle.hp_event.specs.declared.event.Op.{Op}
 use Rattle.hp_event.specs.declared.event.How.{How}
 use Rattle.hp_event.specs.declared.event.Answer.{Answer}
@@ -14,109 +12,23 @@ use Rattle.hp_model.specs.Entries.{is_done, codes_of_faults}
 use Rattle.hp_model.specs.Crossing.{Slot, Fill}
 use Rattle.hp_model.specs.Registrations.{Registration, registration, registration_entries}
 use Rattle.hp_model.specs.Processors.{processors}
-use Rattle.hp_model.specs.RegistrationShape.{key_of, is_adding, each, Registering, made, undone, ok_value, IsRegistrationShape, IsRegistrationAnswer, IsWholeRegistration}
+use Rattle.hp_model.specs.RegistrationShape.{key_of, is_adding, ok_value, IsRegistrationAnswer, IsWholeRegistration}
 use Rattle.hp_model.specs.How.{how_in_registration}
 use Rattle.hp_model.specs.Caller.{caller}
-use Rattle.hp_model.specs.StandsCalls.{IsNext, InRegistration}
+use Rattle.hp_model.specs.StandsCalls.{InRegistration}
 use Rattle.hp_model.specs.StandsRegistrations.{RegEnds}
-use Rattle.hp_model.proofs.NextSlot.{with_fails, Tree, stop, dead, step, Follow}
-use Rattle.hp_model.proofs.NextRegistration.{down_tree, add_tree, registration_tree, registration_follows}
-use Rattle.hp_model.proofs.Cursor.{IsLive, Sound, sound_below, to_end, runs_before}
+use Rattle.hp_model.proofs.NextSlot.{with_fails, stop, step}
+use Rattle.hp_model.proofs.NextRegistration.{registration_tree, registration_follows}
+use Rattle.hp_model.proofs.Cursor.{sound_below, runs_before}
 use Rattle.hp_model.proofs.OneRegistration.{outcome_of, shape_outcome}
-use Rattle.hp_model.proofs.TreeShapes.{stop_none}
+use Rattle.hp_model.proofs.RegistrationCursor.{registration_shape, sound_registration, IsNextSlot, next_slot_of}
 use Rattle.hp_model.proofs.Owners.{same_some, none_some}
 use Rattle.hp_check.specs.Replay.{next, ended, reached}
-use Rattle.hp_check.specs.Due.{due_of_registration, registration_reached, Faulty, faults, registration_answer}
+use Rattle.hp_model.specs.Faults.{Faulty, faults, registration_answer}
+use Rattle.hp_check.specs.Due.{due_of_registration, registration_reached}
 use Rattle.hp_check.proofs.Reach.{step_of, end_of, reached_of, reached_end_of}
-use Rattle.hp_check.proofs.WalkRow.{IsDueAt, due_apart, due_when, caller_at, branch_live, not_not, fill_faults}
-
--- what follows the tree of a registration is a shape of it
-down_shape : (p : Place) (s i : ℕ) (cs : List ℕ) (xs : List Slot) → Follow (down_tree p s i cs) xs → xs ≡ each p Down s i cs
-down_shape p s i [] xs h = stop_none xs h
-down_shape p s i (c ∷ cs) [] h = elim h [ ]
-down_shape p s i (c ∷ cs) (x ∷ xs) h = go x.fails h.0 h.1 (down_shape p s i cs xs)
-  where
-    go : (fails : Bool) →
-        x ≡ with_fails (record { cpu = c; state = s; inst = i; dir = Down; place = p; first = false; fails = false }) fails →
-        Follow (cond fails dead (down_tree p s i cs)) xs → (Follow (down_tree p s i cs) xs → xs ≡ each p Down s i cs) →
-        x ∷ xs ≡ each p Down s i (c ∷ cs)
-    go true e k r = elim k [ ]
-    go false e k r = rw (e, r k) refl
-
--- made, or undone after some processors
-record IsAdded (s i : ℕ) (seen cs : List ℕ) (xs : List Slot) : Type 0 where
-  before : List ℕ
-  cpu : ℕ
-  after : List ℕ
-  cpus_are : cs ≡ before ++ cpu ∷ after
-  slots_are :
-      xs ≡ each Place.Add Up s i before
-      ++ (record { cpu = cpu; state = s; inst = i; dir = Up; place = Place.Add; first = false; fails = true }
-      ∷ each Place.Undo Down s i (seen ++ before))
-
-add_shape : (s i : ℕ) (seen cs : List ℕ) (xs : List Slot) → Follow (add_tree s i seen cs) xs →
-    (xs ≡ each Place.Add Up s i cs) ⊎ IsAdded s i seen cs xs
-add_shape s i seen [] xs h = inl (stop_none xs h)
-add_shape s i seen (c ∷ cs) [] h = elim h [ ]
-add_shape s i seen (c ∷ cs) (x ∷ xs) h = go x.fails h.0 h.1 (add_shape s i (seen ++ c ∷ []) cs xs)
-  where
-    more : x ≡ record { cpu = c; state = s; inst = i; dir = Up; place = Place.Add; first = false; fails = false } →
-        (xs ≡ each Place.Add Up s i cs) ⊎ IsAdded s i (seen ++ c ∷ []) cs xs →
-        (x ∷ xs ≡ each Place.Add Up s i (c ∷ cs)) ⊎ IsAdded s i seen (c ∷ cs) (x ∷ xs)
-    more e (inl r) = inl (rw (e, r) refl)
-    more e (inr r) = inr (record {
-      before = c ∷ r.before;
-      cpu = r.cpu;
-      after = r.after;
-      cpus_are = ap (λ z. c ∷ z) r.cpus_are;
-      slots_are = rw (e, r.slots_are, append_assoc seen (c ∷ []) r.before) refl;
-    })
-
-    go : (fails : Bool) →
-        x ≡ with_fails (record { cpu = c; state = s; inst = i; dir = Up; place = Place.Add; first = false; fails = false }) fails →
-        Follow (cond fails (down_tree Place.Undo s i seen) (add_tree s i (seen ++ c ∷ []) cs)) xs →
-        (Follow (add_tree s i (seen ++ c ∷ []) cs) xs → (xs ≡ each Place.Add Up s i cs) ⊎ IsAdded s i (seen ++ c ∷ []) cs xs) →
-        (x ∷ xs ≡ each Place.Add Up s i (c ∷ cs)) ⊎ IsAdded s i seen (c ∷ cs) (x ∷ xs)
-    go true e k r = inr (record {
-      before = [];
-      cpu = c;
-      after = cs;
-      cpus_are = refl;
-      slots_are = rw (e, down_shape Place.Undo s i seen xs k, append-nil seen) refl;
-    })
-    go false e k r = more e (r k)
-
-record IsSomeRegistration (adding : Bool) (s : ℕ) (key : Option ℕ) (cs : List ℕ) (xs : List Slot) : Type 0 where
-  outcome : Registering
-  shape : IsRegistrationShape adding s key cs xs outcome
-
-registration_shape : (adding : Bool) (s : ℕ) (key : Option ℕ) (cs : List ℕ) (xs : List Slot) →
-    Follow (registration_tree adding s key cs) xs → IsSomeRegistration adding s key cs xs
-registration_shape adding s None cs xs h = record { outcome = made; shape = stop_none xs h }
-registration_shape false s (Some i) cs xs h = record { outcome = made; shape = down_shape Place.Remove s i cs xs h }
-registration_shape true s (Some i) cs xs h = go (add_shape s i [] cs xs h)
-  where
-    go : (xs ≡ each Place.Add Up s i cs) ⊎ IsAdded s i [] cs xs → IsSomeRegistration true s (Some i) cs xs
-    go (inl r) = record { outcome = made; shape = r }
-    go (inr r) = record {
-      outcome = undone;
-      shape = record { before = r.before; cpu = r.cpu; after = r.after; cpus_are = r.cpus_are; slots_are = r.slots_are };
-    }
-
--- each way down leads to the end
-sound_down : (p : Place) (s i : ℕ) (cs : List ℕ) → IsLive (down_tree p s i cs) × Sound (down_tree p s i cs)
-sound_down p s i [] = (tt, tt)
-sound_down p s i (c ∷ cs) = let r = sound_down p s i cs in (tt, (r.0, r.1, tt))
-
-sound_add : (s i : ℕ) (seen cs : List ℕ) → IsLive (add_tree s i seen cs) × Sound (add_tree s i seen cs)
-sound_add s i seen [] = (tt, tt)
-sound_add s i seen (c ∷ cs) =
-    let r = sound_add s i (seen ++ c ∷ []) cs in (tt, (r.0, r.1, (sound_down Place.Undo s i seen).1))
-
-sound_registration : (adding : Bool) (s : ℕ) (key : Option ℕ) (cs : List ℕ) → Sound (registration_tree adding s key cs)
-sound_registration adding s None cs = tt
-sound_registration true s (Some i) cs = (sound_add s i [] cs).1
-sound_registration false s (Some i) cs = (sound_down Place.Remove s i cs).1
+use Rattle.hp_model.proofs.WalkEnd.{fill_faults}
+use Rattle.hp_check.proofs.WalkRow.{IsDueAt, due_apart, due_when, caller_at, branch_live, not_not}
 
 pub how_at : (head : Head) (before : List Event) (op : Op) (x : Slot) (cpu state inst : ℕ) (dir : Dir) → cpu ≡ x.cpu →
     state ≡ x.state → inst ≡ x.inst → dir ≡ x.dir →
@@ -142,35 +54,15 @@ registration_row head before seat cpu state inst dir how h =
     (h.how_is ∙ how_at head before r.op h.slot cpu state inst dir h.fits.0 h.fits.1 h.fits.2 h.fits.3)
     (caller_at before h.slot cpu state how r.seat h.fits.0 h.fits.1 ∙ h.caller_is))
 
-record IsNextSlot (adding : Bool) (s : ℕ) (key : Option ℕ) (cs : List ℕ) (es : List Event) (slot : Slot) : Type 0 where
-  outcome : Registering
-  slots : List Slot
-  shape : IsRegistrationShape adding s key cs slots outcome
-  is_next : IsNext slots es slot
-
 next_when : (adding : Bool) (s : ℕ) (key : Option ℕ) (cs : List ℕ) (es : List Event) (slot : Slot) (m : Bool) →
     reached (registration_tree adding s key cs) es ≡ next slot m → (done : Bool) → (done || m) ≡ true →
     IsNextSlot adding s key cs es (with_fails slot (not done))
 next_when adding s key cs es slot m h done can =
     let t = registration_tree adding s key cs in
     let r = step_of t es slot m h in
-    let u = step slot r.done_tree r.fault_tree in
-    let sound = sound_below t es u r.runs (sound_registration adding s key cs) in
-    let below = cond (not done) r.fault_tree r.done_tree in
-    let e = to_end below (branch_live done r.done_tree r.fault_tree m sound.0 r.live can)
-    (branch_sound (not done) r.done_tree r.fault_tree sound.1 sound.2) in
-    let w = runs_before t es u (with_fails slot (not done) ∷ e.0) r.runs (refl, e.1) in
-    let g = registration_shape adding s key cs (w.front ++ with_fails slot (not done) ∷ e.0) w.follows in
-    record {
-      outcome = g.outcome;
-      slots = w.front ++ with_fails slot (not done) ∷ e.0;
-      shape = g.shape;
-      is_next = record { front = w.front; rest = e.0; slots_are = refl; filled = w.filled };
-    }
-  where
-    branch_sound : (b : Bool) (x y : Tree) → Sound x → Sound y → Sound (cond b y x)
-    branch_sound true x y h k = k
-    branch_sound false x y h k = h
+    let sound = sound_below t es (step slot r.done_tree r.fault_tree) r.runs (sound_registration adding s key cs) in
+    next_slot_of adding s key cs es slot r.done_tree r.fault_tree (not done) r.runs
+    (branch_live done r.done_tree r.fault_tree m sound.0 r.live can)
 
 -- an entry that is due stands
 pub registration_due : (head : Head) (before : List Event) (seat cpu state inst : ℕ) (dir : Dir) (how : How) →

@@ -12,21 +12,13 @@ use Rattle.hp_model.specs.Plan.{direction, plan}
 use Rattle.hp_model.specs.WalkShape.{IsAnswer, IsWholeWalk}
 use Rattle.hp_model.specs.StandsOperations.{WalkEnds}
 use Rattle.hp_model.proofs.NextSlot.{walk_tree, shape_follows}
-use Rattle.hp_model.proofs.Cursor.{end_of_walk}
+use Rattle.hp_model.proofs.WalkEnd.{fill_faults, whole_walk}
 use Rattle.hp_model.proofs.OneAnswer.{outcome_of, shape_outcome}
 use Rattle.hp_model.proofs.Owners.{same_some, none_some}
 use Rattle.hp_check.specs.Replay.{ended, reached}
-use Rattle.hp_check.specs.Due.{walk_reached, Faulty, faults, walk_answer}
+use Rattle.hp_model.specs.Faults.{Faulty, faults, walk_answer}
+use Rattle.hp_check.specs.Due.{walk_reached}
 use Rattle.hp_check.proofs.Reach.{end_of, reached_end_of}
-use Rattle.hp_check.proofs.WalkRow.{fill_faults}
-
--- the answer of an outcome, by the faults
-answer_if : (d : Dir) (es : List Event) (answer : Answer) (fs : List Faulty) → codes_of_faults es ≡ map (λ f. f.code) fs →
-    walk_answer d fs ≡ Some answer → IsAnswer (outcome_of d (map (λ f. f.state) fs)) es answer
-answer_if d es answer [] h k = sym (same_some _ _ k)
-answer_if d es answer (f ∷ []) h k = (f.code, h, sym (same_some _ _ k))
-answer_if d es answer (f ∷ (g ∷ [])) h k = (f.code, g.code, h, sym (same_some _ _ k))
-answer_if d es answer (f ∷ (g ∷ (j ∷ js))) h k = absurd (none_some _ k)
 
 first_code : (a b : ℕ) (xs ys : List ℕ) → a ∷ xs ≡ b ∷ ys → a ≡ b
 first_code a b xs ys h = cc
@@ -49,16 +41,7 @@ answer_only d es answer (f ∷ (g ∷ (j ∷ js))) h k = absurd (no_third f.code
 pub whole_if : (c : ℕ) (K : ℕ → List ℕ) (d : Dir) (p : List ℕ) (es : List Event) (answer : Answer) →
     reached (walk_tree c K d [] p) es ≡ ended → walk_answer d (faults es) ≡ Some answer → IsWholeWalk c K d p es answer
 whole_if c K d p es answer h k =
-    let e = end_of_walk c K d p es (record { runs = end_of (walk_tree c K d [] p) es h }) in
-    let f = fill_faults (slots c K e.crossings) es e.filled in
-    let o = shape_outcome c K d p e.crossings e.outcome e.shape in
-    record {
-      outcome = e.outcome;
-      crossings = e.crossings;
-      shape = e.shape;
-      filled = e.filled;
-      answered = rw (o, f.0) (answer_if d es answer (faults es) f.1 k);
-    }
+    whole_walk c K d p es answer (record { runs = end_of (walk_tree c K d [] p) es h }) k
 
 pub whole_only : (c : ℕ) (K : ℕ → List ℕ) (d : Dir) (p : List ℕ) (es : List Event) (answer : Answer) →
     IsWholeWalk c K d p es answer → (reached (walk_tree c K d [] p) es ≡ ended) × (walk_answer d (faults es) ≡ Some answer)

@@ -1,26 +1,24 @@
 -- The row of an entry of a walk, and of a walk's end: each stands where the replay says so.
-use Rattle.std.proofs.Common.{◌≡◌, ℕ, Bool, true, false, cond, not, ◌||◌, Option, Some, None, List, [], ◌∷◌, map, refl, ap, sym, ◌∙◌}
-use Rattle.std.proofs.lemmas.Bool.{true≢false, false≢true}
+use Rattle.std.proofs.Common.{◌≡◌, ℕ, Bool, true, false, cond, not, ◌||◌, Option, Some, None, List, [], refl, ap, sym, ◌∙◌}
+use Rattle.std.proofs.lemmas.Bool.{false≢true}
 use Rattle.hp_states.specs.declared.section.Dir.{Dir}
 use Rattle.hp_event.specs.declared.event.How.{How}
-use Rattle.hp_event.specs.declared.event.How.TheVariants.{RanOk, RanFault, Injected, Empty, Presumed, Overruled}
 use Rattle.hp_event.specs.declared.head.Head.{Head}
 use Rattle.hp_event.specs.declared.event.Event.{Event}
 use Rattle.hp_event.specs.declared.event.Event.TheVariants.{Call}
-use Rattle.hp_model.specs.Entries.{is_done, codes_of_faults}
-use Rattle.hp_model.specs.Crossing.{Slot, Fits, Fill}
+use Rattle.hp_model.specs.Entries.{is_done}
+use Rattle.hp_model.specs.Crossing.{Slot, Fits}
 use Rattle.hp_model.specs.Walks.{Walk, walk, walk_entries}
 use Rattle.hp_model.specs.Registered.{keys}
 use Rattle.hp_model.specs.Plan.{direction, plan}
 use Rattle.hp_model.specs.How.{how_in_walk}
 use Rattle.hp_model.specs.Caller.{caller}
-use Rattle.hp_model.specs.StandsCalls.{InWalk}
+use Rattle.hp_model.specs.StandsCalls.{InWalk, IsNextInWalk}
 use Rattle.hp_model.proofs.NextSlot.{with_fails, Tree, stop, dead, step, walk_tree, shape_follows}
-use Rattle.hp_model.proofs.Cursor.{IsLive, sound_below, sound_walk, IsNextOf, next_of}
-use Rattle.hp_model.proofs.OneAnswer.{failing}
+use Rattle.hp_model.proofs.Cursor.{IsLive, sound_below, sound_walk, next_of}
 use Rattle.hp_model.proofs.Owners.{same_some, none_some}
 use Rattle.hp_check.specs.Replay.{At, next, ended, astray, is_live, reached}
-use Rattle.hp_check.specs.Due.{made_by, due_at, walk_reached, due_of_walk, faults}
+use Rattle.hp_check.specs.Due.{made_by, due_at, walk_reached, due_of_walk}
 use Rattle.hp_check.proofs.Reach.{IsReached, step_of, reached_of}
 
 -- an entry that is due, taken apart
@@ -141,7 +139,7 @@ walk_row head before c seat state inst dir how h =
 
 next_when : (c : ℕ) (K : ℕ → List ℕ) (d : Dir) (p : List ℕ) (es : List Event) (slot : Slot) (m : Bool) →
     reached (walk_tree c K d [] p) es ≡ next slot m → (done : Bool) → (done || m) ≡ true →
-    IsNextOf c K d p es (with_fails slot (not done))
+    IsNextInWalk c K d p es (with_fails slot (not done))
 next_when c K d p es slot m h done can =
     let t = walk_tree c K d [] p in
     let r = step_of t es slot m h in
@@ -182,32 +180,3 @@ walk_due head before c seat cpu state inst dir how e same = go (walk c before) r
         build w f
         (due_apart (λ x. how_in_walk head before x.cpu x.state x.inst x.dir x.place x.first)
         (λ x how. caller before x.cpu x.state how w.seat) (walk_reached head before c w) seat cpu state inst dir how g)
-
--- the faults among the entries that fill some slots
-pub fill_faults : (xs : List Slot) (es : List Event) → Fill xs es →
-    (failing xs ≡ map (λ f. f.state) (faults es)) × (codes_of_faults es ≡ map (λ f. f.code) (faults es))
-fill_faults [] [] h = (refl, refl)
-fill_faults [] (e ∷ es) h = elim h [ ]
-fill_faults (x ∷ xs) [] h = elim h [ ]
-fill_faults (x ∷ xs) (Call seat cpu state inst dir how ∷ es) h = go how x.fails h.0.4 (fill_faults xs es h.1)
-  where
-    ok : (b : Bool) → true ≡ not b → b ≡ false
-    ok true h = absurd (true≢false h)
-    ok false h = refl
-
-    bad : (b : Bool) → false ≡ not b → b ≡ true
-    bad true h = refl
-    bad false h = absurd (false≢true h)
-
-    go : (how : How) (b : Bool) → is_done how ≡ not b →
-        (failing xs ≡ map (λ f. f.state) (faults es)) × (codes_of_faults es ≡ map (λ f. f.code) (faults es)) →
-        (cond b (x.state ∷ failing xs) (failing xs) ≡ map (λ f. f.state) (faults (Call seat cpu state inst dir how ∷ es)))
-        × (codes_of_faults (Call seat cpu state inst dir how ∷ es)
-        ≡ map (λ f. f.code) (faults (Call seat cpu state inst dir how ∷ es)))
-    go RanOk b e r = (rw (ok b e) r.0, r.1)
-    go (RanFault code) b e r = (rw (bad b e, ← h.0.1, r.0) refl, rw r.1 refl)
-    go Injected b e r = (rw (bad b e, ← h.0.1, r.0) refl, rw r.1 refl)
-    go Empty b e r = (rw (ok b e) r.0, r.1)
-    go Presumed b e r = (rw (ok b e) r.0, r.1)
-    go (Overruled code) b e r = (rw (ok b e) r.0, r.1)
-fill_faults (x ∷ xs) (e ∷ es) h = elim h.0 [ ]

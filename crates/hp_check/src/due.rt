@@ -7,7 +7,8 @@ ghost use Rattle.hp_model.specs.Registrations.{registration as registration_spec
 ghost use Rattle.hp_check.specs.InFlight.{walk_by, registration_by};
 ghost use Rattle.hp_check.specs.Spots.{slot_by, at_by};
 ghost use Rattle.hp_check.specs.Faults.{faulty_by};
-ghost use Rattle.hp_check.specs.Due.{due_so as due_so_of, walk_reached as walk_reached_of, due_of_walk as due_of_walk_of, registration_reached as registration_reached_of, due_of_registration as due_of_registration_of, faulty, faults as faults_of, walk_answer as walk_answer_of, registration_answer};
+ghost use Rattle.hp_check.specs.Due.{due_so as due_so_of, walk_reached as walk_reached_of, due_of_walk as due_of_walk_of, registration_reached as registration_reached_of, due_of_registration as due_of_registration_of};
+ghost use Rattle.hp_model.specs.Faults.{faulty, faults as faults_of, walk_answer as walk_answer_of, registration_answer};
 
 use crate::how::{Spot, caller, how_in_registration, how_in_walk};
 use crate::plan::{direction, plan};

@@ -4,7 +4,7 @@
 ghost use Rattle.std.specs.Prelude.{◌≡◌, ◌↔◌, IsTrue, false, Some, IfOk};
 ghost use Rattle.hp_model.specs.Plan.{direction as direction_of};
 ghost use Rattle.hp_model.specs.Walks.{walk_entries as walk_entries_of};
-ghost use Rattle.hp_check.specs.Due.{faults as faults_of, walk_answer as walk_answer_of};
+ghost use Rattle.hp_model.specs.Faults.{faults as faults_of, walk_answer as walk_answer_of};
 ghost use Rattle.hp_check.specs.Replay.{ended};
 ghost use Rattle.hp_check.specs.Spots.{at_by};
 ghost use Rattle.hp_model.specs.Sequence.{walks, ends};

@@ -3,7 +3,7 @@
 ghost use Rattle.std.specs.Prelude.{◌≡◌, ◌↔◌, IsTrue, Some, IfOk};
 ghost use Rattle.hp_model.specs.RegistrationShape.{ok_value as ok_value_of};
 ghost use Rattle.hp_model.specs.Registrations.{registration_entries as registration_entries_of};
-ghost use Rattle.hp_check.specs.Due.{faults as faults_of, registration_answer};
+ghost use Rattle.hp_model.specs.Faults.{faults as faults_of, registration_answer};
 ghost use Rattle.hp_model.specs.StandsRegistrations.{RegBegins, RegEnds};
 
 use crate::due::{faults, is_registration_answer, registration_reached};

@@ -8,7 +8,7 @@ use Rattle.hp_states.specs.Sections.{opposite}
 use Rattle.hp_event.specs.declared.event.Event.{Event}
 use Rattle.hp_model.specs.Crossing.{Slot, Fits, Fill, Crossing, slots}
 use Rattle.hp_model.specs.WalkShape.{Outcome, IsWalkShape}
-use Rattle.hp_model.specs.StandsCalls.{IsNext}
+use Rattle.hp_model.specs.StandsCalls.{IsNextInWalk}
 use Rattle.hp_model.proofs.NextSlot.{with_fails, Tree, stop, dead, step, Follow, visit_tree, part_tree, back_tree, walk_tree}
 use Rattle.hp_model.proofs.TreeShapes.{tree_shape}
 
@@ -98,18 +98,12 @@ pub record StandsAt (c : ℕ) (keys : ℕ → List ℕ) (d : Dir) (plan : List �
   pub runs : Runs (walk_tree c keys d [] plan) es t
 
 -- At a step a Call can come that fits its slot, done or a fault, where that leads to no dead end.
-pub record IsNextOf (c : ℕ) (keys : ℕ → List ℕ) (d : Dir) (plan : List ℕ) (es : List Event) (slot : Slot) : Type 0 where
-  pub outcome : Outcome
-  pub crossings : List Crossing
-  pub shape : IsWalkShape keys d plan crossings outcome
-  pub is_next : IsNext (slots c keys crossings) es slot
-
 pub sound_branch : (fails : Bool) (a b : Tree) → Sound a → Sound b → Sound (cond fails b a)
 sound_branch true a b h k = k
 sound_branch false a b h k = h
 
 pub next_of : (c : ℕ) (keys : ℕ → List ℕ) (d : Dir) (plan : List ℕ) (es : List Event) (s : Slot) (a b : Tree) (fails : Bool) →
-    StandsAt c keys d plan es (step s a b) → IsLive (cond fails b a) → IsNextOf c keys d plan es (with_fails s fails)
+    StandsAt c keys d plan es (step s a b) → IsLive (cond fails b a) → IsNextInWalk c keys d plan es (with_fails s fails)
 next_of c keys d plan es s a b fails h l =
     let w = sound_below (walk_tree c keys d [] plan) es (step s a b) h.runs (sound_walk c keys d [] plan).1 in
     let e = to_end (cond fails b a) l (sound_branch fails a b w.1 w.2) in

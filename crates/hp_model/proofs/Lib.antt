@@ -28,9 +28,13 @@ pub mod TreeShapes
 pub mod Cursor
 pub mod Lengths
 pub mod OneAnswer
+pub mod WalkEnd
+pub mod PlanLemmas
+pub mod PlanBounds
 pub mod NextRegistration
 pub mod OneEntry
 pub mod OneRegistration
+pub mod RegistrationCursor
 pub mod Stages
 pub mod OneNext
 pub mod Slow

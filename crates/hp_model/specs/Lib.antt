@@ -13,6 +13,7 @@ pub mod MapLock
 pub mod Readers
 pub mod Seats
 pub mod Crossing
+pub mod Faults
 pub mod Plan
 pub mod WalkShape
 pub mod RegistrationShape

@@ -1,11 +1,12 @@
--- The state that the `state` file shows. At rest it is the settled state; during a walk it is that of the last
--- done crossing, less 1 if it went down. After `show_cpuhp_state` of `kernel/cpu.c`; what it shows in flight
--- is this project's own.
+-- The state that the `state` file shows: at rest the settled state, during a walk that of the last done crossing, less 1
+-- if it went down. And where a walk is going, which the `target` file shows. After `show_cpuhp_state` and
+-- `show_cpuhp_target` of `kernel/cpu.c`; what they show in flight is this project's own.
 use Rattle.std.specs.Prelude.{ℕ, Bool, false, ◌&&◌, ◌==◌, if◌then◌else◌, Option, Some, None, List, [], ◌∷◌, fold}
 use Rattle.hp_event.specs.declared.head.Head.{Head}
 use Rattle.hp_event.specs.declared.event.Event.{Event}
 use Rattle.hp_event.specs.declared.event.Event.TheVariants.{Call}
-use Rattle.hp_model.specs.Entries.{is_done}
+use Rattle.hp_model.specs.Lists.{is_empty}
+use Rattle.hp_model.specs.Entries.{is_done, codes_of_faults}
 use Rattle.hp_model.specs.Walks.{Walk, walk, walk_entries}
 use Rattle.hp_model.specs.Registered.{keys}
 use Rattle.hp_model.specs.Crossing.{far}
@@ -29,3 +30,7 @@ shown_in head (Some w) entries at = fold (shown_after (keys head w.before)) w.fr
 
 abbrev pub shown : Head → (cpu : ℕ) → List Event → ℕ
 shown head c events = shown_in head (walk c events) (walk_entries c events) (settled c events)
+
+-- where a walk is going: to its end, and from its first fault on back to its start
+abbrev pub heading : (from to : ℕ) → (entries : List Event) → ℕ
+heading from to entries = if is_empty (codes_of_faults entries) then to else from

@@ -29,6 +29,13 @@ pub record IsNext (xs : List Slot) (entries : List Event) (slot : Slot) : Type 0
   pub slots_are : xs ≡ front ++ slot ∷ rest
   pub filled : Fill front entries
 
+-- the slot that comes after some entries, in some walk along the plan
+pub record IsNextInWalk (cpu : ℕ) (keys : ℕ → List ℕ) (d : Dir) (plan : List ℕ) (entries : List Event) (slot : Slot) : Type 0 where
+  pub outcome : Outcome
+  pub crossings : List Crossing
+  pub shape : IsWalkShape keys d plan crossings outcome
+  pub is_next : IsNext (slots cpu keys crossings) entries slot
+
 -- an entry of the walk of its processor that is in flight
 pub record InWalk (head : Head) (before : List Event) (seat cpu state inst : ℕ) (dir : Dir) (how : How) : Type 0 where
   pub of : Walk
