@@ -1,0 +1,10 @@
+pub mod Crossed
+pub mod Steps
+pub mod Seen
+pub mod Moves
+pub mod Going
+pub mod Returning
+pub mod Asking
+pub mod Begun
+pub mod Alike
+pub mod Asked

@@ -1,0 +1,38 @@
+-- Past an entry on the way back: the next key, the state behind it, or stuck at a fault.
+use Rattle.std.proofs.Common.{◌≡◌, ◌+◌, length, sym, arith}
+use Rattle.hp_walk.specs.Keys.{keys_by}
+use Rattle.hp_walk.proofs.Seen.{none_done}
+use Rattle.hp_walk.proofs.Returning.{back_more, back_last, back_fault, back_fault_first}
+use Rattle.hp_walk.proofs.walk.Walk.took_back.Goals as goal
+
+pub returns-in-None : goal.returns-in-None
+returns-in-None g c =
+    back_more (keys_by c.args.table.now) c.args.how c.args.self.now c.args.state c.args.key c.args.code c.requires.position
+    c.requires.within c.key_count.ensures.distinct (none_done c.args.how (sym c.in-None.ensures))
+    (rw c.key_count.ensures.count at c.if-key_count-key.true)
+
+pub returns-in-None-2 : goal.returns-in-None-2
+returns-in-None-2 g c =
+    let at = rw c.requires.position at c.requires.within.at in
+    let reached = rw c.direction-dir.ensures at c.near-self.ensures in
+    let back = rw c.direction-dir.ensures at c.opposite.ensures in
+    let behind = rw (back, reached) at c.behind-self.ensures in
+    let last : c.args.key + 1 ≡ length (keys_by c.args.table.now c.args.state) =
+    omega (arith, c.key_count.ensures.count, c.if-key_count-key.false, at.1)
+    in
+    rw reached
+    (back_last (keys_by c.args.table.now) c.args.how c.args.self.now c.args.state c.args.key c.args.code c.behind-self.result
+    c.requires.position c.requires.within (none_done c.args.how (sym c.in-None-2.ensures)) last behind)
+
+pub returns-in-Some : goal.returns-in-Some
+returns-in-Some g c =
+    back_fault (keys_by c.args.table.now) c.args.how c.args.self.now c.args.state c.args.key c.args.code c.in-Some.second
+    c.requires.position c.requires.within (sym c.in-Some.ensures) c.if-key-gt0.true
+
+pub returns-in-Some-2 : goal.returns-in-Some-2
+returns-in-Some-2 g c =
+    let ends = rw c.direction-dir.ensures at c.stuck-self.ensures in
+    let first : c.args.key ≡ 0 = omega (arith, c.if-key-gt0.false) in
+    rw ends
+    (back_fault_first (keys_by c.args.table.now) c.args.how c.args.self.now c.args.state c.args.key c.args.code
+    c.in-Some.second c.requires.position c.requires.within (sym c.in-Some.ensures) first)

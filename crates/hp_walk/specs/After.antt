@@ -1,0 +1,97 @@
+-- That a walk stands after some entries: they began a walk along its plan, and where they lead is where it stands. This
+-- project's own.
+use Rattle.std.specs.Prelude.{◌≡◌, ◌≢◌, ℕ, ◌<◌, ◌≤◌, ◌==◌, Some, Bool, true, false, List, [], ◌∷◌, length, take, drop, fold}
+use Rattle.hp_states.specs.declared.limits.TheConstants.{ONLINE}
+use Rattle.hp_states.specs.declared.section.Dir.{Dir}
+use Rattle.hp_states.specs.declared.section.Place.{Place}
+use Rattle.hp_states.specs.declared.section.Place.TheVariants as placed
+use Rattle.hp_states.specs.Sections.{opposite, can_fail}
+use Rattle.hp_event.specs.declared.event.Event.{Event}
+use Rattle.hp_event.specs.declared.event.Key.{Key}
+use Rattle.hp_model.specs.Crossing.{near, far}
+use Rattle.hp_model.specs.Faults.{Faulty, faults, walk_answer}
+use Rattle.hp_model.specs.Plan.{direction, plan}
+use Rattle.hp_model.specs.Shown.{shown_after}
+use Rattle.hp_model.specs.StandsCalls.{IsNextInWalk}
+use Rattle.hp_model.specs.WalkShape.{IsWholeWalk}
+use Rattle.hp_model.proofs.NextSlot.{Tree, stop, visit_tree, part_tree, back_tree, walk_tree}
+use Rattle.hp_model.proofs.Cursor.{StandsAt}
+use Rattle.hp_walk.specs.declared.position.Position.{Position}
+use Rattle.hp_walk.specs.declared.position.Position.TheVariants.{Forward, Failed, Back, Stuck, Ended}
+use Rattle.hp_walk.specs.declared.step.Step.{Step}
+use Rattle.hp_walk.specs.declared.step.Step.TheVariants as ask
+use Rattle.hp_walk.specs.Keys.{IsCrossed}
+use Rattle.hp_walk.specs.declared.walk.Walk.{Walk}
+use Rattle.hp_walk.specs.Asked.{slot_of}
+use Rattle.hp_walk.specs.Left.{depth}
+
+-- what can follow on the way back, from the state that stands before one
+abbrev pub behind : (keys : ℕ → List ℕ) → Walk → Dir → (state : ℕ) → Tree
+behind keys w d s = back_tree w.cpu keys (opposite d) (plan keys (near d s) w.from)
+
+-- what can follow
+abbrev pub tree_at : (keys : ℕ → List ℕ) → Walk → Dir → Position → Tree
+tree_at keys w d (Forward s k) =
+    visit_tree w.cpu placed.Forward d s (k == 0) (take k (keys s)) (drop k (keys s))
+    (walk_tree w.cpu keys d (s ∷ plan keys (near d s) w.from) (plan keys (far d s) w.to))
+    (λ earlier. part_tree w.cpu (opposite d) s earlier (behind keys w d s))
+tree_at keys w d (Failed s k n code) = part_tree w.cpu (opposite d) s (drop k (take n (keys s))) (behind keys w d s)
+tree_at keys w d (Back s k code) =
+    visit_tree w.cpu placed.Back (opposite d) s (k == 0) (take k (keys s)) (drop k (keys s)) (behind keys w d s)
+    (λ earlier. part_tree w.cpu (opposite (opposite d)) s earlier stop)
+tree_at keys w d (Stuck s k n first second) =
+    part_tree w.cpu (opposite (opposite d)) s (drop k (take n (keys s))) stop
+tree_at keys w d (Ended answer) = stop
+
+abbrev pub tree_of : (keys : ℕ → List ℕ) → Walk → Tree
+tree_of keys w = tree_at keys w (direction w.from w.to) w.position
+
+-- how many entries can come at most
+abbrev pub entries_left : (keys : ℕ → List ℕ) → Walk → ℕ
+entries_left keys w = depth (tree_of keys w)
+
+-- the faults that there were, by where it stands
+abbrev pub HasFaults : Dir → Position → List Faulty → Type 0
+HasFaults d (Forward s k) found = found ≡ []
+HasFaults d (Failed s k n code) found = (t : ℕ) × (found ≡ record { code = code; state = t } ∷ [])
+HasFaults d (Back s k code) found = (t : ℕ) × (found ≡ record { code = code; state = t } ∷ [])
+HasFaults d (Stuck s k n first second) found =
+    (t : ℕ) × (found ≡ record { code = first; state = t } ∷ (record { code = second; state = s } ∷ []))
+HasFaults d (Ended answer) found = walk_answer d found ≡ Some answer
+
+-- the state is one that it crosses, and the key is there
+abbrev pub IsAt : (keys : ℕ → List ℕ) → Dir → (from to : ℕ) → Position → Type 0
+IsAt keys d from to (Forward s k) = IsCrossed d from to s × (k < length (keys s))
+IsAt keys d from to (Failed s k n code) = IsCrossed d from to s × (k < n) × (n < length (keys s))
+IsAt keys d from to (Back s k code) = IsCrossed d from to s × (k < length (keys s))
+IsAt keys d from to (Stuck s k n first second) = IsCrossed d from to s × (k < n) × (n < length (keys s))
+IsAt keys d from to (Ended answer) = Unit {0}
+
+-- it stands among the states and keys
+pub record IsWithin (keys : ℕ → List ℕ) (w : Walk) : Type 0 where
+  pub from_most : w.from ≤ ONLINE
+  pub to_most : w.to ≤ ONLINE
+  pub moves : w.from ≢ w.to
+  pub at : IsAt keys (direction w.from w.to) w.from w.to w.position
+
+pub record IsAfter (keys : ℕ → List ℕ) (entries : List Event) (w : Walk) : Type 0 where
+  pub within : IsWithin keys w
+  pub stands : StandsAt w.cpu keys (direction w.from w.to) (plan keys w.from w.to) entries (tree_of keys w)
+  pub faults_are : HasFaults (direction w.from w.to) w.position (faults entries)
+  pub shown_is : w.shown ≡ fold (shown_after keys) w.from entries
+
+-- An entry that comes next: in some walk along the plan it comes after these, done; and where it may fail, in some
+-- walk it comes after these and is a fault.
+pub record ComesNext (keys : ℕ → List ℕ) (entries : List Event) (w : Walk) (key : Key) (d : Dir) (place : Place) (first : Bool) : Type 0
+  where
+    pub done :
+        IsNextInWalk w.cpu keys (direction w.from w.to) (plan keys w.from w.to) entries (slot_of w.cpu key d place first false)
+    pub fault :
+        can_fail d key.state place ≡ true →
+        IsNextInWalk w.cpu keys (direction w.from w.to) (plan keys w.from w.to) entries (slot_of w.cpu key d place first true)
+
+-- what is asked for after some entries: the entry that comes next, or, where they are a whole walk, its answer
+abbrev pub Asks : (keys : ℕ → List ℕ) → (entries : List Event) → Walk → Step → Type 0
+Asks keys entries w (ask.Call key d place first) = ComesNext keys entries w key d place first
+Asks keys entries w (ask.Ended answer) =
+    IsWholeWalk w.cpu keys (direction w.from w.to) (plan keys w.from w.to) entries answer
