@@ -1,0 +1,4 @@
+pub mod Rising
+pub mod Lowest
+pub mod Steps
+pub mod Callers

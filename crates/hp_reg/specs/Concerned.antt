@@ -1,0 +1,38 @@
+-- On which processors a registration makes an entry, and of which key, by what the caller keeps: the table, where
+-- processors stand, and which are absent. After the loops over the present processors of
+-- `__cpuhp_setup_state_cpuslocked` and its kin of `kernel/cpu.c`.
+use Rattle.std.specs.Prelude.{ℕ, Bool, not, ◌&&◌, nat_le, Option, Some, None, List, filter, length, slice_index}
+use Rattle.hp_event.specs.declared.event.Op.{Op}
+use Rattle.hp_event.specs.declared.event.Op.TheVariants.{Setup, Remove, Add, Del}
+use Rattle.hp_model.specs.Lists.{among, numbers}
+use Rattle.hp_model.specs.RegistrationShape.{single}
+use Rattle.hp_table.specs.Step.{Step, step_at}
+use Rattle.hp_reg.specs.Progress.{Progress}
+
+-- a processor that isn't absent and stands at the state or above it
+abbrev pub is_concerned : (state : ℕ) → (settled absent : List ℕ) → (cpu : ℕ) → Bool
+is_concerned s settled absent c = not (among c absent) && nat_le s (slice_index settled c)
+
+-- these, in rising number
+abbrev pub concerned : (state : ℕ) → (settled absent : List ℕ) → List ℕ
+concerned s settled absent = filter (is_concerned s settled absent) (numbers (length settled))
+
+abbrev pub single_in : Option Step → Option ℕ
+single_in None = None
+single_in (Some step) = single step.kept.multi
+
+-- the instance of the key: the one that an add or a del names, 0 for a setup or a remove of a single state, and none
+-- for one of a state with an instance list
+abbrev pub key_in : Op → Option Step → Option ℕ
+key_in (Setup state sub form) place = single_in place
+key_in (Remove state form) place = single_in place
+key_in (Add state inst form) place = Some inst
+key_in (Del state inst form) place = Some inst
+key_in _ place = None
+
+-- the instance of the key of a registration, and the processors that it concerns
+abbrev pub key_at : List (Option Step) → Progress → Option ℕ
+key_at places p = key_in p.op (step_at places p.state)
+
+abbrev pub cpus_at : (settled absent : List ℕ) → Progress → List ℕ
+cpus_at settled absent p = concerned p.state settled absent

@@ -1,0 +1,5 @@
+pub mod Progress
+pub mod Concerned
+pub mod Asked
+pub mod After
+pub mod CallsLeft
