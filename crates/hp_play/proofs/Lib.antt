@@ -2,10 +2,13 @@ pub mod WordLaws
 pub mod WordLoops
 pub mod NumberLaws
 pub mod FieldLaws
+pub mod RangeLaws
 pub mod LineLaws
+pub mod RuleLaws
 pub mod OpLaws
 pub mod RunLoops
 pub mod RunLaws
+pub mod SubLaws
 pub mod ScriptLaws
 pub mod Answered
 pub mod ReadSteps
@@ -14,7 +17,7 @@ pub mod Refusing
 pub mod TieFolds
 pub mod TieLists
 pub mod TieParts
-pub mod CalledPlace
+pub mod EnteredPlace
 pub mod WalkRows
 pub mod TieWalk
 pub mod TieCrossing
@@ -31,3 +34,8 @@ pub mod RackLaws
 pub mod Turning
 pub mod HookCount
 pub mod ReadyMore
+mod EntryHow
+mod Leading
+mod CrossingDue
+mod FewKeys
+mod CountOnline

@@ -4,15 +4,20 @@ use Rattle.std.specs.Prelude.{codes, decimal}
 use Rattle.std.proofs.lemmas.Bool.{and_parts, leb-true, le-leb}
 use Rattle.hp_states.specs.declared.limits.TheConstants.{MAX_CPUS}
 use Rattle.hp_model.specs.Words.{line}
-use Rattle.hp_play.specs.Form.{IsName, sub_line}
-use Rattle.hp_play.specs.Reading.{◌>>=◌, behind, number_to, name_to, cpus_at, sub_at, actor_at}
+use Rattle.hp_play.specs.Form.{IsName}
+use Rattle.hp_play.specs.Reading.{◌>>=◌, behind, number_to, name_to, cpus_at, actor_at}
 use Rattle.hp_play.proofs.WordLaws.{bind_some, passed, some_is, behind_takes, behind_again}
 use Rattle.hp_play.proofs.FieldLaws.{number_to_takes, number_to_again, name_to_takes, name_to_again}
 
--- what a reader reads of a line is the line, and a line is read, whatever follows it
-pub record IsReader {A : Type 0} (reader : List ℕ → Option (A × List ℕ)) (spell : A → List ℕ) (Fits : A → Type 0) : Type 0 where
+-- what a reader reads of a line is the line, and a line is read, where what follows it ends it; a further line does
+pub record IsReader {A : Type 0} (reader : List ℕ → Option (A × List ℕ)) (spell : A → List ℕ) (Fits : A → Type 0) (Ends : List ℕ → Type 0) : Type 0 where
   pub takes : (bytes : List ℕ) (x : A × List ℕ) → reader bytes ≡ Some x → (bytes ≡ spell x.0 ++ x.1) × Fits x.0
-  pub again : (a : A) (rest : List ℕ) → Fits a → reader (spell a ++ rest) ≡ Some (a, rest)
+  pub again : (a : A) (rest : List ℕ) → Fits a → Ends rest → reader (spell a ++ rest) ≡ Some (a, rest)
+  pub more : (a : A) (rest : List ℕ) → Ends (spell a ++ rest)
+
+-- whatever follows
+abbrev pub Anything : List ℕ → Type 0
+Anything rest = Unit {0}
 
 -- ---- processors
 
@@ -45,33 +50,8 @@ cpus_again n rest fits =
     let few : leb n MAX_CPUS ≡ true = le-leb _ _ fits.1 in
     ap cpus_at (cpus_spelled n rest) ∙ rw (number, some, few) refl
 
-pub reads_cpus : IsReader cpus_at cpus_line IsCount
-reads_cpus = record { takes = cpus_takes; again = cpus_again }
-
--- ---- subsystems
-
-sub_spelled : (name rest : List ℕ) → sub_line name ++ rest ≡ codes "sub " ++ (name ++ 32 ∷ ((codes "both single" ++ 10 ∷ []) ++ rest))
-sub_spelled name rest = simp append_assoc
-
-sub_takes : (bytes : List ℕ) (x : List ℕ × List ℕ) → sub_at bytes ≡ Some x → (bytes ≡ sub_line x.0 ++ x.1) × IsName x.0
-unfolding sub_at
-sub_takes bytes x e =
-    let a = bind_some (behind (codes "sub ") bytes) (λ rest. name_to 32 rest >>= λ name. behind (codes "both single" ++ 10 ∷ []) name.1 >>= λ after. Some (name.0, after)) x e in
-    let b = bind_some (name_to 32 a.0) (λ name. behind (codes "both single" ++ 10 ∷ []) name.1 >>= λ after. Some (name.0, after)) x a.2 in
-    let c = bind_some (behind (codes "both single" ++ 10 ∷ []) b.0.1) (λ after. Some (b.0.0, after)) x b.2 in
-    let n = name_to_takes 32 a.0 b.0 b.1 in
-    let end : b.0.1 ≡ (codes "both single" ++ 10 ∷ []) ++ c.0 = behind_takes (codes "both single" ++ 10 ∷ []) b.0.1 c.0 c.1 in
-    let parts : bytes ≡ sub_line b.0.0 ++ c.0 = behind_takes (codes "sub ") bytes a.0 a.1 ∙ ap (λ (w : List ℕ). codes "sub " ++ w) (n.0 ∙ ap (λ (w : List ℕ). b.0.0 ++ 32 ∷ w) end) ∙ sym (sub_spelled b.0.0 c.0) in
-    subst (λ (y : List ℕ × List ℕ). (bytes ≡ sub_line y.0 ++ y.1) × IsName y.0) (some_is (b.0.0, c.0) x c.2) (parts, n.1)
-
-sub_again : (name rest : List ℕ) → IsName name → sub_at (sub_line name ++ rest) ≡ Some (name, rest)
-unfolding sub_at
-sub_again name rest fits =
-    let word : name_to 32 (name ++ 32 ∷ ((codes "both single" ++ 10 ∷ []) ++ rest)) ≡ Some (name, (codes "both single" ++ 10 ∷ []) ++ rest) = name_to_again 32 name ((codes "both single" ++ 10 ∷ []) ++ rest) refl fits in
-    ap sub_at (sub_spelled name rest) ∙ rw word refl
-
-pub reads_sub : IsReader sub_at sub_line IsName
-reads_sub = record { takes = sub_takes; again = sub_again }
+pub reads_cpus : IsReader cpus_at cpus_line IsCount Anything
+reads_cpus = record { takes = cpus_takes; again = λ n rest fits end. cpus_again n rest fits; more = λ n rest. tt }
 
 -- ---- the actor
 
@@ -92,5 +72,5 @@ actor_again : (name rest : List ℕ) → IsName name → actor_at (actor_line na
 unfolding actor_at
 actor_again name rest fits = ap actor_at (actor_spelled name rest) ∙ name_to_again 10 name rest refl fits
 
-pub reads_actor : IsReader actor_at actor_line IsName
-reads_actor = record { takes = actor_takes; again = actor_again }
+pub reads_actor : IsReader actor_at actor_line IsName Anything
+reads_actor = record { takes = actor_takes; again = λ name rest fits end. actor_again name rest fits; more = λ name rest. tt }

@@ -3,14 +3,19 @@ use Rattle.std.proofs.Common.{◌≡◌, ℕ, ◌≤◌, true, ◌&&◌, cond, l
 use Rattle.std.specs.Prelude.{codes, decimal}
 use Rattle.std.proofs.lemmas.Bool.{and_parts, leb-true, le-leb}
 use Rattle.hp_event.specs.declared.event.Op.{Op}
-use Rattle.hp_event.specs.declared.event.Op.TheVariants.{Up, Setup}
+use Rattle.hp_event.specs.declared.event.Op.TheVariants.{Up, Down, Setup}
+use Rattle.hp_states.specs.declared.section.Dir.{Dir}
+use Rattle.hp_states.specs.declared.section.Dir.TheVariants as dir
+use Rattle.hp_model.specs.Words.{dir_word}
 use Rattle.hp_event.specs.declared.event.Form.{Form}
 use Rattle.hp_play.specs.declared.limits.TheConstants.{MAX_NAMED_CPU, MAX_SETUP}
-use Rattle.hp_play.specs.Form.{IsSetup, IsUp, plain, op_line}
-use Rattle.hp_play.specs.Reading.{◌>>=◌, behind, number_to, is_setup, setup_at, up_at}
+use Rattle.hp_play.specs.Form.{IsSetup, IsWalk, plain, op_line}
+use Rattle.hp_play.specs.Reading.{◌>>=◌, behind, number_to, number_within, dir_at, is_setup, setup_at, walk_of, walk_at}
 use Rattle.hp_play.proofs.WordLaws.{bind_some, passed, some_is, behind_takes}
 use Rattle.hp_play.proofs.FieldLaws.{number_to_takes, number_to_again}
-use Rattle.hp_play.proofs.LineLaws.{IsReader}
+use Rattle.hp_play.proofs.LineLaws.{IsReader, Anything}
+use Rattle.hp_play.proofs.RangeLaws.{number_within_takes, number_within_again}
+use Rattle.hp_play.proofs.RuleLaws.{dir_takes, dir_again}
 
 -- ---- setups
 
@@ -51,34 +56,39 @@ setup_again subs (Setup state sub form) rest few fits =
     subst (λ (f : Form). IsSetup subs (Setup state sub f) → setup_at subs (op_line (Setup state sub f) ++ rest) ≡ Some (Setup state sub f, rest)) (sym fits.3) (plain_again subs state sub rest few) fits
 setup_again subs _ rest few fits = absurd fits
 
-pub reads_setup : (subs : ℕ) → subs ≤ 1000 → IsReader (setup_at subs) op_line (IsSetup subs)
-reads_setup subs few = record { takes = setup_takes subs; again = λ op rest fits. setup_again subs op rest few fits }
+pub reads_setup : (subs : ℕ) → subs ≤ 1000 → IsReader (setup_at subs) op_line (IsSetup subs) Anything
+reads_setup subs few = record { takes = setup_takes subs; again = λ op rest fits end. setup_again subs op rest few fits; more = λ op rest. tt }
 
--- ---- ups
+-- ---- ups and downs
 
-up_spelled : (cpu : ℕ) (rest : List ℕ) → op_line (Up cpu) ++ rest ≡ codes "up " ++ (decimal cpu ++ 10 ∷ rest)
-up_spelled cpu rest = simp append_assoc
+walk_spelled : (dir : Dir) (cpu : ℕ) (rest : List ℕ) → op_line (walk_of dir cpu) ++ rest ≡ dir_word dir ++ 32 ∷ (decimal cpu ++ 10 ∷ rest)
+walk_spelled dir.Up cpu rest = simp append_assoc
+walk_spelled dir.Down cpu rest = simp append_assoc
 
-up_takes : (bytes : List ℕ) (x : Op × List ℕ) → up_at bytes ≡ Some x → (bytes ≡ op_line x.0 ++ x.1) × IsUp x.0
-unfolding up_at
-up_takes bytes x e =
-    let a = bind_some (behind (codes "up ") bytes) (λ rest. number_to 10 rest >>= λ cpu. cond (leb cpu.0 MAX_NAMED_CPU) (Some (Up cpu.0, cpu.1)) None) x e in
-    let b = bind_some (number_to 10 a.0) (λ cpu. cond (leb cpu.0 MAX_NAMED_CPU) (Some (Up cpu.0, cpu.1)) None) x a.2 in
-    let c = passed (leb b.0.0 MAX_NAMED_CPU) (Some (Up b.0.0, b.0.1)) x b.2 in
-    let cpu = number_to_takes 10 a.0 b.0 b.1 in
-    let parts : bytes ≡ op_line (Up b.0.0) ++ b.0.1 = behind_takes (codes "up ") bytes a.0 a.1 ∙ ap (λ (w : List ℕ). codes "up " ++ w) cpu.0 ∙ sym (up_spelled b.0.0 b.0.1) in
-    subst (λ (y : Op × List ℕ). (bytes ≡ op_line y.0 ++ y.1) × IsUp y.0) (some_is (Up b.0.0, b.0.1) x c.1) (parts, leb-true _ _ c.0)
+walk_is : (dir : Dir) (cpu : ℕ) → cpu ≤ MAX_NAMED_CPU → IsWalk (walk_of dir cpu)
+walk_is dir.Up cpu fits = fits
+walk_is dir.Down cpu fits = fits
 
-cpu_again : (cpu : ℕ) (rest : List ℕ) → cpu ≤ MAX_NAMED_CPU → up_at (op_line (Up cpu) ++ rest) ≡ Some (Up cpu, rest)
-unfolding up_at
-cpu_again cpu rest fits =
-    let number : number_to 10 (decimal cpu ++ 10 ∷ rest) ≡ Some (cpu, rest) = number_to_again 10 cpu rest (omega arith) (omega arith) in
-    let test : leb cpu MAX_NAMED_CPU ≡ true = le-leb _ _ fits in
-    ap up_at (up_spelled cpu rest) ∙ rw (number, test) refl
+walk_takes : (bytes : List ℕ) (x : Op × List ℕ) → walk_at bytes ≡ Some x → (bytes ≡ op_line x.0 ++ x.1) × IsWalk x.0
+unfolding walk_at
+walk_takes bytes x e =
+    let a = bind_some (dir_at bytes) (λ dir. number_within 10 0 MAX_NAMED_CPU dir.1 >>= λ cpu. Some (walk_of dir.0 cpu.0, cpu.1)) x e in
+    let b = bind_some (number_within 10 0 MAX_NAMED_CPU a.0.1) (λ cpu. Some (walk_of a.0.0 cpu.0, cpu.1)) x a.2 in
+    let cpu = number_within_takes 10 0 MAX_NAMED_CPU a.0.1 b.0 b.1 in
+    let parts : bytes ≡ op_line (walk_of a.0.0 b.0.0) ++ b.0.1 = dir_takes bytes a.0 a.1 ∙ ap (λ (w : List ℕ). dir_word a.0.0 ++ 32 ∷ w) cpu.0 ∙ sym (walk_spelled a.0.0 b.0.0 b.0.1) in
+    subst (λ (y : Op × List ℕ). (bytes ≡ op_line y.0 ++ y.1) × IsWalk y.0) (some_is (walk_of a.0.0 b.0.0, b.0.1) x b.2) (parts, walk_is a.0.0 b.0.0 cpu.1.1)
 
-up_again : (op : Op) (rest : List ℕ) → IsUp op → up_at (op_line op ++ rest) ≡ Some (op, rest)
-up_again (Up cpu) rest fits = cpu_again cpu rest fits
-up_again _ rest fits = absurd fits
+cpu_again : (dir : Dir) (cpu : ℕ) (rest : List ℕ) → cpu ≤ MAX_NAMED_CPU → walk_at (op_line (walk_of dir cpu) ++ rest) ≡ Some (walk_of dir cpu, rest)
+unfolding walk_at
+cpu_again dir cpu rest fits =
+    let first : dir_at (dir_word dir ++ 32 ∷ (decimal cpu ++ 10 ∷ rest)) ≡ Some (dir, decimal cpu ++ 10 ∷ rest) = dir_again dir (decimal cpu ++ 10 ∷ rest) in
+    let second : number_within 10 0 MAX_NAMED_CPU (decimal cpu ++ 10 ∷ rest) ≡ Some (cpu, rest) = number_within_again 10 0 MAX_NAMED_CPU cpu rest (omega arith) (omega arith) (omega arith, fits) in
+    ap walk_at (walk_spelled dir cpu rest) ∙ rw (first, second) refl
 
-pub reads_up : IsReader up_at op_line IsUp
-reads_up = record { takes = up_takes; again = up_again }
+walk_again : (op : Op) (rest : List ℕ) → IsWalk op → walk_at (op_line op ++ rest) ≡ Some (op, rest)
+walk_again (Up cpu) rest fits = cpu_again dir.Up cpu rest fits
+walk_again (Down cpu) rest fits = cpu_again dir.Down cpu rest fits
+walk_again _ rest fits = absurd fits
+
+pub reads_walk : IsReader walk_at op_line IsWalk Anything
+reads_walk = record { takes = walk_takes; again = λ op rest fits end. walk_again op rest fits; more = λ op rest. tt }

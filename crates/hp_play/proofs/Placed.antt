@@ -1,6 +1,5 @@
 -- What is so of a taken place.
-use Rattle.std.proofs.Common.{◌≡◌, ℕ, ◌<◌, ◌≤◌, Bool, true, false, not, cond, ◌||◌, Option, Some, None, IsSome, is_some, List, refl, sym, ap, ◌∙◌, arith}
-use Rattle.std.specs.Prelude.{slice_set}
+use Rattle.std.proofs.Common.{◌≡◌, ℕ, ◌≤◌, Bool, true, false, not, cond, ◌||◌, Option, Some, None, IsSome, is_some, List, refl, sym, ap, arith}
 use Rattle.std.proofs.lemmas.Bool.{false≢true}
 use Rattle.hp_states.specs.declared.limits.TheConstants.{ONLINE}
 use Rattle.hp_table.specs.Named.{is_named, is_builtin}
@@ -8,20 +7,11 @@ use Rattle.hp_table.specs.Step.{Step, step_at}
 use Rattle.hp_play.specs.declared.due.Due.{Due}
 use Rattle.hp_play.specs.declared.due.Due.TheVariants.{Operation}
 use Rattle.hp_play.specs.Machine.{is_in_flight}
-use Rattle.hp_table.proofs.Places.{step_at-set_other}
 
 -- what a taken place has
 pub taken_at : (place : Option Step) → IsSome place → (step : Step) × (place ≡ Some step)
 taken_at None some = absurd (false≢true some)
 taken_at (Some step) some = (step, refl)
-
--- a place above the one that was written is empty where it was
-pub still_empty : (places after : List (Option Step)) (s t : ℕ) (place : Option Step) → after ≡ slice_set places s place → s < t →
-    step_at after t ≡ None → step_at places t ≡ None
-still_empty places after s t place is above none =
-    sym (step_at-set_other places s place t (λ (same : s ≡ t). absurd (omega (arith, above, same))))
-    ∙ ap (λ xs. step_at xs t) (sym is)
-    ∙ none
 
 -- an operation is in flight while it isn't answered
 pub flies : (due : Due) (answered : Bool) → (answered ≡ true → due ≡ Operation) → (answered ≡ false → is_in_flight due ≡ true) →

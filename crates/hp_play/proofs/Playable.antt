@@ -1,19 +1,18 @@
 -- The operations of a script are playable one by one, each setup with a hook.
-use Rattle.std.proofs.Common.{◌≡◌, ℕ, suc, ◌+◌, ◌<◌, ◌≤◌, min, map, [], ◌∷◌, length-append, Bool, false, cond, List, length, get_or, drop, count_by, refl, sym, ap, subst, arith}
-use Rattle.std.specs.List.{All}
-use Rattle.std.proofs.lemmas.List.Elements.{All-get_or, All-from_get_or, All-append}
-use Rattle.std.proofs.lemmas.List.{length-map}
+use Rattle.std.proofs.Common.{◌≡◌, ℕ, zero, suc, ◌+◌, ◌<◌, ◌≤◌, [], ◌∷◌, ◌++◌, Bool, true, false, cond, List, length, get_or, drop, count_by, refl, sym, ◌∙◌, subst, arith}
+use Rattle.std.specs.List.{All, AllByRecursion}
+use Rattle.std.proofs.lemmas.List.Elements.{All-get_or, All-from_get_or, All-append, recursion_from_All}
 use Rattle.std.proofs.lemmas.List.Sums.{sum_by-drop_more, sum_by-append, count_by-le-length}
 use Rattle.hp_event.specs.declared.event.Op.{Op}
-use Rattle.hp_event.specs.declared.event.Op.TheVariants.{Setup, Up}
-use Rattle.hp_play.specs.declared.limits.TheConstants.{MAX_PLAYED}
-use Rattle.hp_play.specs.Form.{Lines, IsForm, IsScript, IsSetup, IsUp, sub_of}
-use Rattle.hp_play.specs.Machine.{IsPlayable, IsPlayableIn, is_setup}
+use Rattle.hp_event.specs.declared.event.Op.TheVariants.{Setup, Up, Down}
+use Rattle.hp_play.specs.Form.{Lines, IsForm, IsSetup, IsWalk}
+use Rattle.hp_play.specs.Machine.{IsPlayable, IsPlayableIn, IsOrdered, is_setup}
 
 with_hook : (op : Op) (n : ℕ) (b : Bool) → b ≡ is_setup op → IsPlayableIn n op → IsPlayable op n b
 with_hook (Setup state sub form) n b e h =
     let P : Bool → Type 0 = λ v. IsPlayable (Setup state sub form) n v in subst P (sym e) h
 with_hook (Up cpu) n b e h = tt
+with_hook (Down cpu) n b e h = tt
 with_hook _ n b e h = absurd h
 
 pub playable_at : (ops items : List Op) (i : ℕ) (d : Op) (n m : ℕ) (b : Bool) → items ≡ ops → m ≡ n → All (IsPlayableIn n) ops
@@ -38,28 +37,42 @@ setup_playable : (n : ℕ) (op : Op) → IsSetup n op → IsPlayableIn n op
 setup_playable n (Setup state sub form) h = (h, refl)
 setup_playable n _ h = absurd h
 
-up_playable : (n : ℕ) (op : Op) → IsUp op → IsPlayableIn n op
-up_playable n (Up cpu) h = tt
-up_playable n _ h = absurd h
+walk_playable : (n : ℕ) (op : Op) → IsWalk op → IsPlayableIn n op
+walk_playable n (Up cpu) h = tt
+walk_playable n (Down cpu) h = tt
+walk_playable n _ h = absurd h
 
 -- every operation of the form can be played
-pub form_playable : (hooks : ℕ) (l : Lines) → IsForm hooks l → All (IsPlayableIn (length (map sub_of l.subs))) l.ops
+pub form_playable : (hooks : ℕ) (l : Lines) → IsForm hooks l → All (IsPlayableIn (length l.subs)) l.ops
 form_playable hooks l form =
-    let subs : length (map sub_of l.subs) ≡ length l.subs = length-map l.subs sub_of in
     let ops : List Op → Type 0 = λ xs. All (IsPlayableIn (length l.subs)) xs in
-    let all : All (IsPlayableIn (length l.subs)) l.ops =
     subst ops (sym form.ops_are)
-    (All-append (IsPlayableIn (length l.subs)) form.setups form.ups
+    (All-append (IsPlayableIn (length l.subs)) form.setups form.walks
     (each_other (IsSetup (length l.subs)) (IsPlayableIn (length l.subs)) form.setups (setup_playable (length l.subs))
     form.all_setups)
-    (each_other IsUp (IsPlayableIn (length l.subs)) form.ups (up_playable (length l.subs)) form.all_ups)) in
-    let P : ℕ → Type 0 = λ n. All (IsPlayableIn n) l.ops in subst P (sym subs) all
+    (each_other IsWalk (IsPlayableIn (length l.subs)) form.walks (walk_playable (length l.subs)) form.all_walks))
 
-is_no_setup : (op : Op) → IsUp op → is_setup op ≡ false
+is_a_setup : (n : ℕ) (op : Op) → IsSetup n op → is_setup op ≡ true
+is_a_setup n (Setup state sub form) h = refl
+is_a_setup n _ h = absurd h
+
+is_no_setup : (op : Op) → IsWalk op → is_setup op ≡ false
 is_no_setup (Up cpu) h = refl
+is_no_setup (Down cpu) h = refl
 is_no_setup _ h = absurd h
 
-no_setups : (ups : List Op) → ((i : ℕ) → i < length ups → is_setup (get_or ups i (Up 0)) ≡ false) → count_by is_setup ups ≡ 0
+-- in the form setups come first
+pub form_ordered : (hooks : ℕ) (l : Lines) → IsForm hooks l → IsOrdered l.ops
+form_ordered hooks l form = record {
+  setups = form.setups;
+  walks = form.walks;
+  ops_are = form.ops_are;
+  all_setups =
+      each_other (IsSetup (length l.subs)) (λ op. is_setup op ≡ true) form.setups (is_a_setup (length l.subs)) form.all_setups;
+  no_setups = each_other IsWalk (λ op. is_setup op ≡ false) form.walks is_no_setup form.all_walks;
+}
+
+no_setups : (walks : List Op) → ((i : ℕ) → i < length walks → is_setup (get_or walks i (Up 0)) ≡ false) → count_by is_setup walks ≡ 0
 no_setups [] none = refl
 no_setups (op ∷ ops) none =
     let here : is_setup op ≡ false = none 0 (omega arith) in
@@ -70,51 +83,47 @@ no_setups (op ∷ ops) none =
 pub form_hooks : (hooks : ℕ) (l : Lines) → IsForm hooks l → count_by is_setup l.ops ≤ hooks
 form_hooks hooks l form =
     let none =
-    no_setups form.ups
-    (λ i inside. is_no_setup (get_or form.ups i (Up 0)) (All-get_or IsUp form.ups i (Up 0) inside form.all_ups))
+    no_setups form.walks
+    (λ i inside. is_no_setup (get_or form.walks i (Up 0)) (All-get_or IsWalk form.walks i (Up 0) inside form.all_walks))
     in
-    let both = sum_by-append (λ (x : Op). cond (is_setup x) 1 0) form.setups form.ups in
+    let both = sum_by-append (λ (x : Op). cond (is_setup x) 1 0) form.setups form.walks in
     let some = count_by-le-length is_setup form.setups in
     let P : List Op → Type 0 = λ xs. count_by is_setup xs ≤ hooks in
     subst P (sym form.ops_are) (omega (arith, none, both, some, form.few_setups))
 
--- the form with other hooks, of which there are enough
-with_hooks : (hooks other : ℕ) (l : Lines) (form : IsForm hooks l) → length form.setups ≤ other → IsForm other l
-with_hooks hooks other l form enough =
-    record {
-      some_cpus = form.some_cpus;
-      few_cpus = form.few_cpus;
-      few_subs = form.few_subs;
-      subs_named = form.subs_named;
-      actor_named = form.actor_named;
-      few_ops = form.few_ops;
-      setups = form.setups;
-      ups = form.ups;
-      ops_are = form.ops_are;
-      all_setups = form.all_setups;
-      all_ups = form.all_ups;
-      few_setups = enough;
-    }
+-- a setup is still to come where one stands
+pub setups_from : (items : List Op) (i : ℕ) (d : Op) → i < length items → is_setup (get_or items i d) ≡ true →
+    0 < count_by is_setup (drop i items)
+setups_from items i d inside here =
+    let step = rw here at (sum_by-drop_more (λ (x : Op). cond (is_setup x) 1 0) items i d inside) in
+    omega (arith, step)
 
-few_setups : (hooks : ℕ) (l : Lines) (form : IsForm hooks l) → length form.setups ≤ MAX_PLAYED
-few_setups hooks l form =
-    omega (arith, form.few_ops, ap length form.ops_are, length-append form.setups form.ups)
+none_of : (ops : List Op) → AllByRecursion (λ op. is_setup op ≡ false) ops → count_by is_setup ops ≡ 0
+none_of [] all = refl
+none_of (op ∷ ops) all = rw (all.0, none_of ops all.1) refl
 
--- hooks beyond the most operations make no difference
-pub with_all_hooks : (hooks : ℕ) (bytes : List ℕ) (l : Lines) → IsScript (min hooks MAX_PLAYED) bytes l → IsScript hooks bytes l
-with_all_hooks hooks bytes l script =
-    record {
-      short = script.short;
-      form = with_hooks (min hooks MAX_PLAYED) hooks l script.form (omega (arith, script.form.few_setups));
-      spelled = script.spelled;
-    }
+none_left : (ops : List Op) (i : ℕ) → AllByRecursion (λ op. is_setup op ≡ false) ops → count_by is_setup (drop i ops) ≡ 0
+none_left [] zero all = refl
+none_left [] (suc i) all = refl
+none_left (op ∷ ops) zero all = none_of (op ∷ ops) all
+none_left (op ∷ ops) (suc i) all = none_left ops i all.1
 
-pub with_most_hooks : (hooks : ℕ) (bytes : List ℕ) (l : Lines) → IsScript hooks bytes l → IsScript (min hooks MAX_PLAYED) bytes l
-with_most_hooks hooks bytes l script =
-    record {
-      short = script.short;
-      form =
-          with_hooks hooks (min hooks MAX_PLAYED) l script.form
-          (omega (arith, script.form.few_setups, few_setups hooks l script.form));
-      spelled = script.spelled;
-    }
+-- setups come first, so where a setup is still to come after an operation, it is one
+setup_first : (setups walks : List Op) (i : ℕ) (d : Op) → AllByRecursion (λ op. is_setup op ≡ true) setups →
+    AllByRecursion (λ op. is_setup op ≡ false) walks → i < length (setups ++ walks) →
+    0 < count_by is_setup (drop (i + 1) (setups ++ walks)) → is_setup (get_or (setups ++ walks) i d) ≡ true
+setup_first [] walks i d all none inside some = let n = none_left walks (i + 1) none in absurd (omega (arith, some, n))
+setup_first (s ∷ ss) walks zero d all none inside some = all.0
+setup_first (s ∷ ss) walks (suc i) d all none inside some =
+    let e : suc i + 1 ≡ suc (i + 1) = omega arith in
+    setup_first ss walks i d all.1 none (omega (arith, inside)) (rw e at some)
+
+pub still_setup : (ops items : List Op) (i : ℕ) (d : Op) → IsOrdered ops → items ≡ ops → i < length items →
+    0 < count_by is_setup (drop (i + 1) items) → is_setup (get_or items i d) ≡ true
+still_setup ops items i d o same inside some =
+    let is : items ≡ o.setups ++ o.walks = same ∙ o.ops_are in
+    let P : List Op → Type 0 = λ xs. i < length xs → 0 < count_by is_setup (drop (i + 1) xs) → is_setup (get_or xs i d) ≡ true in
+    subst P (sym is)
+    (setup_first o.setups o.walks i d (recursion_from_All (λ op. is_setup op ≡ true) o.setups o.all_setups)
+    (recursion_from_All (λ op. is_setup op ≡ false) o.walks o.no_setups))
+    inside some

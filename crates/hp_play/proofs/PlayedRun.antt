@@ -1,10 +1,9 @@
 -- The operations of the actor, played one after another from the admissions on, are its run.
-use Rattle.std.proofs.Common.{◌≡◌, ℕ, zero, suc, ◌+◌, ◌<◌, true, leb, Option, Some, None, List, [], ◌∷◌, ◌++◌, length, refl, sym, ap, ◌∙◌, subst, arith, append_assoc, get_or, Result, Ok, Err, IfOk, inl, inr}
+use Rattle.std.proofs.Common.{◌≡◌, ℕ, zero, suc, ◌+◌, ◌<◌, true, leb, Option, Some, None, List, [], ◌∷◌, ◌++◌, length, refl, sym, ap, ◌∙◌, subst, arith, append_assoc, get_or, inl, inr}
 use Rattle.std.specs.Prelude.{slice_get}
 use Rattle.std.proofs.lemmas.List.{append-nil}
 use Rattle.std.proofs.lemmas.Bool.{false≢true}
 use Rattle.std.proofs.lemmas.Bool.Decides.{nat_tests}
-use Rattle.hp_event.specs.Story.{Story}
 use Rattle.hp_event.specs.declared.event.Op.{Op}
 use Rattle.hp_event.specs.declared.event.Role.TheVariants.{Client}
 use Rattle.hp_event.specs.declared.head.Head.{Head}
@@ -124,9 +123,3 @@ pub op_at : (ops : List Op) (i : ℕ) (d : Op) → i < length ops → slice_get 
 op_at [] i d inside = absurd (omega (arith, inside))
 op_at (x ∷ xs) zero d inside = refl
 op_at (x ∷ xs) (suc i) d inside = op_at xs i d (omega (arith, inside))
-
--- what is handed on
-pub kept_on : {E : Type 0} (P : Story → Type 0) (answer : Result Story E) (story : Story) → IfOk answer (λ j. j ≡ story) → P story →
-    IfOk answer P
-kept_on P (Ok j) story same is = subst P (sym same) is
-kept_on P (Err e) story same is = tt

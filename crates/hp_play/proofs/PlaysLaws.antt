@@ -2,12 +2,12 @@
 use Rattle.std.proofs.Common.{◌≡◌, ℕ, zero, suc, ◌+◌, ◌-◌, ◌<◌, Bool, true, false, ◌&&◌, nat_lt, cond, eqb, leb, Option, Some, List, [], ◌∷◌, ◌++◌, length, refl, sym, ap, ◌∙◌, subst, arith, append_assoc, inl, inr, ◌⊎◌}
 use Rattle.std.specs.Prelude.{slice_get}
 use Rattle.std.specs.List.{filter}
-use Rattle.std.proofs.lemmas.List.{append-nil, length-append}
+use Rattle.std.proofs.lemmas.List.{length-append}
 use Rattle.std.proofs.lemmas.Bool.{lt-ltb}
 use Rattle.std.proofs.lemmas.Bool.Decides.{nat_tests}
-use Rattle.hp_states.specs.declared.section.Dir.TheVariants.{Up}
+use Rattle.hp_states.specs.declared.section.Dir.{Dir}
 use Rattle.hp_states.specs.Sections.{is_ap_state}
-use Rattle.hp_event.specs.declared.event.How.TheVariants.{RanOk}
+use Rattle.hp_event.specs.declared.event.How.{How}
 use Rattle.hp_event.specs.declared.event.Event.TheVariants.{Call}
 use Rattle.hp_play.specs.Machine.{seat_at}
 use Rattle.hp_event.specs.declared.event.Op.{Op}
@@ -60,11 +60,11 @@ abbrev pub IsBy : Head → Op → Event → Type 0
 IsBy head op e = ((seat_of e < head.possible) × (is_call e ≡ true)) ⊎ ((seat_of e ≡ head.possible) × BelongsTo op e)
 
 -- an entry is by the seat that makes it
-pub by_entry : (head : Head) (op : Op) (seat cpu state : ℕ) → cpu < head.possible → seat ≡ seat_at head.possible cpu state →
-    IsBy head op (Call seat cpu state 0 Up RanOk)
-by_entry head op seat cpu state below is = go (is_ap_state state) refl
+by_entry : (head : Head) (op : Op) (seat cpu state inst : ℕ) (dir : Dir) (how : How) → cpu < head.possible →
+    seat ≡ seat_at head.possible cpu state → IsBy head op (Call seat cpu state inst dir how)
+by_entry head op seat cpu state inst dir how below is = go (is_ap_state state) refl
   where
-    go : (b : Bool) → is_ap_state state ≡ b → IsBy head op (Call seat cpu state 0 Up RanOk)
+    go : (b : Bool) → is_ap_state state ≡ b → IsBy head op (Call seat cpu state inst dir how)
     go true e = inl (rw (is, e) below, refl)
     go false e = inr (rw (is, e) refl, tt)
 
@@ -125,17 +125,14 @@ plays_one head es after stands places due op answers e t stand by count is =
       count = ap (answered head.possible) is ∙ answered_push head.possible es e ∙ rw count refl;
     }
 
--- nothing of the operation
-pub plays_none : (head : Head) (es after : List Event) (op : Op) → after ≡ es → Plays head op false es after
-plays_none head es after op is =
-    record {
-      taken = [];
-      after_is = is ∙ sym (append-nil es);
-      steps = λ ops now. tt;
-      count =
-          ap (answered head.possible) is
-          ∙ (let e : answered head.possible es + 0 ≡ answered head.possible es = omega arith in sym e);
-    }
+-- one entry of whatever operation is in flight
+pub plays_entry : (head : Head) (es after : List Event) (stands : List ℕ) (places : List (Option Step)) (due : Due)
+    (seat cpu state inst : ℕ) (dir : Dir) (how : How) → IsTied head es stands places due → cpu < head.possible →
+    seat ≡ seat_at head.possible cpu state → Stands head es (Call seat cpu state inst dir how) →
+    after ≡ es ++ Call seat cpu state inst dir how ∷ [] → (op : Op) → Plays head op false es after
+plays_entry head es after stands places due seat cpu state inst dir how t below is stand after_is op =
+    plays_one head es after stands places due op false (Call seat cpu state inst dir how) t stand
+    (by_entry head op seat cpu state inst dir how below is) refl after_is
 
 -- some of the operation, and then more of it
 pub plays_more : (head : Head) (op : Op) (answers : Bool) (a b c : List Event) → Plays head op false a b →

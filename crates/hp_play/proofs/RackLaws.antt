@@ -47,7 +47,7 @@ along f (p ∷ ps) a each =
     ∙ ap (λ ys. f a ++ ys) (along f ps (suc a) (λ i. each (suc i) ∙ (let n : a + suc i ≡ suc a + i = omega arith in ap f n)))
 
 made_is : (head : Head) (events : List Event) (s : ℕ) (place : Option Step) → registered head s events ≡ registered_by place →
-    IfSome place (IsKept events s) → made_at place ≡ calls_at head events s
+    IfSome place (IsKept head events s) → made_at place ≡ calls_at head events s
 made_is head events s None is kept = rw is refl
 made_is head events s (Some k) is kept = rw is (ap (λ (n : ℕ). n ∷ []) kept.made)
 
@@ -132,6 +132,6 @@ pub bare_all : (head : Head) (events : List Event) (stands : List ℕ) (places :
     IsTied head events stands places due → (s : ℕ) → instances_at places s ≡ []
 bare_all head events stands places due t s = go (step_at places s) (t.kept s)
   where
-    go : (place : Option Step) → IfSome place (IsKept events s) → instances_of place ≡ []
+    go : (place : Option Step) → IfSome place (IsKept head events s) → instances_of place ≡ []
     go None h = refl
     go (Some step) h = h.bare

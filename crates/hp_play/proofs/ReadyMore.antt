@@ -1,14 +1,18 @@
 -- The machine stays ready for a turn.
-use Rattle.std.proofs.Common.{◌≡◌, ℕ, ◌+◌, ◌-◌, ◌<◌, ◌≤◌, Option, Some, None, IsSome, List, [], ◌∷◌, ◌++◌, length, length-append, refl, sym, ap, ◌∙◌, subst, arith}
+use Rattle.std.proofs.Common.{◌≡◌, ℕ, ◌+◌, ◌-◌, ◌<◌, ◌≤◌, Bool, true, false, cond, Option, Some, None, IsSome, List, [], ◌∷◌, ◌++◌, length, length-append, refl, sym, ap, ◌∙◌, subst, arith}
 use Rattle.std.specs.Prelude.{slice_set}
 use Rattle.std.proofs.lemmas.List.{length-set}
+use Rattle.hp_states.specs.declared.limits.TheConstants.{ONLINE}
+use Rattle.hp_states.specs.Rules.{Site}
 use Rattle.hp_event.specs.Story.{Story}
 use Rattle.hp_event.specs.declared.event.Event.{Event}
-use Rattle.hp_table.specs.Step.{Step, step_at}
+use Rattle.hp_table.specs.Step.{Step, step_at, changed_at, called_step}
 use Rattle.hp_play.specs.declared.due.Due.{Due}
-use Rattle.hp_play.specs.Machine.{IsReady, IsCounted, IsInRange, events_left, pushed}
+use Rattle.hp_play.specs.Machine.{IsReady, IsCounted, IsInRange, events_left, pushed, seat_at, has_callback_by, entered_step}
 use Rattle.hp_table.proofs.Places.{step_at-set_same}
 use Rattle.hp_play.proofs.TieLists.{at_each}
+use Rattle.hp_play.proofs.Placed.{taken_at}
+use Rattle.hp_play.proofs.EnteredPlace.{entered_at}
 
 counted_more : (n : ℕ) (place : Option Step) → IsCounted n place → IsCounted (n + 1) place
 counted_more n None counted = tt
@@ -31,7 +35,7 @@ some_set places written state step is below =
 pub ready_set : (journal : Story) (settled : List ℕ) (places written : List (Option Step)) (due after : Due) (state : ℕ)
     (step : Step) (e : Event) → IsReady journal settled places due → written ≡ slice_set places state (Some step) →
     state < length places → step.kept.made ≤ length journal.events + 1 →
-    IsInRange after (length settled) written → events_left after (length settled) ≤ journal.promised - 1 →
+    IsInRange after (length settled) written → events_left after (length settled) written ≤ journal.promised - 1 →
     IsReady (pushed journal e) settled written after
 ready_set journal settled places written due after state step e ready is below made in_range room =
     let more : length (journal.events ++ e ∷ []) ≡ length journal.events + 1 = length-append journal.events (e ∷ []) in
@@ -46,4 +50,55 @@ ready_set journal settled places written due after state step e ready is below m
           (at_each (λ s place. IsCounted (length (journal.events ++ e ∷ [])) place) places state (Some step) below
           (omega (arith, made, more))
           (λ s other. rw more (counted_more (length journal.events) (step_at places s) (ready.counted s))));
+    }
+
+-- one event more, and the places as they were
+pub ready_more : (journal : Story) (settled after_settled : List ℕ) (places : List (Option Step)) (due after : Due) (e : Event) →
+    IsReady journal settled places due → length after_settled ≡ length settled → IsInRange after (length settled) places →
+    events_left after (length settled) places ≤ journal.promised - 1 → IsReady (pushed journal e) after_settled places after
+ready_more journal settled after_settled places due after e ready same in_range room =
+    let more : length (journal.events ++ e ∷ []) ≡ length journal.events + 1 = length-append journal.events (e ∷ []) in
+    record {
+      cpus = same ∙ ready.cpus;
+      few_cpus = rw same ready.few_cpus;
+      states = ready.states;
+      in_range = rw same in_range;
+      room = rw same room;
+      counted = λ s. rw more (counted_more (length journal.events) (step_at places s) (ready.counted s));
+    }
+
+-- the counts of a step that an entry was made at
+pub entered_made : (site : Site) (step : Step) → (entered_step site step).kept.made ≤ step.kept.made + 1
+entered_made site step = go (has_callback_by step.kept site.dir)
+  where
+    go : (has : Bool) → (cond has (called_step site step) step).kept.made ≤ step.kept.made + 1
+    go true = omega arith
+    go false = omega arith
+
+-- what is so before an entry is made on a processor at a registered state
+pub record IsEntryDue (journal : Story) (settled : List ℕ) (places written : List (Option Step)) (cpu state : ℕ) (site : Site)
+    (seat : ℕ) : Type 0
+  where
+    pub step : Step
+    pub step_is : step_at places state ≡ Some step
+    pub counted : step.kept.made ≤ length journal.events
+    pub there : cpu < journal.head.possible
+    pub below : state < length places
+    pub by : seat ≡ seat_at journal.head.possible cpu state
+    pub written_is : written ≡ slice_set places state (Some (entered_step site step))
+
+pub entry_due : (journal : Story) (settled : List ℕ) (places written : List (Option Step)) (due : Due) (cpu state : ℕ) (site : Site)
+    (seat : ℕ) → IsReady journal settled places due → cpu < length settled → state ≤ ONLINE → IsSome (step_at places state) →
+    seat ≡ seat_at (length settled) cpu state → written ≡ changed_at places state (entered_step site) →
+    IsEntryDue journal settled places written cpu state site seat
+entry_due journal settled places written due cpu state site seat ready inside most some by is =
+    let step = taken_at (step_at places state) some in
+    record {
+      step = step.0;
+      step_is = step.1;
+      counted = rw step.1 at (ready.counted state);
+      there = omega (arith, inside, ready.cpus);
+      below = omega (arith, most, ready.states);
+      by = rw ready.cpus at by;
+      written_is = is ∙ entered_at places state step.0 site step.1;
     }

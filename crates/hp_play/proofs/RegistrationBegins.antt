@@ -4,6 +4,7 @@ use Rattle.std.specs.Prelude.{slice_index, slice_set}
 use Rattle.std.specs.List.{filter}
 use Rattle.std.proofs.lemmas.Bool.{and_right, eq-eqb, ne_eqb, lt-ltb, le-leb, lt-leb}
 use Rattle.hp_states.specs.declared.limits.TheConstants.{ONLINE}
+use Rattle.hp_states.specs.Rules.{counts_of}
 use Rattle.hp_event.specs.declared.event.Op.{Op}
 use Rattle.hp_event.specs.declared.event.Op.TheVariants.{Setup}
 use Rattle.hp_event.specs.declared.head.Head.{Head}
@@ -41,6 +42,7 @@ pub record IsAsked (head : Head) (es : List Event) (places : List (Option Step))
   pub found : SubFound head sub
   pub some_sub : 1 ≤ sub
   pub few_subs : sub ≤ length head.subs
+  pub alone : (c : ℕ) → 0 < c → c < head.possible → settled c es < state
 
 -- its begin
 pub setup_stands : (head : Head) (es : List Event) (stands : List ℕ) (places : List (Option Step)) (asked sub state : ℕ) →
@@ -60,10 +62,10 @@ begun {head} {sub} found = Some (bare (fresh sub found.sub))
 -- the registration that just began
 abbrev begun_registering : (head : Head) (es : List Event) (places : List (Option Step)) (asked sub state value : ℕ)
     (found : SubFound head sub) → IsIdle es → state < length places → registered head state es ≡ None →
-    ok_value (Setup asked sub plain) state ≡ value →
+    ok_value (Setup asked sub plain) state ≡ value → ((c : ℕ) → 0 < c → c < head.possible → settled c es < state) →
     IsRegistering head (es ++ RegBegin head.possible state (Setup asked sub plain) ∷ [])
     (step_at (slice_set places state (begun found)) state) state value
-begun_registering head es places asked sub state value found idle within vacant answers =
+begun_registering head es places asked sub state value found idle within vacant answers alone =
     let op : Op = Setup asked sub plain in
     let e : Event = RegBegin head.possible state op in
     record {
@@ -80,6 +82,7 @@ begun_registering head es places asked sub state value found idle within vacant 
       no_walk = walking_push es e ∙ idle.no_walk;
       still = λ c. sym (settled_push c es e);
       vacant = vacant;
+      alone = alone;
     }
 
 -- the machine's parts when a registration began, but for what is due
@@ -108,11 +111,21 @@ begun_tied head es stands places asked sub state due tied a within at is_due =
           (λ s other.
           let apart : eqb state s ≡ false = ne_eqb state s other in
           registered_push head s es e ∙ (rw (at s, apart) (tied.registered_is s)));
-      kept = at_each (λ s p. IfSome p (IsKept (es ++ e ∷ []) s)) places state place within
-          (record { made = ap length (sym forgotten); no_rules = a.found.plain.no_rules; bare = refl })
+      kept = at_each (λ s p. IfSome p (IsKept head (es ++ e ∷ []) s)) places state place within
+          (record {
+            sub = a.found.sub;
+            sub_is = a.found.is;
+            up_is = refl;
+            down_is = refl;
+            plan_is = refl;
+            made = ap length (sym forgotten);
+            seen = ap (counts_of a.found.sub.plan) (sym forgotten);
+            single = a.found.plain.is_single;
+            bare = refl;
+          })
           (λ s other.
           let apart : eqb state s ≡ false = ne_eqb state s other in
-          kept_same es (es ++ e ∷ []) s (step_at places s) (sites_push s es e ∙ rw apart refl) (tied.kept s));
+          kept_same head es (es ++ e ∷ []) s (step_at places s) (sites_push s es e ∙ rw apart refl) (tied.kept s));
       subs = at_each (λ s p. IfSome p (λ step. (1 ≤ step.kept.sub) × (step.kept.sub ≤ length head.subs))) places state place
           within (a.some_sub, a.few_subs) (λ s other. tied.subs s);
       due_is = is_due;
@@ -153,7 +166,7 @@ setup_begins_adding head es stands places written asked sub state value cpu tied
     rw is
     (begun_tied head es stands places asked sub state (Adding state cpu value) tied a within (λ s. refl)
     (record {
-      registering = begun_registering head es places asked sub state value a.found tied.due_is within none answers;
+      registering = begun_registering head es places asked sub state value a.found tied.due_is within none answers a.alone;
       done = rw (registration_entries_push es (RegBegin head.possible state (Setup asked sub plain)), empty) tt;
       reached = reached_there head state es cpu tied.plain below (rw (tied.settled_is cpu below) up);
     }))
@@ -174,6 +187,6 @@ setup_begins_added head es stands places written asked sub state value tied a st
     rw is
     (begun_tied head es stands places asked sub state (Added state value) tied a within (λ s. refl)
     (record {
-      registering = begun_registering head es places asked sub state value a.found tied.due_is within none answers;
+      registering = begun_registering head es places asked sub state value a.found tied.due_is within none answers a.alone;
       done = rw (registration_entries_push es (RegBegin head.possible state (Setup asked sub plain)), empty) tt;
     }))

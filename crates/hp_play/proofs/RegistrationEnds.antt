@@ -20,10 +20,11 @@ use Rattle.hp_model.proofs.Laws.{registration_push, registered_push, settled_pus
 use Rattle.hp_play.specs.declared.due.Due.TheVariants.{Operation as Idle, Added}
 use Rattle.hp_play.specs.Form.{plain}
 use Rattle.hp_table.specs.Step.{Step, step_at}
-use Rattle.hp_play.specs.Tied.{registered_by, registered_so, IsRegistering, IsAdded, IsTied}
+use Rattle.hp_play.specs.Tied.{registered_by, registered_so, IsKept, IsRegistering, IsAdded, IsTied}
 use Rattle.hp_play.proofs.TieFolds.{sites_push}
 use Rattle.hp_play.proofs.TieParts.{SubFound, sub_found, single_sub, tied_more}
 use Rattle.hp_play.proofs.RegistrationEntries.{shape_of}
+use Rattle.hp_play.proofs.TieCrossing.{kept_at}
 
 ok_of : (r : Registration) (asked state sub value : ℕ) → r.op ≡ Setup asked sub plain → r.state ≡ state →
     ok_value (Setup asked sub plain) state ≡ value → ok_value r.op r.state ≡ value
@@ -65,17 +66,19 @@ end_registered head es stands places state value s tied =
     let r : IsRegistering head es (step_at places state) state value = added.registering in
     let ranged = rw r.place_is at (tied.subs state) in
     let found : SubFound head r.step.kept.sub = sub_found head r.step.kept.sub tied.plain ranged.0 ranged.1 in
+    let kept = kept_at head es state (step_at places state) r.step r.place_is (tied.kept state) in
     registered_after head es head.possible value r.asked state s r.step.kept.sub r.of r.in_flight r.setup r.at_state
     (single_sub head r.step.kept.sub found)
-    ∙ go (eqb state s) refl r.step r.place_is (tied.registered_is s)
+    ∙ go (eqb state s) refl r.step r.place_is kept (tied.registered_is s)
   where
-    go : (b : Bool) → eqb state s ≡ b → (step : Step) → step_at places state ≡ Some step →
+    go : (b : Bool) → eqb state s ≡ b → (step : Step) → step_at places state ≡ Some step → IsKept head es state step →
         registered head s es ≡ registered_so b (step_at places s) →
         cond b (Some (record { sub = step.kept.sub; multi = false; insts = [] })) (registered head s es)
         ≡ registered_by (step_at places s)
-    go true e step is h =
-        let there : step_at places s ≡ Some step = ap (step_at places) (sym (eqb-true state s e)) ∙ is in rw there refl
-    go false e step is h = h
+    go true e step is kept h =
+        let there : step_at places s ≡ Some step = ap (step_at places) (sym (eqb-true state s e)) ∙ is in
+        rw (there, kept.single, kept.bare) refl
+    go false e step is kept h = h
 
 -- a registration ends
 pub added_ends : (head : Head) (es : List Event) (stands : List ℕ) (places : List (Option Step)) (state value : ℕ) →

@@ -1,15 +1,19 @@
 -- One event more: the notions that only the machine asks for, and what its events leave as it was.
-use Rattle.std.proofs.Common.{◌≡◌, ℕ, ◌+◌, Bool, true, false, ◌&&◌, cond, eqb, Option, Some, None, List, [], ◌∷◌, ◌++◌, refl, sym, ◌∙◌}
+use Rattle.std.proofs.Common.{◌≡◌, ℕ, ◌+◌, ◌-◌, Bool, true, false, ◌&&◌, cond, eqb, Option, Some, None, List, [], ◌∷◌, ◌++◌, refl, sym, ◌∙◌}
 use Rattle.std.specs.List.{count_by}
 use Rattle.std.proofs.lemmas.List.Sums.{fold-append}
-use Rattle.hp_event.specs.declared.event.How.TheVariants.{RanOk}
-use Rattle.hp_event.specs.declared.event.Op.TheVariants.{Up}
+use Rattle.std.proofs.lemmas.Bool.{false≢true}
+use Rattle.hp_event.specs.declared.event.Answer.{Answer}
+use Rattle.hp_event.specs.declared.event.How.{How}
+use Rattle.hp_event.specs.declared.event.How.TheVariants.{Injected}
+use Rattle.hp_event.specs.declared.event.Op.{Op}
+use Rattle.hp_event.specs.declared.event.Op.TheVariants.{Up, Down}
 use Rattle.hp_event.specs.declared.event.Role.{Role}
 use Rattle.hp_event.specs.declared.head.Head.{Head}
 use Rattle.hp_event.specs.declared.event.Event.{Event}
 use Rattle.hp_event.specs.declared.event.Event.TheVariants.{Admit, Leave, Enter, Refused, WalkBegin, Call, WalkEnd, OpEnd, RegBegin, RegEnd, ReadLock, ReadUnlock, Armed}
-use Rattle.hp_model.specs.Armed.{armed, armed_step}
-use Rattle.hp_model.specs.Suspend.{disabled, disabled_step}
+use Rattle.hp_model.specs.Armed.{armed, armed_step, disarmed_by}
+use Rattle.hp_model.specs.Suspend.{disabled, disabled_step, is_disabling, is_enabling}
 use Rattle.hp_model.specs.Sequence.{answers, answers_step}
 use Rattle.hp_model.specs.Calls.{sites, sites_step}
 use Rattle.hp_model.specs.Events.{is_answer, seat_of, answered}
@@ -17,7 +21,8 @@ use Rattle.hp_model.specs.MapLock.{Operation, operation}
 use Rattle.hp_model.specs.Readers.{readers, readers_step, reading_since, reading_since_step}
 use Rattle.hp_model.specs.Seats.{role_of, role_step, ap_seat, ap_step}
 use Rattle.hp_model.proofs.Laws.{over_from_push, readers_push, reading_since_push, role_push, ap_push}
-use Rattle.hp_play.specs.Tied.{IsQuiet, IsSeated}
+use Rattle.hp_play.specs.Tied.{IsQuiet, IsSeated, Leads}
+use Rattle.hp_play.proofs.EntryHow.{is_injected}
 
 pub armed_push : (c : ℕ) (xs : List Event) (e : Event) → armed c (xs ++ e ∷ []) ≡ armed_step c (armed c xs) xs e
 unfolding armed
@@ -46,12 +51,12 @@ answered_push k xs e = count_by-push (λ x. is_answer x && eqb (seat_of x) k) xs
 
 -- the events that the machine makes once its seats are in
 abbrev pub IsOurs : List Event → Event → Type 0
-IsOurs es (Enter seat op) = (c : ℕ) × (op ≡ Up c)
+IsOurs es (Enter seat op) = (c to : ℕ) × Leads op c to
 IsOurs es (Refused seat errno op) = Unit {0}
 IsOurs es (WalkBegin seat cpu from to) = Unit {0}
-IsOurs es (Call seat cpu state inst dir how) = how ≡ RanOk
+IsOurs es (Call seat cpu state inst dir how) = is_injected how ≡ false
 IsOurs es (WalkEnd seat cpu answer) = Unit {0}
-IsOurs es (OpEnd seat answer) = (o : Operation) × (c : ℕ) × (operation es ≡ Some o) × (o.op ≡ Up c)
+IsOurs es (OpEnd seat answer) = (o : Operation) × (c to : ℕ) × (operation es ≡ Some o) × Leads o.op c to
 IsOurs es (RegBegin seat state op) = Unit {0}
 IsOurs es (RegEnd seat answer) = Unit {0}
 IsOurs es _ = ⊥
@@ -67,18 +72,34 @@ reading_same k es (ReadLock seat) found h = elim h [ ]
 reading_same k es (ReadUnlock seat) found h = elim h [ ]
 reading_same k es e found h = refl
 
+-- an operation that walks one processor leaves hotplug enabled
+enabled_enter : (seat : ℕ) (op : Op) (c to : ℕ) (es : List Event) (n : ℕ) → Leads op c to → disabled_step n es (Enter seat op) ≡ n
+enabled_enter seat (Up k) c to es n h = refl
+enabled_enter seat (Down k) c to es n h = refl
+enabled_enter seat op c to es n h = elim h [ ]
+
+enabled_end : (o : Operation) (c to : ℕ) (es : List Event) (n seat : ℕ) (answer : Answer) → operation es ≡ Some o → Leads o.op c to →
+    disabled_step n es (OpEnd seat answer) ≡ n
+enabled_end o c to es n seat answer held h = rw held (go o.op h)
+  where
+    go : (op : Op) → Leads op c to → cond (is_disabling op) (n + 1) (cond (is_enabling op) (n - 1) n) ≡ n
+    go (Up k) h = refl
+    go (Down k) h = refl
+    go op h = elim h [ ]
+
 disabled_same : (es : List Event) (e : Event) (n : ℕ) → IsOurs es e → disabled_step n es e ≡ n
-disabled_same es (Enter seat op) n h = rw h.1 refl
-disabled_same es (OpEnd seat answer) n h = rw (h.2, h.3) refl
+disabled_same es (Enter seat op) n h = enabled_enter seat op h.0 h.1 es n h.2
+disabled_same es (OpEnd seat answer) n h = enabled_end h.0 h.1 h.2 es n seat answer h.3 h.4
 disabled_same es e n h = refl
 
-disarmed_ran : (b : Bool) (found : Option ℕ) → cond b found found ≡ found
-disarmed_ran true found = refl
-disarmed_ran false found = refl
+disarmed_by_call : (b : Bool) (how : How) (found : Option ℕ) → is_injected how ≡ false → cond b (disarmed_by how found) found ≡ found
+disarmed_by_call false how found h = refl
+disarmed_by_call true Injected found h = absurd (false≢true (sym h))
+disarmed_by_call true how found h = refl
 
 armed_same : (c : ℕ) (es : List Event) (e : Event) (found : Option ℕ) → IsOurs es e → armed_step c found es e ≡ found
 armed_same c es (Armed seat cpu value) found h = elim h [ ]
-armed_same c es (Call seat cpu state inst dir how) found h = rw h (disarmed_ran (eqb cpu c) found)
+armed_same c es (Call seat cpu state inst dir how) found h = disarmed_by_call (eqb cpu c) how found h
 armed_same c es e found h = refl
 
 role_same : (k : ℕ) (es : List Event) (e : Event) (found : Option Role) → IsOurs es e → role_step k found es e ≡ found

@@ -1,5 +1,5 @@
 -- What the machine's parts say at once, and over an event that leaves the processors and the calls as they were.
-use Rattle.std.proofs.Common.{◌≡◌, ℕ, zero, suc, ◌<◌, ◌≤◌, Bool, true, false, Option, Some, None, IfSome, List, [], ◌∷◌, ◌++◌, length, refl, ap, sym, ◌∙◌, arith}
+use Rattle.std.proofs.Common.{◌≡◌, ℕ, zero, suc, ◌<◌, ◌≤◌, Bool, true, false, Option, Some, None, IfSome, List, [], ◌∷◌, ◌++◌, length, refl, ap, sym, subst, ◌∙◌, arith}
 use Rattle.std.specs.Prelude.{slice_get, option_map}
 use Rattle.std.specs.List.{AllByRecursion}
 use Rattle.std.proofs.lemmas.List.Elements.{recursion_from_All}
@@ -7,8 +7,9 @@ use Rattle.hp_event.specs.declared.head.Sub.{Sub}
 use Rattle.hp_event.specs.declared.head.Head.{Head}
 use Rattle.hp_event.specs.declared.event.Event.{Event}
 use Rattle.hp_states.specs.Sections.{is_ap_state}
-use Rattle.hp_event.specs.declared.event.How.TheVariants.{RanOk}
-use Rattle.hp_model.specs.Caller.{caller}
+use Rattle.hp_states.specs.Rules.{counts_of}
+use Rattle.hp_event.specs.declared.event.How.{How}
+use Rattle.hp_model.specs.Caller.{caller, is_presumed}
 use Rattle.hp_play.specs.Machine.{seat_at}
 use Rattle.hp_model.specs.Seats.{IsFree}
 use Rattle.hp_model.specs.Calls.{sites}
@@ -20,9 +21,11 @@ use Rattle.hp_model.specs.Registrations.{registration}
 use Rattle.hp_model.specs.Registered.{registered}
 use Rattle.hp_model.specs.Settled.{settled}
 use Rattle.hp_model.proofs.HeadlineProof.{lawful_more}
+use Rattle.hp_model.proofs.Owners.{same_some}
 use Rattle.hp_play.specs.declared.due.Due.{Due}
 use Rattle.hp_play.specs.declared.due.Due.TheVariants.{Operation as Idle}
-use Rattle.hp_play.specs.Tied.{IsPlainSub, IsPlainHead, IsSeated, IsKept, IsIdle, IsEntered, registered_by, registered_so, is_at, IsDue, IsTied}
+use Rattle.hp_play.specs.Tied.{IsPlainHead, IsSeated, IsKept, IsIdle, IsEntered, registered_by, registered_so, is_at, IsDue, IsTied}
+use Rattle.hp_play.specs.Form.{IsPlainSub}
 use Rattle.hp_play.proofs.TieFolds.{IsOurs, quiet_more, seated_more}
 
 -- a subsystem of the head, by its number
@@ -47,33 +50,44 @@ pub single_sub : (head : Head) (number : ℕ) → SubFound head number → is_mu
 single_sub head number found = rw (found.is, found.plain.is_single) refl
 
 -- an entry is made by a processor's own seat at an AP state, else by the client
-pub entry_caller : (head : Head) (es : List Event) (seat cpu state client : ℕ) → IsSeated head es → cpu < head.possible →
-    client ≡ head.possible → seat ≡ seat_at head.possible cpu state → caller es cpu state RanOk client ≡ Some seat
-entry_caller head es seat cpu state client seated below by is = go (is_ap_state state) refl
+pub entry_caller : (head : Head) (es : List Event) (seat cpu state client : ℕ) (how : How) → IsSeated head es → cpu < head.possible →
+    client ≡ head.possible → is_presumed how ≡ false → seat ≡ seat_at head.possible cpu state →
+    caller es cpu state how client ≡ Some seat
+entry_caller head es seat cpu state client how seated below by called is = go (is_ap_state state) refl
   where
-    go : (b : Bool) → is_ap_state state ≡ b → caller es cpu state RanOk client ≡ Some seat
-    go true e = rw (is, e) (seated.aps cpu below)
+    go : (b : Bool) → is_ap_state state ≡ b → caller es cpu state how client ≡ Some seat
+    go true e = rw (is, e, called) (seated.aps cpu below)
     go false e = rw (is, e, by) refl
 
 -- what is kept is kept where the calls stay the same
-pub kept_same : (es fs : List Event) (s : ℕ) (place : Option Step) → sites s fs ≡ sites s es → IfSome place (IsKept es s) →
-    IfSome place (IsKept fs s)
-kept_same es fs s None same h = tt
-kept_same es fs s (Some step) same h =
-    record { made = h.made ∙ ap length (sym same); no_rules = h.no_rules; bare = h.bare }
+pub kept_same : (head : Head) (es fs : List Event) (s : ℕ) (place : Option Step) → sites s fs ≡ sites s es →
+    IfSome place (IsKept head es s) → IfSome place (IsKept head fs s)
+kept_same head es fs s None same h = tt
+kept_same head es fs s (Some step) same h =
+    record {
+      sub = h.sub;
+      sub_is = h.sub_is;
+      up_is = h.up_is;
+      down_is = h.down_is;
+      plan_is = h.plan_is;
+      made = h.made ∙ ap length (sym same);
+      seen = h.seen ∙ ap (counts_of h.sub.plan) (sym same);
+      single = h.single;
+      bare = h.bare;
+    }
 
 -- with nothing in flight the client is free
 pub idle_free : (head : Head) (es : List Event) → IsSeated head es → IsIdle es → IsFree es head.possible
 idle_free head es seated idle = record { client = seated.client; idle = rw (idle.no_operation, idle.no_registration) refl }
 
 -- the client's operation holds the map lock still
-pub entered_more : (head : Head) (es : List Event) (e : Event) (cpu : ℕ) → operation (es ++ e ∷ []) ≡ operation es →
-    registration (es ++ e ∷ []) ≡ registration es → IsEntered head es cpu → IsEntered head (es ++ e ∷ []) cpu
-entered_more head es e cpu held idle entered = record {
+pub entered_more : (head : Head) (es : List Event) (e : Event) (cpu to : ℕ) → operation (es ++ e ∷ []) ≡ operation es →
+    registration (es ++ e ∷ []) ≡ registration es → IsEntered head es cpu to → IsEntered head (es ++ e ∷ []) cpu to
+entered_more head es e cpu to held idle entered = record {
   of = entered.of;
   held = held ∙ entered.held;
   by_client = entered.by_client;
-  up = entered.up;
+  leads = entered.leads;
   no_registration = idle ∙ entered.no_registration;
 }
 
@@ -91,7 +105,7 @@ tied_more head es stands places due next e tied ours stood still same registered
   settled_is = λ c below. still c ∙ tied.settled_is c below;
   highest = tied.highest;
   registered_is = registered_is;
-  kept = λ s. kept_same es (es ++ e ∷ []) s (step_at places s) (same s) (tied.kept s);
+  kept = λ s. kept_same head es (es ++ e ∷ []) s (step_at places s) (same s) (tied.kept s);
   subs = tied.subs;
   due_is = is_due;
 }
@@ -105,3 +119,11 @@ same_subs head es stands places tied s =
     go : (place : Option Step) → option_map (λ r. r.sub) (registered_by place) ≡ option_map (λ step. step.kept.sub) place
     go None = refl
     go (Some step) = refl
+
+-- what is registered at a state is of a plain subsystem
+pub plain_kept : (head : Head) (es : List Event) (s : ℕ) (step : Step) → IsPlainHead head → (k : IsKept head es s step) →
+    (1 ≤ step.kept.sub) × (step.kept.sub ≤ length head.subs) → IsPlainSub k.sub
+plain_kept head es s step plain k range =
+    let found = sub_found head step.kept.sub plain range.0 range.1 in
+    let same : found.sub ≡ k.sub = same_some _ _ (sym found.is ∙ k.sub_is) in
+    subst IsPlainSub same found.plain

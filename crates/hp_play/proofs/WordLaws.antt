@@ -13,6 +13,11 @@ pub bind_some : {A B : Type 0} (r : Option A) (f : A → Option B) (y : B) → (
 bind_some (Some x) f y e = (x, refl, e)
 bind_some None f y e = absurd cc
 
+-- what follows from the value of such a step
+pub bind_then : {A B : Type 0} (P : Type 0) (y : B) (r : Option A) (f : A → Option B) → (r >>= f) ≡ Some y → ((x : A) → r ≡ Some x → f x ≡ Some y → P) → P
+bind_then P y (Some x) f e then = then x refl e
+bind_then P y None f e then = absurd cc
+
 -- a test that passed
 pub passed : {A : Type 0} (b : Bool) (x : Option A) (y : A) → cond b x None ≡ Some y → (b ≡ true) × (x ≡ Some y)
 passed true x y e = (refl, e)

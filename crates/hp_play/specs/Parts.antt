@@ -1,5 +1,5 @@
 -- What is so of a machine, and what a turn makes of it. This project's own.
-use Rattle.std.specs.Prelude.{◌≡◌, ℕ, ◌+◌, ◌<◌, Bool, true, false, ◌&&◌, not, is_some, if◌then◌else◌, Option, Some, None, List, length}
+use Rattle.std.specs.Prelude.{◌≡◌, ℕ, ◌+◌, ◌<◌, ◌≤◌, Bool, true, false, ◌&&◌, not, is_some, if◌then◌else◌, Option, Some, None, List, [], length, slice_index}
 use Rattle.hp_states.specs.declared.limits.TheConstants.{OFFLINE, ONLINE}
 use Rattle.hp_event.specs.declared.event.Op.{Op}
 use Rattle.hp_event.specs.declared.event.Op.TheVariants.{Setup}
@@ -10,7 +10,10 @@ use Rattle.hp_model.specs.Refusals.{refusal}
 use Rattle.hp_play.specs.declared.due.Due.TheVariants.{Operation}
 use Rattle.hp_play.specs.declared.machine.Machine.{Machine}
 use Rattle.hp_play.specs.Machine.{IsReady, work, is_of, is_in_flight, is_setup}
-use Rattle.hp_play.specs.Tied.{IsTied}
+use Rattle.hp_play.specs.Tied.{IsTied, IsEntered, is_at}
+use Rattle.hp_model.specs.Walks.{walking}
+use Rattle.hp_model.specs.StandsOperations.{OpEnds}
+use Rattle.hp_event.specs.declared.event.Answer.{Answer}
 use Rattle.hp_play.specs.Plays.{Plays}
 use Rattle.hp_event.specs.declared.head.Head.{Head}
 use Rattle.hp_play.specs.Played.{IsJournalOf}
@@ -36,14 +39,14 @@ GoesOn op answers old new = Plays old.journal.head op answers old.journal.events
 
 -- what is left to do in the operation
 abbrev pub work_of : {H : Type 0} → Machine H → ℕ
-work_of m = work m.due (length m.settled.items)
+work_of m = work m.due (length m.settled.items) m.table
 
 -- the hooks that its states have
 abbrev pub hooks_of : {H : Type 0} → Machine H → ℕ
 hooks_of m = length (made_of m.table)
 
--- Advances of an operation, which answer it or not: what was played is of this operation, and if it isn't answered, then
--- something is due of it, and less than before is left.
+-- Turns of an operation, which answer it or not: what was played is of this operation, and if it isn't answered, then
+-- something is due of it, and less than before is left. A setup leaves the processors where they stand.
 pub record Advances {H : Type 0} (op : Op) (answers : Bool) (old new : Machine H) : Type 0 where
   pub ready : Ready new
   pub tied : Tied new
@@ -52,9 +55,10 @@ pub record Advances {H : Type 0} (op : Op) (answers : Bool) (old new : Machine H
   pub of : is_of op new.due ≡ true
   pub free : answers ≡ true → new.due ≡ Operation
   pub flight : answers ≡ false → is_in_flight new.due ≡ true
+  pub stays : is_setup op ≡ true → new.settled ≡ old.settled
   pub less : answers ≡ false → work_of new < work_of old
 
--- A turn of a processor's seat, which makes an entry of whatever operation is in flight.
+-- A turn in which a seat, a processor's or the client's, makes an entry of the operation in flight.
 pub record Enters {H : Type 0} (old new : Machine H) : Type 0 where
   pub ready : Ready new
   pub tied : Tied new
@@ -62,6 +66,7 @@ pub record Enters {H : Type 0} (old new : Machine H) : Type 0 where
   pub goes : (op : Op) → GoesOn op false old new
   pub of : (op : Op) → is_of op old.due ≡ true → is_of op new.due ≡ true
   pub flight : is_in_flight new.due ≡ true
+  pub stays : new.settled ≡ old.settled
   pub less : work_of new < work_of old
 
 -- whether an operation registers its state: it is a setup that isn't refused
@@ -88,6 +93,20 @@ pub record Resolves {H : Type 0} (m : Machine H) (asked sub state : ℕ) : Type 
   pub above : OFFLINE < state
   pub below : state < ONLINE
   pub unnamed : is_named m.table state ≡ false
+
+-- an operation of the map lock whose end with this answer stands, and no walk of it is in flight
+pub record CanEnd {H : Type 0} (m : Machine H) (answer : Answer) : Type 0 where
+  pub cpu : ℕ
+  pub to : ℕ
+  pub entered : IsEntered m.journal.head m.journal.events cpu to
+  pub no_walk : walking m.journal.events ≡ []
+  pub stands : OpEnds m.journal.head m.journal.events m.journal.head.possible answer
+  pub elsewhere : (s : ℕ) → is_at m.due s ≡ false
+  pub room : 1 ≤ m.journal.promised
+
+-- all processors but the first are down
+abbrev pub IsEarly : {H : Type 0} → Machine H → Type 0
+IsEarly m = (c : ℕ) → 0 < c → c < length m.settled.items → slice_index m.settled.items c ≡ OFFLINE
 
 -- a machine that played the operations of a head's actor: its journal is one of them, and nothing is in flight
 pub record HasRun {H : Type 0} (head : Head) (ops : List Op) (m : Machine H) : Type 0 where

@@ -1,16 +1,18 @@
 -- What the parts of the machine say of the events of its journal: where processors stand, what is registered, who
 -- sits, and what is in flight. This project's own.
-use Rattle.std.specs.Prelude.{◌≡◌, ℕ, ◌-◌, ◌<◌, ◌≤◌, pos, Bool, true, false, ◌&&◌, ◌==◌, nat_le, if◌then◌else◌, Option, Some, None, IfSome, List, [], ◌∷◌, filter, length, slice_index, All}
+use Rattle.std.specs.Prelude.{◌≡◌, ℕ, ◌<◌, ◌≤◌, Bool, true, false, ◌&&◌, ◌==◌, nat_le, if◌then◌else◌, Option, Some, None, IfSome, List, [], ◌∷◌, filter, length, slice_index, All}
 use Rattle.hp_states.specs.declared.limits.TheConstants.{ONLINE, OFFLINE}
+use Rattle.hp_states.specs.Rules.{counts_of}
 use Rattle.hp_states.specs.declared.section.Dir.TheVariants.{Up}
 use Rattle.hp_states.specs.declared.section.Place.TheVariants as placed
 use Rattle.hp_event.specs.declared.event.Op.TheVariants as op
 use Rattle.hp_event.specs.declared.event.Role.TheVariants.{Client}
-use Rattle.hp_event.specs.declared.event.Answer.TheVariants.{Ok}
+use Rattle.hp_event.specs.declared.event.Op.{Op}
+use Rattle.hp_event.specs.declared.event.Answer.{Answer}
 use Rattle.hp_event.specs.declared.head.Sub.{Sub}
 use Rattle.hp_event.specs.declared.head.Head.{Head}
 use Rattle.hp_event.specs.declared.event.Event.{Event}
-use Rattle.hp_model.specs.Lists.{numbers, rising}
+use Rattle.hp_model.specs.Lists.{numbers}
 use Rattle.hp_model.specs.Lawful.{IsLawful}
 use Rattle.hp_model.specs.Seats.{role_of, ap_seat}
 use Rattle.hp_model.specs.Readers.{readers, reading_since}
@@ -23,21 +25,17 @@ use Rattle.hp_model.specs.Registered.{Registered, registered, keys}
 use Rattle.hp_model.specs.Settled.{settled}
 use Rattle.hp_model.specs.Calls.{sites}
 use Rattle.hp_model.specs.Sequence.{answers}
-use Rattle.hp_model.specs.Plan.{keyed}
-use Rattle.hp_model.specs.Crossing.{slots, Fill}
-use Rattle.hp_model.specs.WalkShape.{crossed}
+use Rattle.hp_model.specs.Crossing.{Fill}
 use Rattle.hp_model.specs.RegistrationShape.{each, ok_value}
 use Rattle.hp_model.specs.Processors.{is_present, processors}
 use Rattle.hp_play.specs.declared.due.Due.{Due}
-use Rattle.hp_play.specs.declared.due.Due.TheVariants.{Operation as Idle, Adding, Added, Walk as Walking, Crossing, Crossed, End}
-use Rattle.hp_play.specs.Form.{plain}
+use Rattle.hp_play.specs.declared.due.Due.TheVariants.{Operation as Idle, Adding, Added, Walk as ToWalk, Walking, End}
+use Rattle.hp_play.specs.Form.{IsPlainSub, plain}
 use Rattle.hp_table.specs.Step.{Step, step_at}
-
--- a subsystem of the form: both callbacks, one instance, no rules
-pub record IsPlainSub (sub : Sub) : Type 0 where
-  pub has_startup : sub.up ≡ true
-  pub is_single : sub.multi ≡ false
-  pub no_rules : sub.plan ≡ []
+use Rattle.hp_walk.specs.declared.walk.Walk.{Walk as AWalk}
+use Rattle.hp_walk.specs.Cursor.{cpu_of, from_of, to_of}
+use Rattle.hp_walk.specs.After.{IsAfter}
+use Rattle.hp_model.specs.Subsystems.{sub_numbered}
 
 pub record IsPlainHead (head : Head) : Type 0 where
   pub all_present : head.absent ≡ []
@@ -59,7 +57,7 @@ pub record IsQuiet (events : List Event) : Type 0 where
 -- what a place says is registered, unless it is being registered
 abbrev pub registered_by : Option Step → Option Registered
 registered_by None = None
-registered_by (Some step) = Some (record { sub = step.kept.sub; multi = false; insts = [] })
+registered_by (Some step) = Some (record { sub = step.kept.sub; multi = step.kept.multi; insts = step.insts })
 
 abbrev pub is_at : Due → (state : ℕ) → Bool
 is_at (Adding state cpu value) s = state == s
@@ -70,10 +68,17 @@ abbrev pub registered_so : (in_flight : Bool) → Option Step → Option Registe
 registered_so true place = None
 registered_so false place = registered_by place
 
--- a state's hook was called as often as the journal says since it was set up, by no rules; it has no instances
-pub record IsKept (events : List Event) (state : ℕ) (step : Step) : Type 0 where
+-- What a state has is of a subsystem of the head: its callbacks, its plan, and one key. Its hook was called as often as
+-- the journal says since it was set up, and has counted those calls.
+pub record IsKept (head : Head) (events : List Event) (state : ℕ) (step : Step) : Type 0 where
+  pub sub : Sub
+  pub sub_is : sub_numbered head step.kept.sub ≡ Some sub
+  pub up_is : step.kept.up ≡ sub.up
+  pub down_is : step.kept.down ≡ sub.down
+  pub plan_is : step.kept.plan ≡ sub.plan
   pub made : step.kept.made ≡ length (sites state events)
-  pub no_rules : step.kept.plan ≡ []
+  pub seen : step.kept.seen ≡ counts_of sub.plan (sites state events)
+  pub single : step.kept.multi ≡ false
   pub bare : step.insts ≡ []
 
 -- the registration in flight: the client's setup of a plain subsystem, and the number that its Ok answers
@@ -91,6 +96,7 @@ pub record IsRegistering (head : Head) (events : List Event) (place : Option Ste
   pub no_walk : walking events ≡ []
   pub still : (c : ℕ) → settled c of.before ≡ settled c events
   pub vacant : registered head state of.before ≡ None
+  pub alone : (c : ℕ) → 0 < c → c < head.possible → settled c of.before < state
 
 -- whether a present processor stands at a state or above it
 abbrev pub is_reached : Head → (state : ℕ) → List Event → (cpu : ℕ) → Bool
@@ -110,26 +116,29 @@ pub record IsAdded (head : Head) (events : List Event) (place : Option Step) (st
       Fill (each placed.Add Up state 0 (processors head state registering.of.before))
       (registration_entries events)
 
+-- an operation that takes a processor to a state
+abbrev pub Leads : Op → (cpu to : ℕ) → Type 0
+Leads (op.Up c) cpu to = (c ≡ cpu) × (to ≡ ONLINE)
+Leads (op.Down c) cpu to = (c ≡ cpu) × (to ≡ OFFLINE)
+Leads _ cpu to = ⊥
+
 -- the client's operation on a processor holds the map lock
-pub record IsEntered (head : Head) (events : List Event) (cpu : ℕ) : Type 0 where
+pub record IsEntered (head : Head) (events : List Event) (cpu to : ℕ) : Type 0 where
   pub of : Operation
   pub held : operation events ≡ Some of
   pub by_client : of.seat ≡ head.possible
-  pub up : of.op ≡ op.Up cpu
+  pub leads : Leads of.op cpu to
   pub no_registration : registration events ≡ None
 
--- the walk of the operation: its entries so far are those of the states of its plan up to one
-pub record IsWalking (head : Head) (events : List Event) (cpu at : ℕ) : Type 0 where
-  pub entered : IsEntered head events cpu
+-- the walk of the operation stands after the entries so far, along what was registered when it began
+pub record IsWalking (head : Head) (events : List Event) (cpu to : ℕ) (w : AWalk) : Type 0 where
+  pub entered : IsEntered head events cpu to
   pub flight : Walk
   pub in_flight : walk cpu events ≡ Some flight
-  pub done :
-      Fill (slots cpu (keys head flight.before) (crossed placed.Forward Up
-      (keyed (keys head flight.before) (rising flight.from (at - flight.from))))) (walk_entries cpu events)
   pub by_client : flight.seat ≡ head.possible
-  pub to_top : flight.to ≡ ONLINE
-  pub from_below : flight.from < ONLINE
-  pub from_at : flight.from ≤ at
+  pub to_is : flight.to ≡ to
+  pub walk_is : (cpu_of w ≡ cpu) × (from_of w ≡ flight.from) × (to_of w ≡ flight.to)
+  pub after : IsAfter (keys head flight.before) (walk_entries cpu events) w
   pub alone : walking events ≡ cpu ∷ []
   pub unanswered : answers events ≡ []
   pub registered_same : (s : ℕ) → registered head s flight.before ≡ registered head s events
@@ -140,30 +149,26 @@ pub record IsIdle (events : List Event) : Type 0 where
   pub no_walk : walking events ≡ []
 
 -- an operation before its walk, and after it
-pub record IsBeforeWalk (head : Head) (events : List Event) (cpu : ℕ) : Type 0 where
-  pub entered : IsEntered head events cpu
+pub record IsBeforeWalk (head : Head) (events : List Event) (cpu to : ℕ) : Type 0 where
+  pub entered : IsEntered head events cpu to
   pub no_walk : walking events ≡ []
   pub unanswered : answers events ≡ []
 
-pub record IsAfterWalk (head : Head) (events : List Event) : Type 0 where
+pub record IsAfterWalk (head : Head) (events : List Event) (answer : Answer) : Type 0 where
   pub cpu : ℕ
-  pub entered : IsEntered head events cpu
+  pub to : ℕ
+  pub entered : IsEntered head events cpu to
   pub no_walk : walking events ≡ []
-  pub answered : answers events ≡ Ok (pos 0) ∷ []
-
-pub record IsCrossing (head : Head) (events : List Event) (cpu state : ℕ) : Type 0 where
-  pub walking : IsWalking head events cpu (state - 1)
-  pub above : 0 < state
+  pub answered : answers events ≡ answer ∷ []
 
 -- what comes next is due by the events
 abbrev pub IsDue : Head → List Event → List (Option Step) → Due → Type 0
 IsDue head events places Idle = IsIdle events
 IsDue head events places (Adding state cpu value) = IsAdding head events (step_at places state) state cpu value
 IsDue head events places (Added state value) = IsAdded head events (step_at places state) state value
-IsDue head events places (Walking cpu) = IsBeforeWalk head events cpu
-IsDue head events places (Crossing cpu state) = IsCrossing head events cpu state
-IsDue head events places (Crossed cpu) = IsWalking head events cpu ONLINE
-IsDue head events places End = IsAfterWalk head events
+IsDue head events places (ToWalk cpu to) = IsBeforeWalk head events cpu to
+IsDue head events places (Walking cpu to w) = IsWalking head events cpu to w
+IsDue head events places (End answer) = IsAfterWalk head events answer
 
 pub record IsTied (head : Head) (events : List Event) (stands : List ℕ) (places : List (Option Step)) (due : Due) : Type 0 where
   pub lawful : IsLawful head events
@@ -173,7 +178,7 @@ pub record IsTied (head : Head) (events : List Event) (stands : List ℕ) (place
   pub settled_is : (c : ℕ) → c < head.possible → settled c events ≡ slice_index stands c
   pub highest : (c : ℕ) → slice_index stands c ≤ ONLINE
   pub registered_is : (s : ℕ) → registered head s events ≡ registered_so (is_at due s) (step_at places s)
-  pub kept : (s : ℕ) → IfSome (step_at places s) (IsKept events s)
+  pub kept : (s : ℕ) → IfSome (step_at places s) (IsKept head events s)
   pub subs : (s : ℕ) → IfSome (step_at places s) (λ step. (1 ≤ step.kept.sub) × (step.kept.sub ≤ length head.subs))
   pub due_is : IsDue head events places due
 

@@ -1,8 +1,9 @@
-//! `hp_main`: a script in, its journal and summary out.
+//! `hp_main`: a script in, its journal and summary out, or the states file.
 //!
-//! The one command is `play`: it reads a script, plays it on a machine of its own, and writes the
-//! journal of the run and its summary. What a script is, `specs/Form.antt` says on its bytes; what
-//! is answered and written, `specs/Main.antt`.
+//! There are two commands, `play` and `states`. Both read a script and play it on a machine of their
+//! own; `play` writes the journal of the run and its summary, `states` the states file after it. What
+//! a script is, `specs/Form.antt` says on its bytes; what each command writes, `specs/Commands.antt`;
+//! what is answered, `specs/Main.antt`.
 #![tactic(auto)]
 
 mod command;
@@ -17,11 +18,21 @@ mod script;
 #[cfg(test)]
 mod tests;
 #[cfg(test)]
+mod tests_downs;
+#[cfg(test)]
+mod tests_faults;
+#[cfg(test)]
+mod tests_operations;
+#[cfg(test)]
 mod tests_reader;
 #[cfg(test)]
 mod tests_refusals;
 #[cfg(test)]
+mod tests_rules;
+#[cfg(test)]
 mod tests_states;
+#[cfg(test)]
+mod tests_walks;
 mod top;
 mod words;
 

@@ -8,8 +8,9 @@ ghost use Rattle.hp_states.specs.Rules.{site_at};
 ghost use Rattle.hp_event.specs.declared.event.Op.{Op as AnOp};
 ghost use Rattle.hp_model.specs.Subsystems.{names_sub};
 ghost use Rattle.hp_model.specs.Refusals.{refusal};
-ghost use Rattle.hp_play.specs.Machine.{IsCounted, is_in_flight, pushed, seat_at};
-ghost use Rattle.hp_table.specs.Step.{step_at, changed_at, called_step};
+ghost use Rattle.hp_states.specs.Sections.{can_fail};
+ghost use Rattle.hp_play.specs.Machine.{IsCounted, entered_step, has_callback_by, how_by, is_in_flight, pushed, seat_at};
+ghost use Rattle.hp_table.specs.Step.{step_at, changed_at};
 ghost use Rattle.hp_table.specs.Instances.{instances_at};
 ghost use Rattle.hp_play.specs.Tied.{IsPlainHead, IsNew};
 ghost use Rattle.hp_model.specs.Heads.{IsHead};
@@ -21,9 +22,9 @@ ghost use Rattle.hp_play.specs.Parts.{Ready, Tied, Advances, hooks_of};
 use crate::command::Command;
 use crate::due::Due;
 use crate::hooks::{keep, take_hook};
-use hp_event::{Event, Head, How, Journal, JournalError, NoMemory, Op, Role};
+use hp_event::{Event, Head, How, Journal, JournalError, Key, NoMemory, Op, Role};
 use hp_hook::{Hook, Rack};
-use hp_states::{Dir, MAX_CPUS, MAX_EVENTS, OFFLINE, ONLINE, is_ap};
+use hp_states::{Dir, MAX_CPUS, MAX_EVENTS, OFFLINE, ONLINE, Place, is_ap, may_fail};
 use hp_table::Table;
 use std::alloc::Global;
 
@@ -31,8 +32,9 @@ mod rounds;
 mod setup;
 mod walk;
 
-/// The most events of an operation: an `up` makes one for each state and four besides.
-pub const OPERATION_ROOM: u32 = ONLINE + 4;
+/// The most events of an operation: a walk of n keys has at most 3n entries, and its operation four
+/// events besides.
+pub const OPERATION_ROOM: u32 = 3 * ONLINE + 4;
 
 /// A machine of present processors: where each stands, what is registered, and the journal.
 #[derive(Drop)]
@@ -81,6 +83,7 @@ impl<H: Hook> Machine<H> {
         ensures hooks { IfOk result (λ _. hooks_of self.new ≡ hooks_of self.old) }
         ensures head { self.new.journal.head ≡ self.old.journal.head }
         ensures cpus { length self.new.settled.items ≡ length self.old.settled.items }
+        ensures settled { self.new.settled ≡ self.old.settled }
         ensures few { IfOk result (λ _. (self.new.journal.promised ≡ 0) × (length self.new.journal.events ≤ MAX_CPUS + 1)) }
     {
         let client = self.client();
@@ -114,29 +117,6 @@ impl<H: Hook> Machine<H> {
         self.settled[cpu as usize]
     }
 
-    /// Whether something is registered at a state.
-    fn is_registered(&self, state: u32) -> bool
-        ensures yes { IsTrue result → IsSome (step_at self.now.table state) }
-        ensures no { result ≡ false → step_at self.now.table state ≡ None }
-    {
-        self.table.step(state).is_some()
-    }
-
-    /// The lowest registered state above one, if there is one.
-    fn next_state(&self, at: u32) -> Option<u32>
-        requires at { at ≤ ONLINE }
-        ensures found { IfSome result (λ s. (at < s) × (s ≤ ONLINE) × IsSome (step_at self.now.table s)) }
-        ensures first { IfSome result (λ s. (t : ℕ) → at < t → t < s → step_at self.now.table t ≡ None) }
-        ensures none { IfNone result ((t : ℕ) → at < t → t ≤ ONLINE → step_at self.now.table t ≡ None) }
-    {
-        for state in at + 1..ONLINE + 1 {
-            if self.is_registered(state) {
-                return Some(state);
-            }
-        }
-        None
-    }
-
     /// The first processor from one on that stands at a state or above it, if there is one.
     fn next_cpu(&self, state: u32, from: u32) -> Option<u32>
         requires cpus { length self.now.settled.items ≤ MAX_CPUS }
@@ -163,28 +143,68 @@ impl<H: Hook> Machine<H> {
         if is_ap(state) { cpu } else { self.client() }
     }
 
-    /// Makes one entry: calls the hook of a state for a processor, upwards, and writes it down. The
-    /// hook has no rules, so it answers 0.
-    fn call(&mut self, seat: u32, cpu: u32, state: u32)
-        requires registered { IsSome (step_at self.old.table state) }
-        requires few { IsCounted (length self.old.journal.events) (step_at self.old.table state) }
+    /// Whether what is registered at a state has a callback of a direction.
+    fn has_callback(&self, state: u32, dir: Dir) -> bool
+        requires { IsSome (step_at self.now.table state) }
+        ensures { IfSome (step_at self.now.table state) (λ step. result ≡ has_callback_by step.kept dir) }
+    {
+        match self.table.step(state) {
+            Some(record) => match dir {
+                Dir::Up => record.up,
+                Dir::Down => record.down,
+            },
+            None => unreachable!(),
+        }
+    }
+
+    /// How an entry is made: its callback is called, if there is one of its direction.
+    fn how(&mut self, cpu: u32, key: Key, dir: Dir, place: Place) -> How
+        requires state { key.state ≤ ONLINE }
+        requires registered { IsSome (step_at self.old.table key.state) }
+        requires few { IfSome (step_at self.old.table key.state) (λ step. step.kept.made < MAX_EVENTS) }
+        ensures same { (self.new.settled ≡ self.old.settled) × (self.new.due ≡ self.old.due)
+            × (self.new.journal ≡ self.old.journal) }
+        ensures entered { self.new.table
+            ≡ changed_at self.old.table key.state (entered_step (site_at cpu key.inst dir)) }
+        ensures how { IfSome (step_at self.old.table key.state) (λ step.
+            result ≡ how_by step.kept (site_at cpu key.inst dir) (can_fail dir key.state place)) }
+    {
+        if !self.has_callback(key.state, dir) {
+            return How::Empty;
+        }
+        match self.table.call(key.state, cpu, key.inst, dir) {
+            0 => How::RanOk,
+            code if may_fail(dir, key.state, place) => How::RanFault(code),
+            code => How::Overruled(code),
+        }
+    }
+
+    /// Makes one entry and writes it down.
+    fn call(&mut self, seat: u32, cpu: u32, key: Key, dir: Dir, place: Place) -> How
+        requires state { key.state ≤ ONLINE }
+        requires registered { IsSome (step_at self.old.table key.state) }
+        requires few { IsCounted (length self.old.journal.events) (step_at self.old.table key.state) }
         requires promised { 0 < self.old.journal.promised }
         ensures same { (self.new.settled ≡ self.old.settled) × (self.new.due ≡ self.old.due) }
-        ensures called { self.new.table ≡ changed_at self.old.table state (called_step (site_at cpu 0 Dir.Up)) }
+        ensures entered { self.new.table
+            ≡ changed_at self.old.table key.state (entered_step (site_at cpu key.inst dir)) }
         ensures hooks { hooks_of self.new ≡ hooks_of self.old }
+        ensures how { IfSome (step_at self.old.table key.state) (λ step.
+            result ≡ how_by step.kept (site_at cpu key.inst dir) (can_fail dir key.state place)) }
         ensures event { self.new.journal ≡ pushed self.old.journal
-            (Event.Call seat cpu state 0 Dir.Up How.RanOk) }
+            (Event.Call seat cpu key.state key.inst dir result) }
     {
         let _within = self.journal.promised();
-        let _code = self.table.call(state, cpu, 0, Dir::Up);
+        let how = self.how(cpu, key, dir, place);
         self.journal.push(Event::Call {
             seat,
             cpu,
-            state,
-            inst: 0,
-            dir: Dir::Up,
-            how: How::RanOk,
+            state: key.state,
+            inst: key.inst,
+            dir,
+            how,
         });
+        how
     }
 
     /// Refuses an operation, which one event says.
@@ -204,7 +224,7 @@ impl<H: Hook> Machine<H> {
     }
 
     /// Promises room to so many events more, which the journal has.
-    pub fn promise(&mut self, events: u32) -> Result<(), NoMemory>
+    fn promise(&mut self, events: u32) -> Result<(), NoMemory>
         requires ready { Ready self.old }
         requires room { length self.old.journal.events + self.old.journal.promised + events ≤ MAX_EVENTS }
         ensures ready { Ready self.new }
@@ -222,7 +242,7 @@ impl<H: Hook> Machine<H> {
     }
 
     /// Gives back the room that was promised and not used.
-    pub fn give_back(&mut self)
+    fn give_back(&mut self)
         requires ready { Ready self.old }
         requires free { is_in_flight self.old.due ≡ false }
         ensures ready { Ready self.new }

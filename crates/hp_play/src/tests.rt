@@ -202,6 +202,84 @@ pub(crate) fn played<H: Hook>(
     written(rt, alloc, "play", script, rack)
 }
 
+/// Plays each script, and compares what is written with the output beside it.
+pub(crate) fn assert_played(
+    rt: &impl Abort,
+    alloc: Global,
+    scripts: &[(&[u8], &[u8])],
+) -> Result<(), Fail> {
+    for (script, output) in scripts {
+        let mut rack = some_hooks(alloc, 4)?;
+        let written = played(rt, alloc, script, &mut rack)?;
+        assert_eq!(rt; written.as_slice(), *output);
+        assert_eq!(rt; rack.hooks.len(), 4);
+    }
+    Ok(())
+}
+
+/// How many calls two hooks of the test's own count while a script is played.
+pub(crate) fn count_calls(rt: &impl Abort, alloc: Global, script: &[u8]) -> Result<u64, Fail> {
+    let calls = Arc::new(alloc, AtomicU64::new(0))?;
+    let mut hooks: Vec<Box<dyn Hook + Send>> = Vec::new(alloc);
+    for _ in 0..2 {
+        let calls = Arc::try_clone(&calls)?;
+        let inner = ScriptHook::new();
+        hooks.push(Box::new(alloc, SharedHook { inner, calls })?)?;
+    }
+    let mut rack = Rack { hooks };
+    played(rt, alloc, script, &mut rack)?;
+    assert_eq!(rt; rack.hooks.len(), 2);
+    Ok(calls.load(Ordering::SeqCst))
+}
+
+/// Plays a script, read by tens of bytes, with each of its reads failing in turn: how many can fail.
+pub(crate) fn fail_reads(rt: &impl Abort, alloc: Global, script: &[u8]) -> Result<u64, Fail> {
+    let mut rack = some_hooks(alloc, 4)?;
+    let mut failed = 0;
+    for call in 1..100 {
+        let mut source = source_of(alloc, script)?;
+        source.step = 10;
+        source.fails.push(call)?;
+        let mut sink = ample_sink(alloc)?;
+        let status = run(rt, alloc, &["play"], &mut source, &mut sink, &mut rack)?;
+        if status == 0 {
+            break;
+        }
+        assert_eq!(rt; status, 3, "read {call}");
+        assert_eq!(rt; (source.faults, sink.calls), (1, 0), "read {call}");
+        failed = call;
+    }
+    Ok(failed)
+}
+
+/// Plays a script, whose output is written by hundreds of bytes, with each of its writes failing in
+/// turn: how many can fail.
+pub(crate) fn fail_writes(
+    rt: &impl Abort,
+    alloc: Global,
+    script: &[u8],
+    output: &[u8],
+) -> Result<u64, Fail> {
+    let mut rack = some_hooks(alloc, 4)?;
+    let mut failed = 0;
+    for call in 1..100 {
+        let mut source = source_of(alloc, script)?;
+        let mut sink = ample_sink(alloc)?;
+        sink.step = 100;
+        sink.fails.push(call)?;
+        let status = run(rt, alloc, &["play"], &mut source, &mut sink, &mut rack)?;
+        if status == 0 {
+            break;
+        }
+        assert_eq!(rt; status, 4, "write {call}");
+        assert!(rt; output.starts_with(&sink.bytes), "write {call}");
+        assert!(rt; sink.bytes.len() < output.len(), "write {call}");
+        assert_eq!(rt; sink.faults, 1, "write {call}");
+        failed = call;
+    }
+    Ok(failed)
+}
+
 #[test]
 fn a_script_is_played(rt: HostRuntime) -> Result<(), Fail> {
     let alloc = rt.alloc();
@@ -218,39 +296,13 @@ fn a_script_is_played(rt: HostRuntime) -> Result<(), Fail> {
 
 #[test]
 fn hooks_of_the_caller_are_called(rt: HostRuntime) -> Result<(), Fail> {
-    let alloc = rt.alloc();
-    let calls = Arc::new(alloc, AtomicU64::new(0))?;
-    let mut hooks: Vec<Box<dyn Hook + Send>> = Vec::new(alloc);
-    for _ in 0..2 {
-        let calls = Arc::try_clone(&calls)?;
-        let inner = ScriptHook::new();
-        hooks.push(Box::new(alloc, SharedHook { inner, calls })?)?;
-    }
-    let mut rack = Rack { hooks };
-    played(&rt, alloc, TWO_STARTUPS, &mut rack)?;
-    assert_eq!(rt; calls.load(Ordering::SeqCst), 4);
-    assert_eq!(rt; rack.hooks.len(), 2);
+    assert_eq!(rt; count_calls(&rt, rt.alloc(), TWO_STARTUPS)?, 4);
     Ok(())
 }
 
 #[test]
 fn each_failing_read_is_told(rt: HostRuntime) -> Result<(), Fail> {
-    let alloc = rt.alloc();
-    let mut rack = some_hooks(alloc, 4)?;
-    let mut failed = 0;
-    for call in 1..100 {
-        let mut source = source_of(alloc, TWO_STARTUPS)?;
-        source.step = 10;
-        source.fails.push(call)?;
-        let mut sink = ample_sink(alloc)?;
-        let status = run(&rt, alloc, &["play"], &mut source, &mut sink, &mut rack)?;
-        if status == 0 {
-            break;
-        }
-        assert_eq!(rt; status, 3, "read {call}");
-        assert_eq!(rt; (source.faults, sink.calls), (1, 0), "read {call}");
-        failed = call;
-    }
+    let failed = fail_reads(&rt, rt.alloc(), TWO_STARTUPS)?;
     assert!(rt;
         9 <= failed && failed < 20,
         "88 bytes are read by tens, not in {failed} calls"
@@ -260,27 +312,7 @@ fn each_failing_read_is_told(rt: HostRuntime) -> Result<(), Fail> {
 
 #[test]
 fn each_failing_write_is_told(rt: HostRuntime) -> Result<(), Fail> {
-    let alloc = rt.alloc();
-    let mut rack = some_hooks(alloc, 4)?;
-    let mut failed = 0;
-    for call in 1..100 {
-        let mut source = source_of(alloc, TWO_STARTUPS)?;
-        let mut sink = ample_sink(alloc)?;
-        sink.step = 100;
-        sink.fails.push(call)?;
-        let status = run(&rt, alloc, &["play"], &mut source, &mut sink, &mut rack)?;
-        if status == 0 {
-            break;
-        }
-        assert_eq!(rt; status, 4, "write {call}");
-        assert!(rt;
-            TWO_STARTUPS_PLAYED.starts_with(&sink.bytes),
-            "write {call}"
-        );
-        assert!(rt; sink.bytes.len() < 579, "write {call}");
-        assert_eq!(rt; sink.faults, 1, "write {call}");
-        failed = call;
-    }
+    let failed = fail_writes(&rt, rt.alloc(), TWO_STARTUPS, TWO_STARTUPS_PLAYED)?;
     assert!(rt;
         6 <= failed && failed < 20,
         "579 bytes are written by hundreds, not in {failed} calls"
@@ -332,12 +364,7 @@ fn other_words_are_answered_by_the_usage_line(rt: HostRuntime) -> Result<(), Fai
 
 #[test]
 fn operations_are_refused(rt: HostRuntime) -> Result<(), Fail> {
-    let alloc = rt.alloc();
-    let mut rack = some_hooks(alloc, 4)?;
-    let written = played(&rt, alloc, REFUSALS, &mut rack)?;
-    assert_eq!(rt; written.as_slice(), REFUSALS_PLAYED);
-    assert_eq!(rt; rack.hooks.len(), 4);
-    Ok(())
+    assert_played(&rt, rt.alloc(), &[(REFUSALS, REFUSALS_PLAYED)])
 }
 
 #[test]
@@ -348,7 +375,7 @@ fn other_bytes_are_refused(rt: HostRuntime) -> Result<(), Fail> {
     let longer = vec![in alloc; b'\n'; 1_048_700]?;
     let scripts: [(&[u8], usize); 6] = [
         (b"", 0),
-        (b"cpus 2\nactor a\ndown 1\n", 22),
+        (b"cpus 2\nactor a\nboot 1\n", 22),
         (b"cpus 2\nactor a\nup 1", 19),
         (b"cpus 65\nactor a\n", 16),
         (&long, 1_048_577),

@@ -1,22 +1,34 @@
 //! The words of a line, as slices of the bytes: a reader answers a value and the bytes behind it.
 //!
-//! No reader takes memory, and each looks at a byte no more than twice.
+//! No reader takes memory, and each looks at a byte a few times at most.
 
 ghost use Rattle.std.specs.Prelude.{◌≡◌, ◌≤◌, length};
 ghost use Rattle.std.specs.List.{list_all};
 ghost use Rattle.std.specs.Option.{option_map};
-ghost use Rattle.hp_play.specs.Form.{is_name_byte, is_dash, named};
-ghost use Rattle.hp_play.specs.Reading.{behind, word_to, read_on, number_of, is_name, number_to, name_to};
+ghost use Rattle.hp_play.specs.Form.{is_name_byte};
+ghost use Rattle.hp_play.specs.Reading.{behind, dir_at, word_to, read_on, number_of, is_name, is_byte, named, is_within, any_of, number_to, number_within, any_within, name_to};
 ghost use Rattle.hp_play.specs.declared.limits.TheConstants.{MAX_DIGITS};
 
 use crate::limits::MAX_DIGITS;
-use hp_states::MAX_NAME_LEN;
+use hp_states::{Dir, MAX_NAME_LEN};
 
 /// The bytes behind this front, where they begin so.
 pub fn behind<'a>(front: &[u8], bytes: &'a [u8]) -> Option<&'a [u8]>
     ensures { option_map (λ rest. rest.now) result ≡ behind front.now bytes.now }
 {
     bytes.strip_prefix(front)
+}
+
+/// The word `up` or `down` and a space: the direction, and the bytes behind them.
+#[tactic(auto, unfolding(crate::specs::Reading::dir_at))]
+pub fn dir_at(bytes: &[u8]) -> Option<(Dir, &[u8])>
+    ensures { option_map (λ x. (x.0, x.1.now)) result ≡ dir_at bytes.now }
+{
+    if let Some(rest) = behind(b"up ", bytes) {
+        return Some((Dir::Up, rest));
+    }
+    let rest = behind(b"down ", bytes)?;
+    Some((Dir::Down, rest))
 }
 
 /// The word before the first byte `end`, and the bytes behind that byte, where there is one.
@@ -88,6 +100,57 @@ pub fn number_to(end: u8, bytes: &[u8]) -> Option<(u32, &[u8])>
     Some((number, rest))
 }
 
+fn is_within(low: u32, high: u32, number: u32) -> bool
+    ensures { result ≡ is_within low high number }
+{
+    low <= number && number <= high
+}
+
+/// The same, where the number is in this range.
+#[tactic(auto, unfolding(crate::specs::Reading::number_within))]
+pub fn number_within(end: u8, low: u32, high: u32, bytes: &[u8]) -> Option<(u32, &[u8])>
+    ensures { option_map (λ x. (x.0, x.1.now)) result ≡ number_within end low high bytes.now }
+{
+    let (number, rest) = number_to(end, bytes)?;
+    if is_within(low, high, number) {
+        Some((number, rest))
+    } else {
+        None
+    }
+}
+
+fn is_star(word: &[u8]) -> bool
+    ensures { result ≡ is_byte 42 word.now }
+{
+    matches!(word, [b'*'])
+}
+
+/// The number in this range that a word says, or none for `*`.
+fn any_of(low: u32, high: u32, word: &[u8]) -> Option<Option<u32>>
+    ensures { result ≡ any_of low high word.now }
+{
+    if is_star(word) {
+        return Some(None);
+    }
+    let number = number_of(word)?;
+    if is_within(low, high, number) {
+        Some(Some(number))
+    } else {
+        None
+    }
+}
+
+/// The number in this range before the first byte `end`, or none for `*`, and the bytes behind that
+/// byte.
+#[tactic(auto, unfolding(crate::specs::Reading::any_within))]
+pub fn any_within(end: u8, low: u32, high: u32, bytes: &[u8]) -> Option<(Option<u32>, &[u8])>
+    ensures { option_map (λ x. (x.0, x.1.now)) result ≡ any_within end low high bytes.now }
+{
+    let (word, rest) = word_to(end, bytes)?;
+    let number = any_of(low, high, word)?;
+    Some((number, rest))
+}
+
 /// The word for a name before the first byte `end`, and the bytes behind that byte.
 #[tactic(auto, unfolding(crate::specs::Reading::name_to))]
 pub fn name_to(end: u8, bytes: &[u8]) -> Option<(&[u8], &[u8])>
@@ -102,7 +165,7 @@ pub fn name_to(end: u8, bytes: &[u8]) -> Option<(&[u8], &[u8])>
 }
 
 fn is_dash(word: &[u8]) -> bool
-    ensures { result ≡ is_dash word.now }
+    ensures { result ≡ is_byte 45 word.now }
 {
     matches!(word, [b'-'])
 }

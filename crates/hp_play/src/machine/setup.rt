@@ -12,13 +12,15 @@ ghost use Rattle.hp_table.specs.Step.{bare};
 ghost use Rattle.hp_table.specs.Named.{is_named};
 ghost use Rattle.hp_table.specs.Slots.{first_slot};
 ghost use Rattle.hp_play.specs.Machine.{fresh};
-ghost use Rattle.hp_play.specs.Parts.{Ready, Tied, Advances, Enters, Gives, Resolves, hooks_of};
+ghost use Rattle.hp_play.specs.Parts.{Ready, Tied, Advances, Enters, Gives, IsEarly, Resolves, hooks_of};
 
 use super::{Machine, OPERATION_ROOM};
 use crate::due::Due;
-use hp_event::{Answer, Event, Op, Sub};
+use hp_event::{Answer, Event, Key, Op, Sub};
 use hp_hook::Hook;
-use hp_states::{EBUSY, EINVAL, ENOSPC, MAX_CPUS, OFFLINE, ONLINE, ONLINE_DYN, PREPARE_DYN, Range};
+use hp_states::{
+    Dir, EBUSY, EINVAL, ENOSPC, MAX_CPUS, OFFLINE, ONLINE, ONLINE_DYN, PREPARE_DYN, Place, Range,
+};
 use hp_table::Record;
 
 impl<H: Hook> Machine<H> {
@@ -94,6 +96,7 @@ impl<H: Hook> Machine<H> {
         requires promised { OPERATION_ROOM ≤ self.old.journal.promised }
         requires op { (op ≡ AnOp.Setup asked sub plain) × IsSetup (length self.old.journal.head.subs) op }
         requires hook { IsSome hook.old }
+        requires early { IsEarly self.old }
         ensures turns { Advances op result self.old self.new }
         ensures gives { Gives op self.old self.new hook.old hook.new }
     {
@@ -121,6 +124,7 @@ impl<H: Hook> Machine<H> {
         requires op { op ≡ AnOp.Setup asked sub plain }
         requires sub { (1 ≤ sub) × (sub ≤ length self.old.journal.head.subs) }
         requires resolves { Resolves self.old asked sub state }
+        requires early { IsEarly self.old }
         ensures turns { Advances op false self.old self.new }
         ensures hooks { hooks_of self.new ≡ hooks_of self.old + 1 }
     {
@@ -143,7 +147,8 @@ impl<H: Hook> Machine<H> {
         ensures hooks { hooks_of self.new ≡ hooks_of self.old }
     {
         let seat = self.seat_at(cpu, state);
-        self.call(seat, cpu, state);
+        let key = Key { state, inst: 0 };
+        let _how = self.call(seat, cpu, key, Dir::Up, Place::Add);
         self.due = match self.next_cpu(state, cpu + 1) {
             Some(next) => Due::Adding {
                 state,

@@ -1,15 +1,10 @@
 -- The entry of the registration stands, and leaves the machine tied to its journal.
-use Rattle.std.proofs.Common.{◌≡◌, ◌<◌, false, ◌++◌, ◌∷◌, [], length, refl, inr, arith}
+use Rattle.std.proofs.Common.{◌≡◌, refl, inr, arith}
 use Rattle.hp_states.specs.declared.section.Dir.TheVariants.{Up}
-use Rattle.hp_event.specs.declared.event.How.TheVariants.{RanOk}
-use Rattle.hp_event.specs.declared.event.Event.TheVariants.{Call}
-use Rattle.hp_play.proofs.Placed.{taken_at}
-use Rattle.hp_play.proofs.RegistrationEntries.{adding_called, adding_called_last, call_stands}
-use Rattle.hp_event.specs.declared.event.Op.{Op}
-use Rattle.hp_play.specs.Machine.{seat_at}
-use Rattle.hp_play.specs.Plays.{Plays}
-use Rattle.hp_play.proofs.ReadyMore.{ready_set, some_set, one_taken}
-use Rattle.hp_play.proofs.PlaysLaws.{plays_one, by_entry}
+use Rattle.hp_states.specs.Rules.{site_at}
+use Rattle.hp_play.proofs.RegistrationEntries.{add_how, added, call_stands, none_reached}
+use Rattle.hp_play.proofs.ReadyMore.{ready_set, some_set, one_taken, entered_made, entry_due}
+use Rattle.hp_play.proofs.PlaysLaws.{plays_entry}
 use Rattle.hp_play.proofs.machine.Machine.add.Goals as goal
 use Rattle.hp_play.proofs.machine.Machine.add.Goals.{in-Some, in-None}
 
@@ -17,56 +12,37 @@ pub returns-clause-enters : goal.returns-clause-enters
 returns-clause-enters g c =
     let journal = c.args.self.now.journal in
     let range = rw c.requires.due at c.requires.ready.in_range in
-    let there : c.args.cpu < journal.head.possible = omega (arith, range.0, c.requires.ready.cpus) in
-    let tied = rw c.requires.due at c.requires.tied in
-    let step = taken_at _ range.2 in
-    let counted = rw step.1 at (c.requires.ready.counted c.args.state) in
-    let below : c.args.state < length c.args.self.now.table = omega (arith, range.1, c.requires.ready.states) in
-    let left = rw c.requires.due at c.requires.ready.room in
-    let by : c.seat_at-seat.result ≡ seat_at journal.head.possible c.args.cpu c.args.state =
-    rw c.requires.ready.cpus at c.seat_at-seat.ensures in
-    let written = rw step.1 at c.call.ensures.called in
-    let goes : (op : Op) → Plays journal.head op false journal.events (journal.events ++ Call c.seat_at-seat.result c.args.cpu c.args.state 0 Up RanOk ∷ []) =
-    λ op.
-    plays_one _ _ _ _ _ _ op false (Call c.seat_at-seat.result c.args.cpu c.args.state 0 Up RanOk) tied
-    (inr (call_stands _ _ _ _ _ c.args.state c.args.cpu c.args.value tied there by)) (by_entry journal.head op c.seat_at-seat.result c.args.cpu c.args.state there by) refl refl
+    let e =
+    entry_due _ _ _ _ _ c.args.cpu c.args.state (site_at c.args.cpu 0 Up) _ c.requires.ready range.0 range.1 range.2
+    c.seat_at-seat.ensures c.call-how.ensures.entered
     in
+    let tied = rw c.requires.due at c.requires.tied in
+    let how : c.call-how.result ≡ add_how c.args.cpu c.args.state e.step = rw e.step_is at c.call-how.ensures.how in
+    let left = rw c.requires.due at c.requires.ready.room in
+    let event = rw how at c.call-how.ensures.event in
     elim c.match-next_cpu.branch [
       | in-Some w ↦
-          let found = rw c.call.ensures.same.0 at w.in-Some.ensures.found in
-          let first = rw c.call.ensures.same.0 at w.in-Some.ensures.first in
-          let after : c.args.cpu < w.in-Some.next = omega (arith, found.0) in
-          let next_there : w.in-Some.next < journal.head.possible = omega (arith, found.1, c.requires.ready.cpus) in
-          rw (w.self-is, c.call.ensures.event, c.call.ensures.same.0)
-          (record {
-            ready =
-                ready_set _ _ _ _ _ _ c.args.state _ _ c.requires.ready written below (omega (arith, counted))
-                (found.1, range.1, some_set _ _ c.args.state _ written below, range.3) (omega (arith, left, after, found.1));
-            tied =
-                adding_called _ _ _ _ _ _ c.args.state c.args.cpu c.args.value w.in-Some.next step.0 tied
-                c.requires.ready.states there range.1 by step.1 written after next_there found.2
-                (λ d above to. first d (omega (arith, above)) to);
-            keeps = (refl, refl, one_taken journal _ (omega (arith, left)));
-            goes = goes;
-            of = λ op of. rw c.requires.due at of;
-            flight = refl;
-            less = rw c.requires.due (omega (arith, after, found.1));
-          })
+          let found = rw c.call-how.ensures.same.0 at w.in-Some.ensures.found in
+          let none =
+          none_reached _ _ _ _ c.args.state c.args.cpu c.args.value w.in-Some.next tied (omega (arith, found.0))
+          (omega (arith, found.1, c.requires.ready.cpus))
+          in
+          absurd (omega (arith, found.2, none))
       | in-None w ↦
-          let none = rw c.call.ensures.same.0 at w.in-None.ensures.none in
-          rw (w.self-is, c.call.ensures.event, c.call.ensures.same.0)
+          rw (w.self-is, event, c.call-how.ensures.same.0)
           (record {
             ready =
-                ready_set _ _ _ _ _ _ c.args.state _ _ c.requires.ready written below (omega (arith, counted))
-                (range.1, some_set _ _ c.args.state _ written below, range.3) (omega (arith, left, range.0));
-            tied =
-                adding_called_last _ _ _ _ _ _ c.args.state c.args.cpu c.args.value step.0 tied c.requires.ready.states there
-                range.1 by step.1 written
-                (λ d above to. none d (omega (arith, above)) (omega (arith, to, c.requires.ready.cpus)));
+                ready_set _ _ _ _ _ _ c.args.state _ _ c.requires.ready e.written_is e.below
+                (let made = entered_made (site_at c.args.cpu 0 Up) e.step in omega (arith, made, e.counted))
+                (range.1, some_set _ _ c.args.state _ e.written_is e.below, range.3) (omega (arith, left, range.0));
+            tied = added _ _ _ _ _ _ c.args.state c.args.cpu c.args.value e.step tied e.there e.below e.by e.step_is e.written_is;
             keeps = (refl, refl, one_taken journal _ (omega (arith, left)));
-            goes = goes;
+            goes =
+                plays_entry _ _ _ _ _ _ _ c.args.cpu c.args.state 0 Up _ tied e.there e.by
+                (inr (call_stands _ _ _ _ _ c.args.state c.args.cpu c.args.value e.step tied e.there e.by e.step_is)) refl;
             of = λ op of. rw c.requires.due at of;
             flight = refl;
+            stays = refl;
             less = rw c.requires.due (omega (arith, range.0));
           })
     ]

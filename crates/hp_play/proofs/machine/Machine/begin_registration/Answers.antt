@@ -33,6 +33,8 @@ returns-clause-turns g c =
       found = sub_found journal.head c.args.sub tied.plain c.requires.sub.0 c.requires.sub.1;
       some_sub = c.requires.sub.0;
       few_subs = c.requires.sub.1;
+      alone = λ d above to.
+          rw (c.requires.tied.settled_is d to ∙ c.requires.early d above (omega (arith, to, c.requires.ready.cpus))) (omega (arith, r.above));
     } in
     let below : c.args.state < length c.args.self.now.table = omega (arith, r.below, c.requires.ready.states) in
     let high : c.args.state ≤ ONLINE = omega (arith, r.below) in
@@ -63,6 +65,7 @@ returns-clause-turns g c =
             of = refl;
             free = λ (no : false ≡ true). absurd (false≢true no);
             flight = λ _. refl;
+            stays = λ _. refl;
             less = λ _. rw c.requires.free (omega (arith, c.requires.ready.few_cpus));
           })
       | in-None w ↦
@@ -80,6 +83,7 @@ returns-clause-turns g c =
             of = refl;
             free = λ (no : false ≡ true). absurd (false≢true no);
             flight = λ _. refl;
+            stays = λ _. refl;
             less = λ _. rw c.requires.free (omega arith);
           })
     ]

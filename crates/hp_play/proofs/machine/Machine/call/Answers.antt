@@ -4,4 +4,5 @@ use Rattle.hp_play.proofs.HookCount.{hooks_called}
 use Rattle.hp_play.proofs.machine.Machine.call.Goals as goal
 
 pub returns-clause-hooks : goal.returns-clause-hooks
-returns-clause-hooks g c = rw c.call-code.ensures.called (hooks_called _ c.args.state _ _ (taken_at _ c.requires.registered).1)
+returns-clause-hooks g c =
+    rw c.how-how.ensures.entered (hooks_called _ c.args.key.state _ _ (taken_at _ c.requires.registered).1)

@@ -26,5 +26,6 @@ returns-clause-turns g c =
       of = grind (arith, common_steps);
       free = grind (arith, common_steps);
       flight = grind (arith, common_steps);
+      stays = λ _. refl;
       less = grind (arith, common_steps);
     }

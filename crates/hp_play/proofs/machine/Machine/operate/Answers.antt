@@ -18,6 +18,7 @@ loop-answered-preserved g c =
       head = after.keeps.0 ∙ before.head;
       total = after.keeps.2 ∙ before.total;
       goes = plays_more _ _ _ _ _ _ (rw waits at before.goes) (rw before.head at after.goes);
+      stays = λ setup. after.stays setup ∙ before.stays setup;
       left = before.left;
       hooks = c.round-answered.ensures.hooks ∙ before.hooks;
     }
