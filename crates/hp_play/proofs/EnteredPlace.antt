@@ -12,9 +12,16 @@ use Rattle.hp_event.specs.declared.head.Head.{Head}
 use Rattle.hp_model.specs.Calls.{sites, is_called}
 use Rattle.hp_table.specs.Step.{Step, step_at, changed_at, called_step}
 use Rattle.hp_table.proofs.Places.{set_same}
+use Rattle.hp_table.specs.Keys.{keys_of}
 use Rattle.hp_walk.specs.Keys.{keys_by, insts_of}
-use Rattle.hp_play.specs.Machine.{has_callback_by, how_by, entered_step}
-use Rattle.hp_play.specs.Tied.{IsKept, registered_by}
+use Rattle.hp_play.specs.Machine.{has_callback_by, how_by, entered_step, key_total}
+use Rattle.hp_play.proofs.KeyTotals.{total_same}
+use Rattle.hp_event.specs.declared.event.Op.{Op}
+use Rattle.hp_event.specs.declared.event.Op.TheVariants.{Setup, Remove, Add, Del}
+use Rattle.hp_model.specs.Registered.{Registered, without_inst}
+use Rattle.hp_reg.specs.Concerned.{key_in}
+use Rattle.hp_reg.proofs.Callers.{IsKnown}
+use Rattle.hp_play.specs.Tied.{IsKept, Holds, registered_by, told}
 use Rattle.hp_play.proofs.EntryHow.{called_by}
 use Rattle.hp_play.proofs.TieFolds.{sites_push}
 use Rattle.hp_play.proofs.TieLists.{step_at-set}
@@ -54,7 +61,7 @@ entered_insts site step = go (has_callback_by step.kept site.dir)
     go false = refl
 
 -- what a place says stays so where the entered step says the same
-says_same : {A : Type 0} (f : Option Step → A) (places : List (Option Step)) (s t : ℕ) (step new : Step) → s < length places →
+pub says_same : {A : Type 0} (f : Option Step → A) (places : List (Option Step)) (s t : ℕ) (step new : Step) → s < length places →
     step_at places s ≡ Some step → f (Some new) ≡ f (Some step) →
     f (step_at (slice_set places s (Some new)) t) ≡ f (step_at places t)
 says_same f places s t step new inside some same =
@@ -75,6 +82,60 @@ pub keys_entered : (places : List (Option Step)) (s t : ℕ) (step : Step) (site
     keys_by (slice_set places s (Some (entered_step site step))) t ≡ keys_by places t
 keys_entered places s t step site inside some =
     says_same insts_of places s t step (entered_step site step) inside some (entered_insts site step)
+
+pub entered_multi : (site : Site) (step : Step) → (entered_step site step).kept.multi ≡ step.kept.multi
+entered_multi site step = go (has_callback_by step.kept site.dir)
+  where
+    go : (has : Bool) → (cond has (called_step site step) step).kept.multi ≡ step.kept.multi
+    go true = refl
+    go false = refl
+
+entered_list : (site : Site) (step : Step) → (entered_step site step).insts ≡ step.insts
+entered_list site step = go (has_callback_by step.kept site.dir)
+  where
+    go : (has : Bool) → (cond has (called_step site step) step).insts ≡ step.insts
+    go true = refl
+    go false = refl
+
+-- what the state of a registration has stays
+pub entered_holds : (op : Op) (site : Site) (step : Step) → Holds op step → Holds op (entered_step site step)
+entered_holds (Setup asked sub form) site step h = (entered_sub site step ∙ h.0, entered_list site step ∙ h.1)
+entered_holds (Remove state form) site step h = entered_list site step ∙ h
+entered_holds (Add state inst form) site step h = (entered_multi site step ∙ h.0, rw (entered_list site step) h.1)
+entered_holds (Del state inst form) site step h = (entered_multi site step ∙ h.0, rw (entered_list site step) h.1)
+entered_holds op site step h = tt
+
+pub told_entered : (op : Op) (places : List (Option Step)) (s t : ℕ) (step : Step) (site : Site) → s < length places →
+    step_at places s ≡ Some step →
+    told op (step_at (slice_set places s (Some (entered_step site step))) t) ≡ told op (step_at places t)
+told_entered (Setup asked sub form) places s t step site inside some = refl
+told_entered (Add state inst form) places s t step site inside some =
+    ap (without_inst inst) (registered_entered places s t step site inside some)
+told_entered op places s t step site inside some = registered_entered places s t step site inside some
+
+-- the key is known by whether the state has instances
+pub entered_known : (head : Head) (op : Op) (found : Option Registered) (old new : Step) → new.kept.multi ≡ old.kept.multi →
+    IsKnown head op found (Some old) → IsKnown head op found (Some new)
+entered_known head (Setup state sub form) found old new same h = rw same h
+entered_known head (Remove state form) found old new same h = rw same h
+entered_known head op found old new same h = tt
+
+pub entered_key : (op : Op) (site : Site) (step : Step) → key_in op (Some (entered_step site step)) ≡ key_in op (Some step)
+entered_key (Setup asked sub form) site step = rw (entered_multi site step) refl
+entered_key (Remove state form) site step = rw (entered_multi site step) refl
+entered_key op site step = refl
+
+-- and so do the keys of the table
+entered_keys : (site : Site) (step : Step) → keys_of (Some (entered_step site step)) ≡ keys_of (Some step)
+entered_keys site step = go (has_callback_by step.kept site.dir)
+  where
+    go : (has : Bool) → keys_of (Some (cond has (called_step site step) step)) ≡ keys_of (Some step)
+    go true = refl
+    go false = refl
+
+pub total_entered : (places : List (Option Step)) (s : ℕ) (step : Step) (site : Site) → step_at places s ≡ Some step →
+    key_total (slice_set places s (Some (entered_step site step))) ≡ key_total places
+total_entered places s step site some = total_same places s step (entered_step site step) some (entered_keys site step)
 
 abbrev HasSub : ℕ → Step → Type 0
 HasSub n k = (1 ≤ k.kept.sub) × (k.kept.sub ≤ n)
@@ -107,6 +168,7 @@ more_kept head es seat c s i d how step true called self k =
       sub_is = k.sub_is;
       up_is = k.up_is;
       down_is = k.down_is;
+      multi_is = k.multi_is;
       plan_is = k.plan_is;
       made = rw (more, length-append (sites s es) (site_at c i d ∷ [])) (ap (λ n. n + 1) k.made);
       seen =
@@ -114,8 +176,6 @@ more_kept head es seat c s i d how step true called self k =
           (ap (λ p. raised p step.kept.seen (site_at c i d)) k.plan_is
           ∙ ap (λ ns. raised k.sub.plan ns (site_at c i d)) k.seen
           ∙ raised_counts k.sub.plan (sites s es) (site_at c i d));
-      single = k.single;
-      bare = k.bare;
     }
 more_kept head es seat c s i d how step false called self k =
     let e : Event = Call seat c s i d how in

@@ -1,35 +1,28 @@
 -- How an entry is made: what the state's hook answers is what the subsystem's plan does after the calls of the journal.
-use Rattle.std.proofs.Common.{◌≡◌, ℕ, ◌≤◌, zero, suc, Bool, true, false, ◌&&◌, ◌||◌, cond, eqb, Some, None, List, [], ◌∷◌, refl, sym, ◌∙◌, arith}
-use Rattle.std.specs.List.{AllByRecursion}
-use Rattle.std.proofs.lemmas.List.Elements.{recursion_from_All}
-use Rattle.std.proofs.lemmas.Bool.Decides.{nat_tests}
-use Rattle.hp_states.specs.declared.plan.Rule.{Rule}
+use Rattle.std.proofs.Common.{◌≡◌, ℕ, zero, suc, Bool, true, false, ◌&&◌, ◌||◌, cond, Some, None, List, refl, sym}
 use Rattle.hp_states.specs.declared.section.Dir.{Dir}
 use Rattle.hp_states.specs.declared.section.Dir.TheVariants.{Up, Down}
 use Rattle.hp_states.specs.declared.section.Place.{Place}
 use Rattle.hp_states.specs.Sections.{can_fail}
-use Rattle.hp_states.specs.Rules.{Site, site_at, same_dir, answer_of}
+use Rattle.hp_states.specs.Rules.{Site, site_at, answer_of}
 use Rattle.hp_states.proofs.RuleCounts.{answer_of_raised}
 use Rattle.hp_event.specs.declared.event.How.{How}
 use Rattle.hp_event.specs.declared.event.How.TheVariants.{Injected, Empty}
 use Rattle.hp_event.specs.declared.event.Op.{Op}
-use Rattle.hp_event.specs.declared.event.Op.TheVariants.{Setup}
 use Rattle.hp_event.specs.declared.head.Head.{Head}
 use Rattle.hp_event.specs.declared.event.Event.{Event}
 use Rattle.hp_model.specs.Armed.{armed}
 use Rattle.hp_model.specs.Calls.{sites, sub_at, is_called}
 use Rattle.hp_model.specs.Caller.{is_presumed}
 use Rattle.hp_model.specs.Entries.{is_done}
-use Rattle.hp_model.specs.How.{how_answered, how_in_walk, how_in_registration, takes_fault, fits}
+use Rattle.hp_model.specs.How.{how_answered, how_in_walk, how_in_registration, is_nocalls, takes_fault, fits}
 use Rattle.hp_model.specs.Registered.{registered}
 use Rattle.hp_model.specs.Registrations.{registration}
 use Rattle.hp_model.specs.Subsystems.{has_callback}
 use Rattle.hp_table.specs.Kept.{Kept, answer_at}
 use Rattle.hp_table.specs.Step.{Step}
-use Rattle.hp_play.specs.Form.{plain}
 use Rattle.hp_play.specs.Machine.{has_callback_by, how_by}
 use Rattle.hp_play.specs.Tied.{IsKept, registered_by}
-use Rattle.hp_play.specs.Form.{IsOfOther, IsPlainSub}
 
 -- what a hook's answer makes is a call
 called_answered : (may_fail : Bool) (code : ℕ) → is_called (how_answered may_fail code) ≡ true
@@ -120,32 +113,8 @@ walk_how head es c s i d place first step idle is disarmed k =
     )
     refl
 
-pub setup_how : (head : Head) (es : List Event) (op : Op) (asked c s i : ℕ) (d : Dir) (place : Place) (step : Step) →
-    op ≡ Setup asked step.kept.sub plain → (k : IsKept head es s step) → sub_at head s es ≡ Some k.sub →
+pub reg_how : (head : Head) (es : List Event) (op : Op) (c s i : ℕ) (d : Dir) (place : Place) (step : Step) →
+    is_nocalls op ≡ false → (k : IsKept head es s step) → sub_at head s es ≡ Some k.sub →
     how_by step.kept (site_at c i d) (can_fail d s place) ≡ how_in_registration head es op c s i d place
-setup_how head es op asked c s i d place step is k found =
-    rw (is, found, callback_is head es s step k d, answer_is head es s step k (site_at c i d)) refl
-
--- no rule of a plain subsystem speaks of the first processor
-not_zero : (c : ℕ) → 1 ≤ c → eqb c 0 ≡ false
-not_zero c h = grind (arith, nat_tests)
-
-spared : (plan : List Rule) → AllByRecursion IsOfOther plan → (earlier : List Site) (i : ℕ) (d : Dir) →
-    answer_of plan earlier (site_at 0 i d) ≡ 0
-spared [] all earlier i d = refl
-spared (rule ∷ rules) all earlier i d =
-    rw (all.0.1, not_zero all.0.0 all.0.2, and_false (same_dir rule.dir d)) (spared rules all.1 earlier i d)
-
--- so there its startup is done
-pub done_first : (head : Head) (es : List Event) (s i : ℕ) (d : Dir) (may_fail : Bool) (step : Step) (k : IsKept head es s step) →
-    IsPlainSub k.sub → is_done (how_by step.kept (site_at 0 i d) may_fail) ≡ true
-done_first head es s i d may_fail step k plain_sub = go (has_callback_by step.kept d)
-  where
-    none : answer_at step.kept (site_at 0 i d) ≡ 0
-    none =
-        answer_is head es s step k (site_at 0 i d)
-        ∙ spared k.sub.plan (recursion_from_All IsOfOther k.sub.plan plain_sub.spares_first) (sites s es) i d
-
-    go : (has : Bool) → is_done (cond has (how_answered may_fail (answer_at step.kept (site_at 0 i d))) Empty) ≡ true
-    go true = rw none refl
-    go false = refl
+reg_how head es op c s i d place step calls k found =
+    rw (calls, found, callback_is head es s step k d, answer_is head es s step k (site_at c i d)) refl

@@ -1,4 +1,4 @@
--- The head of a script of the form is one that a machine can be started with, and its subsystems are plain.
+-- The head of a script of the form is one that a machine can be started with, with all its processors present.
 use Rattle.std.proofs.Common.{ℕ, refl, arith}
 use Rattle.std.proofs.lemmas.Bool.{lt-ltb}
 use Rattle.hp_model.specs.Heads.{IsHead}
@@ -13,8 +13,8 @@ head_is hooks l form = record {
   absent_possible = λ k d inside. absurd (omega (arith, inside));
   first_present = rw (lt-ltb 0 l.cpus (omega (arith, form.some_cpus))) refl;
   few_subs = form.few_subs;
-  subs_are = λ k d inside. (form.subs_are k d inside).is_sub;
+  subs_are = form.subs_are;
 }
 
 pub plain_head : (hooks : ℕ) (l : Lines) → IsForm hooks l → IsPlainHead (head_of l)
-plain_head hooks l form = record { all_present = refl; subs = λ k d inside. (form.subs_are k d inside).is_plain }
+plain_head hooks l form = record { all_present = refl }

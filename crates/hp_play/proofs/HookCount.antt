@@ -27,6 +27,15 @@ hooks_more (Some p ∷ ps) zero new below vacant = absurd (cc vacant)
 hooks_more (None ∷ ps) (suc s) new below vacant = hooks_more ps s new (omega arith) vacant
 hooks_more (Some p ∷ ps) (suc s) new below vacant = let more = hooks_more ps s new (omega arith) vacant in omega (arith, more)
 
+-- a place that is emptied is one less
+pub hooks_less : (places : List (Option Step)) (s : ℕ) (old : Step) → step_at places s ≡ Some old →
+    length (made_of (slice_set places s None)) + 1 ≡ length (made_of places)
+hooks_less [] s old there = absurd (cc there)
+hooks_less (None ∷ ps) zero old there = absurd (cc there)
+hooks_less (Some p ∷ ps) zero old there = omega arith
+hooks_less (None ∷ ps) (suc s) old there = hooks_less ps s old there
+hooks_less (Some p ∷ ps) (suc s) old there = let less = hooks_less ps s old there in omega (arith, less)
+
 none_at : (n s : ℕ) → step_at (replicate n None) s ≡ None
 none_at zero s = refl
 none_at (suc n) zero = refl

@@ -1,15 +1,13 @@
 -- An operation that leads a processor to a state: what it begins and does next.
 use Rattle.std.proofs.Common.{◌≡◌, ℕ, true, ◌≤◌, List, refl, arith}
-use Rattle.std.proofs.lemmas.Bool.{false≢true}
 use Rattle.hp_states.specs.declared.limits.TheConstants.{ONLINE}
 use Rattle.hp_event.specs.declared.event.Op.{Op}
-use Rattle.hp_event.specs.declared.event.Op.TheVariants.{Up, Down, Setup}
+use Rattle.hp_event.specs.declared.event.Op.TheVariants.{Up, Down}
 use Rattle.hp_event.specs.declared.head.Head.{Head}
 use Rattle.hp_event.specs.declared.event.Event.{Event}
 use Rattle.hp_model.specs.MapLock.{is_map_op}
 use Rattle.hp_model.specs.Sequence.{single_next, next, answers}
 use Rattle.hp_model.specs.Settled.{settled}
-use Rattle.hp_play.specs.Machine.{is_setup}
 use Rattle.hp_play.specs.Tied.{Leads}
 
 pub leads_map : (op : Op) (c to : ℕ) → Leads op c to → is_map_op op ≡ true
@@ -27,8 +25,3 @@ pub leads_most : (op : Op) (c to : ℕ) → Leads op c to → to ≤ ONLINE
 leads_most (Up k) c to h = omega (arith, h.1)
 leads_most (Down k) c to h = omega (arith, h.1)
 leads_most op c to h = elim h [ ]
-
--- an operation of the map lock is no setup
-pub no_setup : (op : Op) → is_map_op op ≡ true → is_setup op ≡ true → ⊥
-no_setup (Setup state sub form) h k = false≢true h
-no_setup op h k = false≢true k

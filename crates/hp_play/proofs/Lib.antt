@@ -4,7 +4,9 @@ pub mod NumberLaws
 pub mod FieldLaws
 pub mod RangeLaws
 pub mod LineLaws
+pub mod ChoiceLaws
 pub mod RuleLaws
+pub mod RegistrationLaws
 pub mod OpLaws
 pub mod RunLoops
 pub mod RunLaws
@@ -23,9 +25,6 @@ pub mod TieWalk
 pub mod TieCrossing
 pub mod PlaysLaws
 pub mod SetupRefusal
-pub mod RegistrationBegins
-pub mod RegistrationEntries
-pub mod RegistrationEnds
 pub mod Placed
 pub mod Seated
 pub mod PlayedRun
@@ -33,9 +32,16 @@ pub mod FormHeads
 pub mod RackLaws
 pub mod Turning
 pub mod HookCount
+mod Clearing
 pub mod ReadyMore
 mod EntryHow
 mod Leading
 mod CrossingDue
-mod FewKeys
+mod KeyTotals
 mod CountOnline
+pub mod RegistrationEntries
+pub mod RegistrationEnds
+pub mod RegistrationBegins
+mod Starting
+pub mod RegistrationAsks
+pub mod RegistrationRefusals

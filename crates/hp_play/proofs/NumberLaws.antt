@@ -1,15 +1,12 @@
 -- A number that is read is the number that was written, and what was written is read again.
-use Rattle.std.proofs.Common.{rules, ◌≡◌, ℕ, zero, suc, ◌+◌, ◌-◌, ◌*◌, ◌^◌, ◌<◌, ◌≤◌, Bool, true, false, not, ◌&&◌, eqb, leb, List, [], ◌∷◌, length, get_or, Some, None, refl, sym, ap, subst, ◌∙◌, arith}
+use Rattle.std.proofs.Common.{rules, ◌≡◌, ℕ, zero, suc, ◌+◌, ◌-◌, ◌*◌, ◌^◌, ◌<◌, ◌≤◌, Bool, true, false, not, ◌&&◌, eqb, leb, List, [], ◌∷◌, ◌++◌, length, get_or, Some, None, refl, sym, ap, subst, ◌∙◌, arith}
 use Rattle.std.specs.Fmt.{decimal}
 use Rattle.std.proofs.lemmas.Bool.{eq-eqb, ne_eqb, and_parts, and_left, and_right, leb-true, leb-false, le-leb, lt-leb, not-true, cond-true}
 use Rattle.std.proofs.lemmas.Fmt.{decimal-digits_value, digits_decimal, digits_value-decimal, length-decimal-le, first_decimal, decimal_nonempty}
 use Rattle.std.proofs.lemmas.Str.Parse.{IsNumeralModel, numerals_by_fold, digits_value_short}
 use Rattle.hp_play.specs.declared.limits.TheConstants.{MAX_DIGITS}
-use Rattle.hp_play.specs.Reading.{read_on, number_of}
+use Rattle.hp_play.specs.Reading.{is_digit, digits_of, read_on, number_of}
 use Rattle.hp_play.proofs.WordLaws.{passed, some_is, IsFree}
-
-abbrev is_digit : ℕ → Bool
-is_digit b = leb 48 b && leb b 57
 
 abbrev are_digits : List ℕ → Bool
 are_digits [] = true
@@ -92,3 +89,29 @@ digits_free end (b ∷ bs) low h =
 -- no digit ends a word
 pub number_free : (n end : ℕ) → n < 10 ^ 9 → end < 48 → IsFree end (decimal n)
 number_free n end lt low = digits_free end (decimal n) low (digits_decimal own n (omega arith))
+
+-- ---- the digits at the front
+
+first_digit : (b : ℕ) (bs : List ℕ) (t : Bool) → is_digit b ≡ t → bs ≡ (digits_of bs).0 ++ (digits_of bs).1 → b ∷ bs ≡ (digits_of (b ∷ bs)).0 ++ (digits_of (b ∷ bs)).1
+first_digit b bs true t more = rw t (ap (λ (w : List ℕ). b ∷ w) more)
+first_digit b bs false t more = rw t refl
+
+pub digits_take : (bytes : List ℕ) → bytes ≡ (digits_of bytes).0 ++ (digits_of bytes).1
+digits_take [] = refl
+digits_take (b ∷ bs) = first_digit b bs (is_digit b) refl (digits_take bs)
+
+-- no digit stands at the front
+abbrev pub NoDigit : List ℕ → Type 0
+NoDigit [] = Unit {0}
+NoDigit (b ∷ bs) = is_digit b ≡ false
+
+digits_again : (digits rest : List ℕ) → are_digits digits ≡ true → NoDigit rest → digits_of (digits ++ rest) ≡ (digits, rest)
+digits_again [] [] h end = refl
+digits_again [] (b ∷ bs) h end = rw end refl
+digits_again (d ∷ ds) rest h end =
+    let p = and_parts (is_digit d) (are_digits ds) h in
+    let more : digits_of (ds ++ rest) ≡ (ds, rest) = digits_again ds rest p.1 end in
+    rw (p.0, more) refl
+
+pub decimal_again : (n : ℕ) (rest : List ℕ) → n < 10 ^ 9 → NoDigit rest → digits_of (decimal n ++ rest) ≡ (decimal n, rest)
+decimal_again n rest lt end = digits_again (decimal n) rest (digits_decimal own n (omega arith)) end

@@ -1,9 +1,12 @@
 -- What is so of a taken place.
-use Rattle.std.proofs.Common.{◌≡◌, ℕ, ◌≤◌, Bool, true, false, not, cond, ◌||◌, Option, Some, None, IsSome, is_some, List, refl, sym, ap, arith}
-use Rattle.std.proofs.lemmas.Bool.{false≢true}
-use Rattle.hp_states.specs.declared.limits.TheConstants.{ONLINE}
+use Rattle.std.proofs.Common.{◌≡◌, ℕ, Bool, true, false, not, eqb, ◌||◌, Option, Some, None, IsSome, is_some, List, [], length, Bor, refl, sym, ap, ◌∙◌}
+use Rattle.std.specs.Option.{option_copied}
+use Rattle.std.proofs.lemmas.List.{nil_from_length}
+use Rattle.std.proofs.lemmas.Bool.{false≢true, eqb-true}
 use Rattle.hp_table.specs.Named.{is_named, is_builtin}
-use Rattle.hp_table.specs.Step.{Step, step_at}
+use Rattle.hp_table.specs.Kept.{Kept}
+use Rattle.hp_table.specs.Instances.{instances_at}
+use Rattle.hp_table.specs.Step.{Step, step_at, kept_of}
 use Rattle.hp_play.specs.declared.due.Due.{Due}
 use Rattle.hp_play.specs.declared.due.Due.TheVariants.{Operation}
 use Rattle.hp_play.specs.Machine.{is_in_flight}
@@ -12,6 +15,20 @@ use Rattle.hp_play.specs.Machine.{is_in_flight}
 pub taken_at : (place : Option Step) → IsSome place → (step : Step) × (place ≡ Some step)
 taken_at None some = absurd (false≢true some)
 taken_at (Some step) some = (step, refl)
+
+-- and where the table hands its record out
+pub taken_by : (record_there : Option (Bor Kept)) (place : Option Step) → option_copied record_there ≡ kept_of place →
+    is_some record_there ≡ true → (step : Step) × (place ≡ Some step)
+taken_by None place is some = absurd (false≢true some)
+taken_by (Some found) None is some = absurd (cc is)
+taken_by (Some found) (Some step) is some = (step, refl)
+
+-- a state whose instances are none
+pub insts_at : (places : List (Option Step)) (s : ℕ) (step : Step) (insts : List ℕ) → step_at places s ≡ Some step →
+    insts ≡ instances_at places s → eqb (length insts) 0 ≡ true → step.insts ≡ []
+insts_at places s step insts some is none =
+    let all : insts ≡ step.insts = is ∙ rw some refl in
+    nil_from_length step.insts (sym (ap length all) ∙ eqb-true _ _ none)
 
 -- an operation is in flight while it isn't answered
 pub flies : (due : Due) (answered : Bool) → (answered ≡ true → due ≡ Operation) → (answered ≡ false → is_in_flight due ≡ true) →
@@ -30,8 +47,3 @@ vacant_at places s unnamed = go (step_at places s) (or_false (is_builtin s) (is_
     go : (place : Option Step) → is_some place ≡ false → place ≡ None
     go None h = refl
     go (Some step) h = absurd (false≢true (sym h))
-
--- the number that an Ok answers is a state
-pub value_fits : (dynamic : Bool) (state : ℕ) → state ≤ ONLINE → cond dynamic state 0 ≤ ONLINE
-value_fits true state high = high
-value_fits false state high = omega arith

@@ -1,7 +1,6 @@
 -- The hooks of the places are those of the registered states, and were called as often as the journal says.
-use Rattle.std.proofs.Common.{◌≡◌, ℕ, zero, suc, ◌+◌, ◌<◌, Bool, true, false, ◌&&◌, cond, is_some, Option, Some, None, IfSome, IfNone, IfOk, Result, Ok, Err, List, [], ◌∷◌, ◌++◌, map, take, length, length-append, append_assoc, refl, sym, ap, ◌∙◌, arith}
+use Rattle.std.proofs.Common.{◌≡◌, ℕ, zero, suc, ◌+◌, ◌<◌, cond, is_some, Option, Some, None, IfSome, IfNone, IfOk, Result, Ok, Err, List, [], ◌∷◌, ◌++◌, map, take, length, length-append, append_assoc, refl, sym, ap, ◌∙◌, arith}
 use Rattle.std.proofs.lemmas.List.{length-map}
-use Rattle.hp_play.specs.Parts.{left_of, one_if}
 use Rattle.std.specs.List.{flat_map}
 use Rattle.hp_states.specs.declared.limits.TheConstants.{ONLINE}
 use Rattle.hp_event.specs.declared.head.Head.{Head}
@@ -12,12 +11,10 @@ use Rattle.hp_table.specs.Step.{Step, step_at}
 use Rattle.hp_play.specs.declared.due.Due.TheVariants.{Operation as Idle}
 use Rattle.hp_play.specs.Tied.{IsTied, IsKept, registered_by}
 use Rattle.std.proofs.lemmas.List.{append-nil, map-append}
-use Rattle.hp_table.specs.Instances.{instances_at, instances_of}
-use Rattle.hp_play.specs.declared.due.Due.{Due}
 use Rattle.hp_play.specs.Racked.{calls_at, calls_below, made_at, made_of, listed, EndsWith}
 
 -- the numbers from one on
-from : (a n : ℕ) → List ℕ
+unfoldable pub from : (a n : ℕ) → List ℕ
 from a zero = []
 from a (suc n) = a ∷ from (suc a) n
 
@@ -28,7 +25,7 @@ from_more a (suc n) =
     let e : suc a + n ≡ a + suc n = omega arith in
     ap (λ xs. a ∷ xs) (from_more (suc a) n ∙ ap (λ (k : ℕ). from (suc a) n ++ k ∷ []) e)
 
-numbers_from : (n : ℕ) → numbers n ≡ from 0 n
+pub numbers_from : (n : ℕ) → numbers n ≡ from 0 n
 unfolding from
 numbers_from zero = refl
 numbers_from (suc n) =
@@ -75,23 +72,10 @@ pub length_with : {H : Type 0} (hook : Option H) (before after : List H) → IfS
 length_with None before after some none = ap length none ∙ (let e : length before ≡ length before + 0 = omega arith in e)
 length_with (Some h) before after some none = ap length some ∙ length-append before (h ∷ [])
 
--- An operation takes its hook from the rack; it is left to the spent ones, or the machine has one more.
-pub none_lost : {H : Type 0} (setup more : Bool) (hook left : Option H) (rack rack_now spent spent_now hooks hooks_now : ℕ) →
-    is_some hook ≡ setup → rack ≡ rack_now + cond (is_some hook) 1 0 → left ≡ left_of (setup && more) hook →
-    hooks_now ≡ hooks + one_if (setup && more) → spent_now ≡ spent + cond (is_some left) 1 0 →
-    rack_now + spent_now + hooks_now ≡ rack + spent + hooks
-none_lost true true hook left rack rack_now spent spent_now hooks hooks_now is taken gone more kept =
-    let one : rack ≡ rack_now + 1 = rw is at taken in
-    let same : spent_now ≡ spent + 0 = rw gone at kept in
-    omega (arith, one, same, more)
-none_lost true false hook left rack rack_now spent spent_now hooks hooks_now is taken gone more kept =
-    let one : rack ≡ rack_now + 1 = rw is at taken in
-    let back : spent_now ≡ spent + 1 = rw (gone, is) at kept in
-    omega (arith, one, back, more)
-none_lost false more hook left rack rack_now spent spent_now hooks hooks_now is taken gone same kept =
-    let none : rack ≡ rack_now + 0 = rw is at taken in
-    let none_back : spent_now ≡ spent + 0 = rw (gone, is) at kept in
-    omega (arith, none, none_back, same)
+-- An operation takes its hook from the rack; in the end it is with the machine, or among the spent ones.
+pub none_lost : (rack rack_now spent spent_now hooks hooks_now hook left : ℕ) → rack ≡ rack_now + hook →
+    hooks_now + left ≡ hooks + hook → spent_now ≡ spent + left → rack_now + spent_now + hooks_now ≡ rack + spent + hooks
+none_lost rack rack_now spent spent_now hooks hooks_now hook left taken kept put = omega (arith, taken, kept, put)
 
 -- the rack ends with as many hooks as the list of their counts
 pub as_many : {H E S : Type 0} (answer : Result S E) (made : H → ℕ) (before after : List H) (counts : List ℕ) (n : ℕ) →
@@ -126,12 +110,3 @@ rack_next made None first before after told more is some none has =
 rack_next made (Some h) first before after told more is some none has =
     ap (map made) some ∙ map-append made before (h ∷ []) ∙ ap (λ xs. xs ++ made h ∷ []) is
     ∙ append_assoc (map made first) told (made h ∷ []) ∙ ap (λ xs. map made first ++ (told ++ xs)) has
-
--- no state has instances
-pub bare_all : (head : Head) (events : List Event) (stands : List ℕ) (places : List (Option Step)) (due : Due) →
-    IsTied head events stands places due → (s : ℕ) → instances_at places s ≡ []
-bare_all head events stands places due t s = go (step_at places s) (t.kept s)
-  where
-    go : (place : Option Step) → IfSome place (IsKept head events s) → instances_of place ≡ []
-    go None h = refl
-    go (Some step) h = h.bare

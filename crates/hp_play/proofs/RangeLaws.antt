@@ -4,9 +4,9 @@ use Rattle.std.proofs.Common.{◌≡◌, ℕ, ◌+◌, ◌^◌, ◌<◌, ◌≤�
 use Rattle.std.specs.Prelude.{decimal, IfSome}
 use Rattle.std.proofs.lemmas.Bool.{eqb-true, and_parts, leb-true, le-leb}
 use Rattle.hp_model.specs.Words.{any_word}
-use Rattle.hp_play.specs.Reading.{◌>>=◌, word_to, number_of, is_byte, is_within, any_of, number_to, number_within, any_within}
+use Rattle.hp_play.specs.Reading.{◌>>=◌, word_to, number_of, is_byte, is_within, any_of, number_to, number_within, digits_of, number_at, any_within}
 use Rattle.hp_play.proofs.WordLaws.{bind_some, passed, some_is, IsFree, word_takes, word_again}
-use Rattle.hp_play.proofs.NumberLaws.{number_takes, number_again, number_free}
+use Rattle.hp_play.proofs.NumberLaws.{number_takes, number_again, number_free, NoDigit, digits_take, decimal_again}
 use Rattle.hp_play.proofs.FieldLaws.{number_to_takes, number_to_again}
 
 abbrev pub IsIn : (low high n : ℕ) → Type 0
@@ -39,6 +39,25 @@ number_within_again end low high n rest space small fits =
     let number : number_to end (decimal n ++ end ∷ rest) ≡ Some (n, rest) = number_to_again end n rest space (omega (arith, fits.1, small)) in
     let test : is_within low high n ≡ true = in_again low high n fits in
     rw (number, test) refl
+
+pub number_at_takes : (low high : ℕ) (bytes : List ℕ) (x : ℕ × List ℕ) → number_at low high bytes ≡ Some x → (bytes ≡ decimal x.0 ++ x.1) × IsIn low high x.0
+unfolding number_at
+number_at_takes low high bytes x e =
+    let rest = (digits_of bytes).1 in
+    let a = bind_some (number_of (digits_of bytes).0) (λ n. cond (is_within low high n) (Some (n, rest)) None) x e in
+    let b = passed (is_within low high a.0) (Some (a.0, rest)) x a.2 in
+    let n = number_takes (digits_of bytes).0 a.0 a.1 in
+    let parts : bytes ≡ decimal a.0 ++ rest = digits_take bytes ∙ ap (λ (w : List ℕ). w ++ rest) n.0 in
+    subst (λ (y : ℕ × List ℕ). (bytes ≡ decimal y.0 ++ y.1) × IsIn low high y.0) (some_is (a.0, rest) x b.1) (parts, is_in low high a.0 b.0)
+
+pub number_at_again : (low high n : ℕ) (rest : List ℕ) → high < 10 ^ 9 → IsIn low high n → NoDigit rest → number_at low high (decimal n ++ rest) ≡ Some (n, rest)
+unfolding number_at
+number_at_again low high n rest small fits end =
+    let lt : n < 10 ^ 9 = omega (arith, fits.1, small) in
+    let digits : digits_of (decimal n ++ rest) ≡ (decimal n, rest) = decimal_again n rest lt end in
+    let number : number_of (decimal n) ≡ Some n = number_again n lt in
+    let test : is_within low high n ≡ true = in_again low high n fits in
+    rw (digits, number, test) refl
 
 -- ---- numbers, or the star
 

@@ -1,226 +1,295 @@
--- A registration has one entry on each processor that it reaches, in their order: each stands, and is counted.
-use Rattle.std.proofs.Common.{◌≡◌, ℕ, zero, suc, ◌+◌, ◌<◌, Bool, true, false, eqb, Option, Some, None, List, [], ◌∷◌, ◌++◌, length, refl, ap, sym, ◌∙◌, inr, arith}
-use Rattle.std.specs.Prelude.{slice_index, slice_set}
-use Rattle.std.specs.List.{filter}
-use Rattle.std.proofs.lemmas.Bool.{eq-eqb, false≢true}
-use Rattle.hp_states.specs.declared.section.Dir.TheVariants.{Up}
-use Rattle.hp_states.specs.declared.section.Place.TheVariants as placed
+-- The entries of a registration: each stands, and what the machine's parts say stays so.
+use Rattle.std.proofs.Common.{◌≡◌, ℕ, ◌<◌, Bool, true, false, ◌&&◌, cond, eqb, Option, Some, List, [], ◌∷◌, ◌++◌, length, refl, sym, ap, subst, ◌∙◌, inr}
+use Rattle.std.specs.Prelude.{slice_set}
+use Rattle.std.proofs.lemmas.Bool.{eq-eqb}
+use Rattle.hp_states.specs.declared.section.Dir.{Dir}
+use Rattle.hp_states.specs.declared.section.Place.{Place}
+use Rattle.hp_states.specs.Sections.{can_fail, is_ap_state}
 use Rattle.hp_states.specs.Rules.{site_at}
-use Rattle.hp_states.specs.Sections.{can_fail}
 use Rattle.hp_event.specs.declared.event.How.{How}
-use Rattle.hp_model.specs.Entries.{is_done}
-use Rattle.hp_model.specs.Settled.{settled}
-use Rattle.hp_event.specs.declared.event.Op.TheVariants.{Setup}
+use Rattle.hp_event.specs.declared.event.How.TheVariants.{Presumed}
+use Rattle.hp_event.specs.declared.event.Key.{Key}
+use Rattle.hp_event.specs.declared.event.Op.{Op}
 use Rattle.hp_event.specs.declared.head.Head.{Head}
 use Rattle.hp_event.specs.declared.event.Event.{Event}
 use Rattle.hp_event.specs.declared.event.Event.TheVariants.{Call}
-use Rattle.hp_model.specs.Lists.{numbers}
-use Rattle.hp_model.specs.Registrations.{Registration, registration_entries}
+use Rattle.hp_model.specs.Caller.{caller}
 use Rattle.hp_model.specs.Calls.{sub_at}
-use Rattle.hp_model.specs.Subsystems.{is_multi}
-use Rattle.hp_model.specs.Registered.{registered}
+use Rattle.hp_model.specs.How.{fits, is_nocalls, how_in_registration}
 use Rattle.hp_model.specs.Processors.{processors}
-use Rattle.hp_model.specs.Crossing.{Slot, Fill}
-use Rattle.hp_model.specs.RegistrationShape.{key_of, is_adding, each, made, IsRegistrationShape}
-use Rattle.hp_model.specs.StandsCalls.{InRegistration}
+use Rattle.hp_model.specs.Registered.{registered}
+use Rattle.hp_model.specs.Registrations.{registration_entries}
+use Rattle.hp_model.specs.RegistrationShape.{key_of}
+use Rattle.hp_model.specs.Seats.{ap_seat}
+use Rattle.hp_model.specs.Calls.{sites}
+use Rattle.hp_model.specs.Subsystems.{sub_numbered}
+use Rattle.hp_model.specs.Lawful.{Stands}
 use Rattle.hp_model.proofs.Laws.{registration_push, registration_entries_push, registered_push, settled_push, operation_push, walking_push}
 use Rattle.hp_model.proofs.HeadlineProof.{lawful_more}
-use Rattle.hp_model.proofs.Readings.{Fill-append}
-use Rattle.hp_play.specs.declared.due.Due.{Due}
-use Rattle.hp_play.specs.declared.due.Due.TheVariants.{Adding, Added}
-use Rattle.hp_play.specs.Form.{plain}
+use Rattle.hp_reg.specs.Progress.{Progress}
+use Rattle.hp_reg.specs.Asked.{asked}
+use Rattle.hp_reg.specs.After.{IsAfter}
+use Rattle.hp_reg.specs.Concerned.{key_at, cpus_at, key_in}
+use Rattle.hp_reg.specs.declared.step.RegStep.TheVariants as regask
+use Rattle.hp_reg.proofs.Callers.{concerned_processors, key_known, in_registration}
+use Rattle.hp_reg.proofs.Steps.{goes_on_by}
 use Rattle.hp_table.specs.Step.{Step, step_at}
+use Rattle.hp_play.specs.declared.due.Due.TheVariants.{Registering}
 use Rattle.hp_play.specs.Machine.{seat_at, how_by, entered_step}
-use Rattle.hp_play.specs.Tied.{registered_so, is_at, IsRegistering, is_reached, IsAdding, IsDue, IsTied}
-use Rattle.hp_play.proofs.TieFolds.{quiet_more, seated_more}
+use Rattle.hp_play.specs.Tied.{IsTied, IsRegistering, Holds, told, registered_by, registered_so}
+use Rattle.hp_play.proofs.EntryHow.{fits_by, not_injected, not_presumed, reg_how}
+use Rattle.hp_play.proofs.EnteredPlace.{says_same, registered_entered, subs_entered, kept_entered, entered_sub, entered_multi, told_entered, entered_key, entered_known, entered_holds}
 use Rattle.hp_table.proofs.Places.{step_at-set_same}
-use Rattle.hp_play.proofs.TieLists.{at_each, filter_gap, filter_next, filter_split, each-append}
-use Rattle.hp_play.proofs.TieParts.{sub_found, single_sub, entry_caller, plain_kept}
-use Rattle.hp_play.proofs.EnteredPlace.{entered_sub, subs_entered, kept_entered}
-use Rattle.hp_play.proofs.EntryHow.{done_first, setup_how, not_presumed, not_injected}
 use Rattle.hp_play.proofs.TieCrossing.{kept_at}
-use Rattle.hp_play.proofs.RegistrationBegins.{reached_not}
+use Rattle.hp_play.proofs.TieFolds.{sites_push, quiet_more, seated_more}
+use Rattle.hp_play.proofs.TieParts.{entry_caller, tied_more}
 
--- the whole of a plain setup has an entry on each processor that is reached
-pub shape_of : (head : Head) (r : Registration) (asked state sub : ℕ) → r.op ≡ Setup asked sub plain → r.state ≡ state →
-    is_multi head sub ≡ false →
-    IsRegistrationShape (is_adding r.op) r.state (key_of head r) (processors head r.state r.before)
-    (each placed.Add Up state 0 (processors head state r.before)) made
-shape_of head r asked state sub op at single = rw (op, at, single) refl
+-- the key and the processors of the registration in flight are those that the machine's parts say
+pub key_is : (head : Head) (es : List Event) (places : List (Option Step)) (op : Op) (state : ℕ) (reg : Progress)
+    (r : IsRegistering head es places op state reg) → key_of head r.of ≡ key_at places reg
+key_is head es places op state reg r =
+    rw (r.op_is, r.state_is, r.progress.0, r.progress.1, r.place_is)
+    (key_known head op (registered head state r.of.before) (Some r.step) r.known)
 
--- of the processors, the first alone stands at the state or above it
-reached_first : (head : Head) (state cpu : ℕ) (es : List Event) → is_reached head state es cpu ≡ true →
-    ((c : ℕ) → 0 < c → c < head.possible → settled c es < state) → cpu < head.possible → cpu ≡ 0
-reached_first head state zero es reached alone below = refl
-reached_first head state (suc c) es reached alone below =
-    absurd (false≢true (sym (reached_not head state es (suc c) (alone (suc c) (omega arith) below)) ∙ reached))
+pub cpus_are : (head : Head) (es : List Event) (stands : List ℕ) (places : List (Option Step)) (op : Op) (state : ℕ) (reg : Progress)
+    (t : IsTied head es stands places (Registering op state reg)) → length stands ≡ head.possible →
+    processors head t.due_is.of.state t.due_is.of.before ≡ cpus_at stands head.absent reg
+cpus_are head es stands places op state reg t all =
+    let r = t.due_is in
+    rw (r.state_is, r.progress.1)
+    (concerned_processors head state r.of.before stands all (λ c below. r.still c ∙ t.settled_is c below))
+
+-- what it asks for, by the events
+pub asked_is : (head : Head) (es : List Event) (stands : List ℕ) (places : List (Option Step)) (op : Op) (state : ℕ) (reg : Progress)
+    (t : IsTied head es stands places (Registering op state reg)) → length stands ≡ head.possible →
+    asked (key_at places reg) (cpus_at stands head.absent reg) reg
+    ≡ asked (key_of head t.due_is.of) (processors head t.due_is.of.state t.due_is.of.before) reg
+asked_is head es stands places op state reg t all =
+    rw (key_is head es places op state reg t.due_is, cpus_are head es stands places op state reg t all) refl
+
+-- an entry that is asked for stands, made so
+pub entry_stands : (head : Head) (es : List Event) (stands : List ℕ) (places : List (Option Step)) (op : Op) (state : ℕ) (reg : Progress)
+    (seat cpu : ℕ) (key : Key) (d : Dir) (place : Place) (how : How) →
+    (t : IsTied head es stands places (Registering op state reg)) → length stands ≡ head.possible →
+    asked (key_at places reg) (cpus_at stands head.absent reg) reg ≡ regask.Call cpu key d place →
+    fits how d key.state place ≡ true →
+    how ≡ how_in_registration head es op cpu key.state key.inst d place →
+    caller es cpu key.state how t.due_is.of.seat ≡ Some seat → Stands head es (Call seat cpu key.state key.inst d how)
+entry_stands head es stands places op state reg seat cpu key d place how t all asks fit made by =
+    let r = t.due_is in
+    let next = sym asks ∙ asked_is head es stands places op state reg t all in
+    let n =
+    goes_on_by (key_of head r.of) (processors head r.of.state r.of.before) (registration_entries es) reg (regask.Call cpu key d place) next
+    r.after seat how fit
+    in
+    inr
+    (in_registration head es r.of reg seat cpu key.state key.inst d how place r.in_flight (r.progress.0 ∙ sym r.op_is)
+    (r.progress.1 ∙ sym r.state_is) n (rw r.op_is made) by)
 
 pub place_same : (place : Option Step) (a b : Step) → place ≡ Some a → place ≡ Some b → a ≡ b
 place_same place a b h k = cc
 
--- how the state's hook makes the entry
-abbrev pub add_how : (cpu state : ℕ) → Step → How
-add_how cpu state step = how_by step.kept (site_at cpu 0 Up) (can_fail Up state placed.Add)
+-- an entry that its callback makes stands
+pub call_stands : (head : Head) (es : List Event) (stands : List ℕ) (places : List (Option Step)) (op : Op) (state : ℕ) (reg : Progress)
+    (seat cpu : ℕ) (key : Key) (d : Dir) (place : Place) (step : Step) →
+    (t : IsTied head es stands places (Registering op state reg)) → length stands ≡ head.possible →
+    asked (key_at places reg) (cpus_at stands head.absent reg) reg ≡ regask.Call cpu key d place → key.state ≡ state →
+    step_at places key.state ≡ Some step → is_nocalls op ≡ false → cpu < head.possible → seat ≡ seat_at head.possible cpu key.state →
+    Stands head es (Call seat cpu key.state key.inst d (how_by step.kept (site_at cpu key.inst d) (can_fail d key.state place)))
+call_stands head es stands places op state reg seat cpu key d place step t all asks here some calls there by =
+    let r = t.due_is in
+    let how = how_by step.kept (site_at cpu key.inst d) (can_fail d key.state place) in
+    let same : r.step ≡ step = place_same (step_at places state) r.step step r.place_is (rw here at some) in
+    let k = kept_at head es key.state (step_at places key.state) step some (t.kept key.state) in
+    let found : sub_at head key.state es ≡ Some k.sub =
+    subst (λ x. sub_at head x es ≡ Some k.sub) (sym here)
+    (r.sub_is ∙ ap (λ (x : Step). sub_numbered head x.kept.sub) same ∙ k.sub_is) in
+    entry_stands head es stands places op state reg seat cpu key d place how t all asks
+    (fits_by step.kept cpu key.inst key.state d place) (reg_how head es op cpu key.state key.inst d place step calls k found)
+    (entry_caller head es seat cpu key.state r.of.seat how t.seated there r.by_client
+    (not_presumed step.kept (site_at cpu key.inst d) (can_fail d key.state place)) by)
 
-abbrev pub add_event : (seat cpu state : ℕ) → Step → Event
-add_event seat cpu state step = Call seat cpu state 0 Up (add_how cpu state step)
+-- a presumed entry stands, made by the client
+pub presumed_stands : (head : Head) (es : List Event) (stands : List ℕ) (places : List (Option Step)) (op : Op) (state : ℕ)
+    (reg : Progress) (cpu : ℕ) (key : Key) (d : Dir) (place : Place) →
+    (t : IsTied head es stands places (Registering op state reg)) → length stands ≡ head.possible →
+    asked (key_at places reg) (cpus_at stands head.absent reg) reg ≡ regask.Call cpu key d place → is_nocalls op ≡ true →
+    Stands head es (Call head.possible cpu key.state key.inst d Presumed)
+presumed_stands head es stands places op state reg cpu key d place t all asks nocalls =
+    let r = t.due_is in
+    entry_stands head es stands places op state reg head.possible cpu key d place Presumed t all asks refl (rw nocalls refl)
+    (by_client (is_ap_state key.state) ∙ ap Some r.by_client)
+  where
+    by_client : (b : Bool) → cond (b && false) (ap_seat cpu es) (Some t.due_is.of.seat) ≡ Some t.due_is.of.seat
+    by_client true = refl
+    by_client false = refl
 
--- its startup is done
-pub add_done : (head : Head) (es : List Event) (stands : List ℕ) (places : List (Option Step)) (state cpu value : ℕ) (step : Step) →
-    IsTied head es stands places (Adding state cpu value) → cpu < head.possible → step_at places state ≡ Some step →
-    is_done (add_how cpu state step) ≡ true
-add_done head es stands places state cpu value step tied below some =
-    let r : IsRegistering head es (step_at places state) state value = tied.due_is.registering in
-    let first : cpu ≡ 0 = reached_first head state cpu r.of.before tied.due_is.reached r.alone below in
-    let k = kept_at head es state (step_at places state) step some (tied.kept state) in
-    let range = rw some at (tied.subs state) in
-    rw first
-    (done_first head es state 0 Up (can_fail Up state placed.Add) step k (plain_kept head es state step tied.plain k range))
+uncalled : {A : Type 0} (b : Bool) (found more : List A) → cond (b && false) more found ≡ found
+uncalled true found more = refl
+uncalled false found more = refl
 
--- the entry on the processor that is next
-pub call_stands : (head : Head) (es : List Event) (stands : List ℕ) (places : List (Option Step)) (seat state cpu value : ℕ)
-    (step : Step) → IsTied head es stands places (Adding state cpu value) → cpu < head.possible →
-    seat ≡ seat_at head.possible cpu state → step_at places state ≡ Some step →
-    InRegistration head es seat cpu state 0 Up (add_how cpu state step)
-call_stands head es stands places seat state cpu value step tied below by some =
-    let adding : IsAdding head es (step_at places state) state cpu value = tied.due_is in
-    let r : IsRegistering head es (step_at places state) state value = adding.registering in
-    let p : ℕ → Bool = is_reached head state r.of.before in
-    let split = filter_split p cpu head.possible below adding.reached in
-    let same : r.step ≡ step = place_same (step_at places state) r.step step r.place_is some in
-    let op : r.of.op ≡ Setup r.asked step.kept.sub plain = r.setup ∙ ap (λ (x : Step). Setup r.asked x.kept.sub plain) same in
-    let k = kept_at head es state (step_at places state) step some (tied.kept state) in
-    let self : eqb state state ≡ true = eq-eqb state state refl in
-    let found : sub_at head state es ≡ Some k.sub = rw (r.in_flight, op, r.at_state, self) k.sub_is in
-    let ranged = rw some at (tied.subs state) in
-    let single : is_multi head step.kept.sub ≡ false =
-    single_sub head step.kept.sub (sub_found head step.kept.sub tied.plain ranged.0 ranged.1) in
-    let slot : Slot = record { cpu = cpu; state = state; inst = 0; dir = Up; place = placed.Add; first = false; fails = false } in
-    record {
-      of = r.of;
-      in_flight = r.in_flight;
-      outcome = made;
-      slots = each placed.Add Up state 0 (processors head state r.of.before);
-      shape = shape_of head r.of r.asked state step.kept.sub op r.at_state single;
-      slot = slot;
-      is_next = record {
-        front = each placed.Add Up state 0 (filter p (numbers cpu));
-        rest = each placed.Add Up state 0 split.0;
-        slots_are = ap (each placed.Add Up state 0) split.1
-            ∙ each-append placed.Add Up state 0 (filter p (numbers cpu)) (cpu ∷ split.0);
-        filled = adding.done;
-      };
-      fits = (refl, refl, refl, refl, add_done head es stands places state cpu value step tied below some);
-      how_is = setup_how head es r.of.op r.asked cpu state 0 Up placed.Add step op k found;
-      caller_is =
-          entry_caller head es seat cpu state r.of.seat (add_how cpu state step) tied.seated below r.by_client
-          (not_presumed step.kept (site_at cpu 0 Up) (can_fail Up state placed.Add)) by;
-    }
+-- what is registered, where each place says the same
+so_same : (op : Op) (state : ℕ) (reg next : Progress) (s : ℕ) (old new : Option Step) → registered_by new ≡ registered_by old →
+    told op new ≡ told op old → registered_so (Registering op state reg) s old ≡ registered_so (Registering op state next) s new
+so_same op state reg next s old new same same_told = go (eqb state s)
+  where
+    go : (b : Bool) → cond b (told op old) (registered_by old) ≡ cond b (told op new) (registered_by new)
+    go true = sym same_told
+    go false = sym same
 
--- the registration in flight, after an entry of it
-abbrev pub called_registering : (head : Head) (es : List Event) (places : List (Option Step)) (seat state cpu value : ℕ)
-    (step : Step) (r : IsRegistering head es (step_at places state) state value) → step_at places state ≡ Some step →
-    state < length places →
-    IsRegistering head (es ++ add_event seat cpu state step ∷ [])
-    (step_at (slice_set places state (Some (entered_step (site_at cpu 0 Up) step))) state) state value
-called_registering head es places seat state cpu value step r place_is within =
-    let e : Event = add_event seat cpu state step in
-    let new : Step = entered_step (site_at cpu 0 Up) step in
+-- the registration after an entry, where what its state has says the same
+went_on : (head : Head) (es : List Event) (stands : List ℕ) (places after : List (Option Step)) (op : Op) (state : ℕ) (reg next : Progress)
+    (seat cpu inst : ℕ) (d : Dir) (how : How) (new : Step) →
+    (t : IsTied head es stands places (Registering op state reg)) → step_at after state ≡ Some new → Holds op new →
+    new.kept.sub ≡ t.due_is.step.kept.sub → new.kept.multi ≡ t.due_is.step.kept.multi →
+    (next.op ≡ reg.op) × (next.state ≡ reg.state) →
+    IsAfter (key_of head t.due_is.of) (processors head t.due_is.of.state t.due_is.of.before)
+    (registration_entries es ++ Call seat cpu state inst d how ∷ []) next →
+    IsRegistering head (es ++ Call seat cpu state inst d how ∷ []) after op state next
+went_on head es stands places after op state reg next seat cpu inst d how new t some holds sub multi same there =
+    let e : Event = Call seat cpu state inst d how in
+    let r = t.due_is in
     record {
       of = r.of;
       in_flight = registration_push es e ∙ r.in_flight;
       by_client = r.by_client;
-      at_state = r.at_state;
+      op_is = r.op_is;
+      state_is = r.state_is;
+      progress = (same.0 ∙ r.progress.0, same.1 ∙ r.progress.1);
+      registers = r.registers;
       step = new;
-      place_is = step_at-set_same places state (Some new) within;
-      asked = r.asked;
-      setup = r.setup
-          ∙ ap (λ (s : Step). Setup r.asked s.kept.sub plain) (place_same (step_at places state) r.step step r.place_is place_is)
-          ∙ ap (λ n. Setup r.asked n plain) (sym (entered_sub (site_at cpu 0 Up) step));
-      answers = r.answers;
+      place_is = some;
+      holds = holds;
+      sub_is = sub_stays ∙ r.sub_is ∙ ap (sub_numbered head) (sym sub);
+      known = entered_known head op (registered head state r.of.before) r.step new multi r.known;
       no_operation = operation_push es e ∙ r.no_operation;
       no_walk = walking_push es e ∙ r.no_walk;
       still = λ c. r.still c ∙ sym (settled_push c es e);
-      vacant = r.vacant;
-      alone = r.alone;
+      after = rw (registration_entries_push es e) there;
     }
+  where
+    sub_stays : sub_at head state (es ++ Call seat cpu state inst d how ∷ []) ≡ sub_at head state es
+    sub_stays =
+        rw (
+          registration_push es (Call seat cpu state inst d how),
+          registered_push head state es (Call seat cpu state inst d how),
+        )
+        refl
 
--- the machine's parts after an entry, but for what is due
-called_tied : (head : Head) (es : List Event) (stands : List ℕ) (places : List (Option Step))
-    (seat state cpu value : ℕ) (step : Step) (due : Due) →
-    IsTied head es stands places (Adding state cpu value) → cpu < head.possible → seat ≡ seat_at head.possible cpu state →
-    step_at places state ≡ Some step → state < length places → ((s : ℕ) → is_at due s ≡ eqb state s) →
-    IsDue head (es ++ add_event seat cpu state step ∷ [])
-    (slice_set places state (Some (entered_step (site_at cpu 0 Up) step))) due →
-    IsTied head (es ++ add_event seat cpu state step ∷ []) stands
-    (slice_set places state (Some (entered_step (site_at cpu 0 Up) step))) due
-called_tied head es stands places seat state cpu value step due tied below by place_is within at is_due =
-    let e : Event = add_event seat cpu state step in
-    let place : Option Step = Some (entered_step (site_at cpu 0 Up) step) in
+-- an entry that its callback makes
+pub entered_on : (head : Head) (es : List Event) (stands : List ℕ) (places after : List (Option Step)) (op : Op) (state : ℕ)
+    (reg next : Progress) (seat cpu inst : ℕ) (d : Dir) (place : Place) (step : Step) →
+    (t : IsTied head es stands places (Registering op state reg)) → step_at places state ≡ Some step → state < length places →
+    after ≡ slice_set places state (Some (entered_step (site_at cpu inst d) step)) →
+    Stands head es (Call seat cpu state inst d (how_by step.kept (site_at cpu inst d) (can_fail d state place))) →
+    (next.op ≡ reg.op) × (next.state ≡ reg.state) →
+    IsAfter (key_of head t.due_is.of) (processors head t.due_is.of.state t.due_is.of.before)
+    (registration_entries es ++ Call seat cpu state inst d (how_by step.kept (site_at cpu inst d) (can_fail d state place)) ∷ []) next →
+    IsTied head (es ++ Call seat cpu state inst d (how_by step.kept (site_at cpu inst d) (can_fail d state place)) ∷ []) stands after
+    (Registering op state next)
+entered_on head es stands places after op state reg next seat cpu inst d place step t some room is stood same there =
+    let site = site_at cpu inst d in
+    let how = how_by step.kept site (can_fail d state place) in
+    let e : Event = Call seat cpu state inst d how in
+    let new = entered_step site step in
+    let r = t.due_is in
     let self : eqb state state ≡ true = eq-eqb state state refl in
-    let none : registered head state es ≡ None = tied.registered_is state ∙ rw self refl in
-    let k = kept_at head es state (step_at places state) step place_is (tied.kept state) in
-    let ours = not_injected step.kept (site_at cpu 0 Up) (can_fail Up state placed.Add) in
+    let here : r.step ≡ step = place_same (step_at places state) r.step step r.place_is some in
+    let k = kept_at head es state (step_at places state) step some (t.kept state) in
+    let ours = not_injected step.kept site (can_fail d state place) in
     record {
-      lawful = lawful_more head es e tied.lawful (inr (call_stands head es stands places seat state cpu value step tied below by place_is));
-      plain = tied.plain;
-      seated = seated_more head es e ours tied.seated;
-      quiet = quiet_more es e ours tied.quiet;
-      settled_is = λ c low. settled_push c es e ∙ tied.settled_is c low;
-      highest = tied.highest;
-      registered_is = at_each (λ s p. registered head s (es ++ e ∷ []) ≡ registered_so (is_at due s) p) places state place
-          within (registered_push head state es e ∙ (rw (at state, self) none))
-          (λ s other. registered_push head s es e ∙ (rw (at s) (tied.registered_is s)));
-      kept = λ s.
-          kept_entered head es places seat cpu state 0 s Up (can_fail Up state placed.Add) step within place_is self (tied.kept s) k;
-      subs = λ s.
-          subs_entered (length head.subs) places state s step (site_at cpu 0 Up) within place_is (tied.subs s) (tied.subs state);
-      due_is = is_due;
+      lawful = lawful_more head es e t.lawful stood;
+      plain = t.plain;
+      seated = seated_more head es e ours t.seated;
+      quiet = quiet_more es e ours t.quiet;
+      settled_is = λ c low. settled_push c es e ∙ t.settled_is c low;
+      highest = t.highest;
+      registered_is = λ s.
+          registered_push head s es e ∙ t.registered_is s
+          ∙ so_same op state reg next s (step_at places s) (step_at after s)
+          (rw is (registered_entered places state s step site room some)) (rw is (told_entered op places state s step site room some));
+      kept = λ s. rw is (kept_entered head es places seat cpu state inst s d (can_fail d state place) step room some self (t.kept s) k);
+      subs = λ s. rw is (subs_entered (length head.subs) places state s step site room some (t.subs s) (t.subs state));
+      due_is =
+          went_on head es stands places after op state reg next seat cpu inst d how new t
+          (rw is (step_at-set_same places state (Some new) room)) (entered_holds op site step (rw here at r.holds))
+          (entered_sub site step ∙ ap (λ x. x.kept.sub) (sym here)) (entered_multi site step ∙ ap (λ x. x.kept.multi) (sym here)) same there;
     }
 
--- the entries so far and the one of the processor are those of the processors up to one that none between is before
-filled_more : (head : Head) (es before : List Event) (seat state cpu next : ℕ) (how : How) →
-    Fill (each placed.Add Up state 0 (filter (is_reached head state before) (numbers cpu))) (registration_entries es) →
-    is_reached head state before cpu ≡ true → is_done how ≡ true → cpu < next →
-    ((c : ℕ) → cpu < c → c < next → is_reached head state before c ≡ false) →
-    Fill (each placed.Add Up state 0 (filter (is_reached head state before) (numbers next)))
-    (registration_entries (es ++ Call seat cpu state 0 Up how ∷ []))
-filled_more head es before seat state cpu next how filled reached done above none =
-    let p : ℕ → Bool = is_reached head state before in
-    let e : Event = Call seat cpu state 0 Up how in
-    let row : filter p (numbers next) ≡ filter p (numbers cpu) ++ cpu ∷ [] =
-    filter_gap p (cpu + 1) next (omega arith) (λ c from to. none c (omega arith) to) ∙ filter_next p cpu reached
+-- the same at a key of that state
+pub entered_at_key : (head : Head) (es : List Event) (stands : List ℕ) (places after : List (Option Step)) (op : Op) (state : ℕ)
+    (reg next : Progress) (seat cpu : ℕ) (key : Key) (d : Dir) (place : Place) (step : Step) →
+    (t : IsTied head es stands places (Registering op state reg)) → key.state ≡ state → step_at places key.state ≡ Some step →
+    key.state < length places → after ≡ slice_set places key.state (Some (entered_step (site_at cpu key.inst d) step)) →
+    Stands head es (Call seat cpu key.state key.inst d (how_by step.kept (site_at cpu key.inst d) (can_fail d key.state place))) →
+    (next.op ≡ reg.op) × (next.state ≡ reg.state) →
+    IsAfter (key_of head t.due_is.of) (processors head t.due_is.of.state t.due_is.of.before)
+    (registration_entries es
+    ++ Call seat cpu key.state key.inst d (how_by step.kept (site_at cpu key.inst d) (can_fail d key.state place)) ∷ [])
+    next →
+    IsTied head
+    (es ++ Call seat cpu key.state key.inst d (how_by step.kept (site_at cpu key.inst d) (can_fail d key.state place)) ∷ []) stands
+    after (Registering op state next)
+entered_at_key head es stands places after op state reg next seat cpu key d place step t here some room is stood same there =
+    let e : ℕ → Event =
+    λ s. Call seat cpu s key.inst d (how_by step.kept (site_at cpu key.inst d) (can_fail d s place)) in
+    let P : ℕ → Type 0 =
+    λ s.
+    step_at places s ≡ Some step → s < length places →
+    after ≡ slice_set places s (Some (entered_step (site_at cpu key.inst d) step)) → Stands head es (e s) →
+    IsAfter (key_of head t.due_is.of) (processors head t.due_is.of.state t.due_is.of.before) (registration_entries es ++ e s ∷ []) next →
+    IsTied head (es ++ e s ∷ []) stands after (Registering op state next)
     in
-    let slots : each placed.Add Up state 0 (filter p (numbers next))
-    ≡ each placed.Add Up state 0 (filter p (numbers cpu)) ++ each placed.Add Up state 0 (cpu ∷ []) =
-    ap (each placed.Add Up state 0) row ∙ each-append placed.Add Up state 0 (filter p (numbers cpu)) (cpu ∷ [])
+    subst P (sym here)
+    (λ some room is stood there.
+    entered_on head es stands places after op state reg next seat cpu key.inst d place step t some room is stood same there)
+    some room is stood there
+
+-- an entry that is presumed
+pub presumed_on : (head : Head) (es : List Event) (stands : List ℕ) (places : List (Option Step)) (op : Op) (state : ℕ)
+    (reg next : Progress) (seat cpu inst : ℕ) (d : Dir) →
+    (t : IsTied head es stands places (Registering op state reg)) → Stands head es (Call seat cpu state inst d Presumed) →
+    (next.op ≡ reg.op) × (next.state ≡ reg.state) →
+    IsAfter (key_of head t.due_is.of) (processors head t.due_is.of.state t.due_is.of.before)
+    (registration_entries es ++ Call seat cpu state inst d Presumed ∷ []) next →
+    IsTied head (es ++ Call seat cpu state inst d Presumed ∷ []) stands places (Registering op state next)
+presumed_on head es stands places op state reg next seat cpu inst d t stood same there =
+    let e : Event = Call seat cpu state inst d Presumed in
+    let r = t.due_is in
+    tied_more head es stands places (Registering op state reg) (Registering op state next) e t refl stood
+    (λ c. settled_push c es e) (λ s. sites_push s es e ∙ uncalled (eqb state s) (sites s es) _) (λ s. registered_push head s es e ∙ t.registered_is s)
+    (went_on head es stands places places op state reg next seat cpu inst d Presumed r.step t r.place_is r.holds refl refl same there)
+
+-- the same at a key of that state
+pub presumed_at_key : (head : Head) (es : List Event) (stands : List ℕ) (places : List (Option Step)) (op : Op) (state : ℕ)
+    (reg next : Progress) (seat cpu : ℕ) (key : Key) (d : Dir) →
+    (t : IsTied head es stands places (Registering op state reg)) → key.state ≡ state →
+    Stands head es (Call seat cpu key.state key.inst d Presumed) → (next.op ≡ reg.op) × (next.state ≡ reg.state) →
+    IsAfter (key_of head t.due_is.of) (processors head t.due_is.of.state t.due_is.of.before)
+    (registration_entries es ++ Call seat cpu key.state key.inst d Presumed ∷ []) next →
+    IsTied head (es ++ Call seat cpu key.state key.inst d Presumed ∷ []) stands places (Registering op state next)
+presumed_at_key head es stands places op state reg next seat cpu key d t here stood same there =
+    let e : ℕ → Event = λ s. Call seat cpu s key.inst d Presumed in
+    let P : ℕ → Type 0 =
+    λ s.
+    Stands head es (e s) →
+    IsAfter (key_of head t.due_is.of) (processors head t.due_is.of.state t.due_is.of.before) (registration_entries es ++ e s ∷ []) next →
+    IsTied head (es ++ e s ∷ []) stands places (Registering op state next)
     in
-    rw (registration_entries_push es e, slots)
-    (Fill-append (each placed.Add Up state 0 (filter p (numbers cpu))) (each placed.Add Up state 0 (cpu ∷ []))
-    (registration_entries es) (e ∷ []) filled ((refl, refl, refl, refl, done), tt))
+    subst P (sym here) (λ stood there. presumed_on head es stands places op state reg next seat cpu key.inst d t stood same there) stood there
 
--- no other processor stands at the state or above it
-pub none_reached : (head : Head) (es : List Event) (stands : List ℕ) (places : List (Option Step)) (state cpu value c : ℕ) →
-    IsTied head es stands places (Adding state cpu value) → cpu < c → c < head.possible → slice_index stands c < state
-none_reached head es stands places state cpu value c tied above below =
-    let r : IsRegistering head es (step_at places state) state value = tied.due_is.registering in
-    rw (r.still c ∙ tied.settled_is c below) at (r.alone c (omega (arith, above)) below)
+-- the key and the processors stay when an entry is made
+pub key_stays : (places after : List (Option Step)) (reg next : Progress) (s : ℕ) (step : Step) (cpu inst : ℕ) (d : Dir) →
+    s < length places → step_at places s ≡ Some step → after ≡ slice_set places s (Some (entered_step (site_at cpu inst d) step)) →
+    next.op ≡ reg.op → next.state ≡ reg.state → key_at after next ≡ key_at places reg
+key_stays places after reg next s step cpu inst d room some is same_op same_state =
+    rw (is, same_op, same_state)
+    (says_same (key_in reg.op) places s reg.state step (entered_step (site_at cpu inst d) step) room some
+    (entered_key reg.op (site_at cpu inst d) step))
 
--- the entry is made, and the end is due
-pub added : (head : Head) (es : List Event) (stands : List ℕ) (places written : List (Option Step))
-    (seat state cpu value : ℕ) (step : Step) → IsTied head es stands places (Adding state cpu value) →
-    cpu < head.possible → state < length places → seat ≡ seat_at head.possible cpu state →
-    step_at places state ≡ Some step → written ≡ slice_set places state (Some (entered_step (site_at cpu 0 Up) step)) →
-    IsTied head (es ++ add_event seat cpu state step ∷ []) stands written (Added state value)
-added head es stands places written seat state cpu value step tied below within by place_is is =
-    let r : IsRegistering head es (step_at places state) state value = tied.due_is.registering in
-    rw is
-    (called_tied head es stands places seat state cpu value step (Added state value) tied below by place_is within
-    (λ s. refl)
-    (record {
-      registering = called_registering head es places seat state cpu value step r place_is within;
-      done =
-          filled_more head es r.of.before seat state cpu head.possible (add_how cpu state step) tied.due_is.done tied.due_is.reached
-          (add_done head es stands places state cpu value step tied below place_is) below
-          (λ c from to. reached_not head state r.of.before c (r.alone c (omega (arith, from)) to));
-    }))
+pub known_key : (places : List (Option Step)) (reg next : Progress) → next.op ≡ reg.op → next.state ≡ reg.state →
+    key_at places next ≡ key_at places reg
+known_key places reg next same_op same_state = rw (same_op, same_state) refl
+
+pub cpus_stay : (stands absent : List ℕ) (reg next : Progress) → next.state ≡ reg.state → cpus_at stands absent next ≡ cpus_at stands absent reg
+cpus_stay stands absent reg next same = rw same refl

@@ -1,142 +1,76 @@
 -- A rule that is read is the one that was written, and what was written is read again.
-use Rattle.std.proofs.Common.{◌≡◌, ℕ, ◌-◌, ◌≤◌, ◌<◌, Bool, true, false, List, [], ◌∷◌, ◌++◌, Option, Some, None, refl, sym, ap, subst, ◌∙◌, append_assoc, arith}
+use Rattle.std.proofs.Common.{◌≡◌, ℕ, ◌≤◌, ◌<◌, List, ◌∷◌, ◌++◌, Option, Some, None, refl, sym, ap, subst, ◌∙◌, append_assoc, arith}
 use Rattle.std.specs.Prelude.{codes, decimal, IfSome}
-use Rattle.std.specs.Option.{option_or}
-use Rattle.hp_states.specs.declared.limits.TheConstants.{MAX_INSTANCE, MAX_EVENTS, MAX_CODE, MAX_CPUS}
+use Rattle.hp_states.specs.declared.limits.TheConstants.{MAX_INSTANCE, MAX_EVENTS, MAX_CODE, MAX_RULE_CPU}
 use Rattle.hp_states.specs.declared.section.Dir.{Dir}
-use Rattle.hp_states.specs.declared.section.Dir.TheVariants.{Up, Down}
 use Rattle.hp_states.specs.declared.plan.Rule.{Rule}
-use Rattle.hp_model.specs.Words.{dir_word, any_word, calls_word}
+use Rattle.hp_model.specs.Words.{dir_word, any_word}
 use Rattle.hp_model.specs.JournalText.{rule_line}
 use Rattle.hp_model.specs.Heads.{IsRule}
-use Rattle.hp_play.specs.Form.{IsOfOther}
-use Rattle.hp_play.specs.Reading.{behind, if_front, dir_at, calls_at, number_within, any_within, rule_at}
-use Rattle.hp_play.proofs.WordLaws.{bind_some, bind_then, some_is, behind_takes}
+use Rattle.hp_play.specs.Reading.{behind, dir_at, number_within, any_within, rule_at}
+use Rattle.hp_play.proofs.WordLaws.{bind_then, some_is, behind_takes}
 use Rattle.hp_play.proofs.RangeLaws.{IsIn, AnyIn, any_above, any_below, any_in, number_within_takes, number_within_again, any_within_takes, any_within_again}
+use Rattle.hp_play.proofs.ChoiceLaws.{dir_takes, dir_again}
 use Rattle.hp_play.proofs.LineLaws.{IsReader, Anything}
 
--- ---- words of a few
+abbrev rule_with : (dir : Dir) (cpu inst nth : Option ℕ) (code : ℕ) → Rule
+rule_with d c i n k = record { dir = d; cpu = c; inst = i; nth = n; code = k }
 
-front_takes : {A : Type 0} (front : List ℕ) (value : A) (bytes : List ℕ) (x : A × List ℕ) → if_front front value bytes ≡ Some x → (x.0 ≡ value) × (bytes ≡ front ++ x.1)
-front_takes {A = A} front value bytes x e =
-    let a = bind_some (behind front bytes) (λ rest. Some (value, rest)) x e in
-    let same : (value, a.0) ≡ x = some_is (value, a.0) x a.2 in
-    (ap (λ (y : A × List ℕ). y.0) (sym same), behind_takes front bytes a.0 a.1 ∙ ap (λ (y : A × List ℕ). front ++ y.1) same)
-
--- the front is a value's word and a space
-said_takes : {A : Type 0} (word : A → List ℕ) (front : List ℕ) (value : A) (bytes : List ℕ) → front ≡ word value ++ 32 ∷ [] → (x : A × List ℕ) → if_front front value bytes ≡ Some x
-    → bytes ≡ word x.0 ++ 32 ∷ x.1
-said_takes {A = A} word front value bytes same x e =
-    let t = front_takes front value bytes x e in
-    t.1 ∙ ap (λ (w : List ℕ). w ++ x.1) same ∙ append_assoc (word value) (32 ∷ []) x.1 ∙ ap (λ (v : A). word v ++ 32 ∷ x.1) (sym t.0)
-
-either : {A : Type 0} (P : A → Type 0) (o p : Option A) → ((x : A) → o ≡ Some x → P x) → ((x : A) → p ≡ Some x → P x) → (x : A) → option_or o p ≡ Some x → P x
-either P None p first second x e = second x e
-either P (Some y) p first second x e = first x e
-
-pub dir_takes : (bytes : List ℕ) (x : Dir × List ℕ) → dir_at bytes ≡ Some x → bytes ≡ dir_word x.0 ++ 32 ∷ x.1
-unfolding dir_at
-dir_takes bytes x e =
-    either (λ (y : Dir × List ℕ). bytes ≡ dir_word y.0 ++ 32 ∷ y.1) (if_front (codes "up ") Up bytes) (if_front (codes "down ") Down bytes)
-    (said_takes dir_word (codes "up ") Up bytes refl) (said_takes dir_word (codes "down ") Down bytes refl) x e
-
-pub dir_again : (dir : Dir) (rest : List ℕ) → dir_at (dir_word dir ++ 32 ∷ rest) ≡ Some (dir, rest)
-unfolding dir_at
-dir_again Up rest = refl
-dir_again Down rest = refl
-
-abbrev word_of_calls : Bool × Bool → List ℕ
-word_of_calls calls = calls_word calls.0 calls.1
-
-pub calls_takes : (bytes : List ℕ) (x : (Bool × Bool) × List ℕ) → calls_at bytes ≡ Some x → bytes ≡ calls_word x.0.0 x.0.1 ++ 32 ∷ x.1
-unfolding calls_at
-calls_takes bytes x e =
-    let Says : (Bool × Bool) × List ℕ → Type 0 = λ y. bytes ≡ calls_word y.0.0 y.0.1 ++ 32 ∷ y.1 in
-    let both = if_front (codes "both ") (true, true) bytes in
-    let up = if_front (codes "up ") (true, false) bytes in
-    let down = if_front (codes "down ") (false, true) bytes in
-    let none = if_front (codes "none ") (false, false) bytes in
-    either Says both (option_or up (option_or down none)) (said_takes word_of_calls (codes "both ") (true, true) bytes refl)
-    (either Says up (option_or down none) (said_takes word_of_calls (codes "up ") (true, false) bytes refl)
-    (either Says down none (said_takes word_of_calls (codes "down ") (false, true) bytes refl)
-    (said_takes word_of_calls (codes "none ") (false, false) bytes refl)))
-    x e
-
-pub calls_again : (up down : Bool) (rest : List ℕ) → calls_at (calls_word up down ++ 32 ∷ rest) ≡ Some ((up, down), rest)
-unfolding calls_at
-calls_again true true rest = refl
-calls_again true false rest = refl
-calls_again false true rest = refl
-calls_again false false rest = refl
-
--- ---- rules
-
--- a rule that a head can have, for another processor than the first
-pub record IsFormRule (rule : Rule) : Type 0 where
-  pub is_rule : IsRule rule
-  pub of_other : IsOfOther rule
-
-abbrev rule_with : (dir : Dir) (cpu : ℕ) (inst nth : Option ℕ) (code : ℕ) → Rule
-rule_with d c i n k = record { dir = d; cpu = Some c; inst = i; nth = n; code = k }
-
-rule_spelled : (dir : Dir) (cpu : ℕ) (inst nth : Option ℕ) (code : ℕ) (rest : List ℕ)
+rule_spelled : (dir : Dir) (cpu inst nth : Option ℕ) (code : ℕ) (rest : List ℕ)
     → rule_line (rule_with dir cpu inst nth code) ++ rest
-    ≡ codes "rule " ++ (dir_word dir ++ 32 ∷ (decimal cpu ++ 32 ∷ (any_word inst ++ 32 ∷ (any_word nth ++ 32 ∷ (decimal code ++ 10 ∷ rest)))))
+    ≡ codes "rule " ++ (dir_word dir ++ 32 ∷ (any_word cpu ++ 32 ∷ (any_word inst ++ 32 ∷ (any_word nth ++ 32 ∷ (decimal code ++ 10 ∷ rest)))))
 rule_spelled d c i n k rest = simp append_assoc
 
-rule_fits : (dir : Dir) (cpu : ℕ) (inst nth : Option ℕ) (code : ℕ) → IsIn 1 (MAX_CPUS - 1) cpu → AnyIn 0 MAX_INSTANCE inst → AnyIn 1 MAX_EVENTS nth → IsIn 1 MAX_CODE code
-    → IsFormRule (rule_with dir cpu inst nth code)
+rule_fits : (dir : Dir) (cpu inst nth : Option ℕ) (code : ℕ) → AnyIn 0 MAX_RULE_CPU cpu → AnyIn 0 MAX_INSTANCE inst → AnyIn 1 MAX_EVENTS nth → IsIn 1 MAX_CODE code
+    → IsRule (rule_with dir cpu inst nth code)
 rule_fits d c i n k cpu inst nth code = record {
-  is_rule = record {
-    cpu_fits = omega (arith, cpu.1);
-    inst_fits = any_below 0 MAX_INSTANCE i inst;
-    nth_above = any_above 0 MAX_EVENTS n nth;
-    nth_fits = any_below 1 MAX_EVENTS n nth;
-    code_above = omega (arith, code.0);
-    code_fits = code.1;
-  };
-  of_other = (c, refl, cpu.0, omega (arith, cpu.1));
+  cpu_fits = any_below 0 MAX_RULE_CPU c cpu;
+  inst_fits = any_below 0 MAX_INSTANCE i inst;
+  nth_above = any_above 0 MAX_EVENTS n nth;
+  nth_fits = any_below 1 MAX_EVENTS n nth;
+  code_above = omega (arith, code.0);
+  code_fits = code.1;
 }
 
 -- what stands behind each word, put together
-rule_parts : (dir : Dir) (cpu : ℕ) (inst nth : Option ℕ) (code : ℕ) (bytes words d c i n k : List ℕ)
-    → bytes ≡ codes "rule " ++ words → words ≡ dir_word dir ++ 32 ∷ d → d ≡ decimal cpu ++ 32 ∷ c → c ≡ any_word inst ++ 32 ∷ i
+rule_parts : (dir : Dir) (cpu inst nth : Option ℕ) (code : ℕ) (bytes words d c i n k : List ℕ)
+    → bytes ≡ codes "rule " ++ words → words ≡ dir_word dir ++ 32 ∷ d → d ≡ any_word cpu ++ 32 ∷ c → c ≡ any_word inst ++ 32 ∷ i
     → i ≡ any_word nth ++ 32 ∷ n → n ≡ decimal code ++ 10 ∷ k → bytes ≡ rule_line (rule_with dir cpu inst nth code) ++ k
 rule_parts dir cpu inst nth code bytes words d c i n k e0 e1 e2 e3 e4 e5 =
     let behind_inst : i ≡ any_word nth ++ 32 ∷ (decimal code ++ 10 ∷ k) = e4 ∙ ap (λ (w : List ℕ). any_word nth ++ 32 ∷ w) e5 in
     let behind_cpu : c ≡ any_word inst ++ 32 ∷ (any_word nth ++ 32 ∷ (decimal code ++ 10 ∷ k)) = e3 ∙ ap (λ (w : List ℕ). any_word inst ++ 32 ∷ w) behind_inst in
-    let behind_dir : d ≡ decimal cpu ++ 32 ∷ (any_word inst ++ 32 ∷ (any_word nth ++ 32 ∷ (decimal code ++ 10 ∷ k))) = e2 ∙ ap (λ (w : List ℕ). decimal cpu ++ 32 ∷ w) behind_cpu in
+    let behind_dir : d ≡ any_word cpu ++ 32 ∷ (any_word inst ++ 32 ∷ (any_word nth ++ 32 ∷ (decimal code ++ 10 ∷ k))) = e2 ∙ ap (λ (w : List ℕ). any_word cpu ++ 32 ∷ w) behind_cpu in
     e0 ∙ ap (λ (w : List ℕ). codes "rule " ++ w) (e1 ∙ ap (λ (w : List ℕ). dir_word dir ++ 32 ∷ w) behind_dir) ∙ sym (rule_spelled dir cpu inst nth code k)
 
 abbrev RuleTook : (bytes : List ℕ) → Rule × List ℕ → Type 0
-RuleTook bytes x = (bytes ≡ rule_line x.0 ++ x.1) × IsFormRule x.0
+RuleTook bytes x = (bytes ≡ rule_line x.0 ++ x.1) × IsRule x.0
 
 rule_takes : (bytes : List ℕ) (x : Rule × List ℕ) → rule_at bytes ≡ Some x → RuleTook bytes x
 unfolding rule_at
 rule_takes bytes x e =
     bind_then (RuleTook bytes x) x (behind (codes "rule ") bytes) _ e λ words e0 e.
     bind_then (RuleTook bytes x) x (dir_at words) _ e λ d e1 e.
-    bind_then (RuleTook bytes x) x (number_within 32 1 (MAX_CPUS - 1) d.1) _ e λ c e2 e.
+    bind_then (RuleTook bytes x) x (any_within 32 0 MAX_RULE_CPU d.1) _ e λ c e2 e.
     bind_then (RuleTook bytes x) x (any_within 32 0 MAX_INSTANCE c.1) _ e λ i e3 e.
     bind_then (RuleTook bytes x) x (any_within 32 1 MAX_EVENTS i.1) _ e λ n e4 e.
     bind_then (RuleTook bytes x) x (number_within 10 1 MAX_CODE n.1) _ e λ k e5 e.
-    let cpu = number_within_takes 32 1 (MAX_CPUS - 1) d.1 c e2 in
+    let cpu = any_within_takes 32 0 MAX_RULE_CPU d.1 c e2 in
     let inst = any_within_takes 32 0 MAX_INSTANCE c.1 i e3 in
     let nth = any_within_takes 32 1 MAX_EVENTS i.1 n e4 in
     let code = number_within_takes 10 1 MAX_CODE n.1 k e5 in
     let parts = rule_parts d.0 c.0 i.0 n.0 k.0 bytes words d.1 c.1 i.1 n.1 k.1 (behind_takes (codes "rule ") bytes words e0) (dir_takes words d e1) cpu.0 inst.0 nth.0 code.0 in
     subst (RuleTook bytes) (some_is (rule_with d.0 c.0 i.0 n.0 k.0, k.1) x e) (parts, rule_fits d.0 c.0 i.0 n.0 k.0 cpu.1 inst.1 nth.1 code.1)
 
-with_again : (dir : Dir) (cpu : ℕ) (inst nth : Option ℕ) (code : ℕ) (rest : List ℕ) → IsIn 1 (MAX_CPUS - 1) cpu → AnyIn 0 MAX_INSTANCE inst → AnyIn 1 MAX_EVENTS nth → IsIn 1 MAX_CODE code
+with_again : (dir : Dir) (cpu inst nth : Option ℕ) (code : ℕ) (rest : List ℕ) → AnyIn 0 MAX_RULE_CPU cpu → AnyIn 0 MAX_INSTANCE inst → AnyIn 1 MAX_EVENTS nth → IsIn 1 MAX_CODE code
     → rule_at (rule_line (rule_with dir cpu inst nth code) ++ rest) ≡ Some (rule_with dir cpu inst nth code, rest)
 unfolding rule_at
 with_again d c i n k rest cpu inst nth code =
     let behind_nth : List ℕ = decimal k ++ 10 ∷ rest in
     let behind_inst : List ℕ = any_word n ++ 32 ∷ behind_nth in
     let behind_cpu : List ℕ = any_word i ++ 32 ∷ behind_inst in
-    let behind_dir : List ℕ = decimal c ++ 32 ∷ behind_cpu in
+    let behind_dir : List ℕ = any_word c ++ 32 ∷ behind_cpu in
     let first : dir_at (dir_word d ++ 32 ∷ behind_dir) ≡ Some (d, behind_dir) = dir_again d behind_dir in
-    let second : number_within 32 1 (MAX_CPUS - 1) behind_dir ≡ Some (c, behind_cpu) = number_within_again 32 1 (MAX_CPUS - 1) c behind_cpu (omega arith) (omega arith) cpu in
+    let second : any_within 32 0 MAX_RULE_CPU behind_dir ≡ Some (c, behind_cpu) = any_within_again 0 MAX_RULE_CPU c behind_cpu (omega arith) cpu in
     let third : any_within 32 0 MAX_INSTANCE behind_cpu ≡ Some (i, behind_inst) = any_within_again 0 MAX_INSTANCE i behind_inst (omega arith) inst in
     let fourth : any_within 32 1 MAX_EVENTS behind_inst ≡ Some (n, behind_nth) = any_within_again 1 MAX_EVENTS n behind_nth (omega arith) nth in
     let fifth : number_within 10 1 MAX_CODE behind_nth ≡ Some (k, rest) = number_within_again 10 1 MAX_CODE k rest (omega arith) (omega arith) code in
@@ -150,15 +84,13 @@ at_least_one : (o : Option ℕ) → IfSome o (λ n. 0 < n) → IfSome o (λ n. 1
 at_least_one None h = tt
 at_least_one (Some n) h = omega (arith, h)
 
-rule_again : (rule : Rule) (rest : List ℕ) → IsFormRule rule → rule_at (rule_line rule ++ rest) ≡ Some (rule, rest)
+rule_again : (rule : Rule) (rest : List ℕ) → IsRule rule → rule_at (rule_line rule ++ rest) ≡ Some (rule, rest)
 rule_again rule rest fits =
-    let c = fits.of_other.0 in
-    let same : rule ≡ rule_with rule.dir c rule.inst rule.nth rule.code = ap (λ (o : Option ℕ). record rule { cpu = o }) fits.of_other.1 in
-    let cpu : IsIn 1 (MAX_CPUS - 1) c = (fits.of_other.2, omega (arith, fits.of_other.3)) in
-    let inst : AnyIn 0 MAX_INSTANCE rule.inst = any_in 0 MAX_INSTANCE rule.inst (at_least_none rule.inst) fits.is_rule.inst_fits in
-    let nth : AnyIn 1 MAX_EVENTS rule.nth = any_in 1 MAX_EVENTS rule.nth (at_least_one rule.nth fits.is_rule.nth_above) fits.is_rule.nth_fits in
-    let code : IsIn 1 MAX_CODE rule.code = (omega (arith, fits.is_rule.code_above), fits.is_rule.code_fits) in
-    subst (λ (r : Rule). rule_at (rule_line r ++ rest) ≡ Some (r, rest)) (sym same) (with_again rule.dir c rule.inst rule.nth rule.code rest cpu inst nth code)
+    let cpu : AnyIn 0 MAX_RULE_CPU rule.cpu = any_in 0 MAX_RULE_CPU rule.cpu (at_least_none rule.cpu) fits.cpu_fits in
+    let inst : AnyIn 0 MAX_INSTANCE rule.inst = any_in 0 MAX_INSTANCE rule.inst (at_least_none rule.inst) fits.inst_fits in
+    let nth : AnyIn 1 MAX_EVENTS rule.nth = any_in 1 MAX_EVENTS rule.nth (at_least_one rule.nth fits.nth_above) fits.nth_fits in
+    let code : IsIn 1 MAX_CODE rule.code = (omega (arith, fits.code_above), fits.code_fits) in
+    with_again rule.dir rule.cpu rule.inst rule.nth rule.code rest cpu inst nth code
 
-pub reads_rule : IsReader rule_at rule_line IsFormRule Anything
+pub reads_rule : IsReader rule_at rule_line IsRule Anything
 reads_rule = record { takes = rule_takes; again = λ rule rest fits end. rule_again rule rest fits; more = λ rule rest. tt }

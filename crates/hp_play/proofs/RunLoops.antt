@@ -54,13 +54,3 @@ pub fills : {A : Type 0} (reader : List ℕ → Option (A × List ℕ)) (most i 
 fills reader most i front rest bytes le s =
     let no_more : most - i ≡ 0 = omega arith in
     ended reader most i front rest bytes (ap (λ (n : ℕ). run_of reader n rest) no_more ∙ run_none reader rest) s
-
-few_more : {A : Type 0} (most : ℕ) (bytes : List ℕ) (more : List ℕ → List A × List ℕ) → ((rest : List ℕ) → length (more rest).0 ≤ most)
-    → (o : Option (A × List ℕ)) → length (onto_more o bytes more).0 ≤ suc most
-few_more most bytes more few None = omega arith
-few_more most bytes more few (Some x) = omega (arith, few x.1)
-
-pub run_few : {A : Type 0} (reader : List ℕ → Option (A × List ℕ)) (most : ℕ) (bytes : List ℕ) → length (run_of reader most bytes).0 ≤ most
-unfolding run_of
-run_few reader zero bytes = omega arith
-run_few reader (suc most) bytes = few_more most bytes (λ rest. run_of reader most rest) (λ rest. run_few reader most rest) (reader bytes)

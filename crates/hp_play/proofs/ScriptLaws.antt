@@ -1,78 +1,55 @@
 -- The two laws of scripts: what is read is of the form, and what is of the form is read.
-use Rattle.std.proofs.Common.{◌≡◌, ℕ, ◌+◌, ◌-◌, ◌≤◌, min, true, eqb, leb, List, [], ◌∷◌, ◌++◌, length, Option, Some, None, All, refl, sym, ap, subst, ◌∙◌, append_assoc, length-append, arith}
-use Rattle.std.specs.List.{flat_map, AllByRecursion}
-use Rattle.std.proofs.lemmas.Bool.{eqb-true, leb-true, le-leb}
+use Rattle.std.proofs.Common.{◌≡◌, ℕ, ◌≤◌, true, ◌&&◌, eqb, leb, List, [], ◌++◌, length, Option, Some, None, All, refl, sym, ap, subst, ◌∙◌, append_assoc, arith}
+use Rattle.std.specs.List.{flat_map, count_by, AllByRecursion}
+use Rattle.std.proofs.lemmas.Bool.{and_parts, eqb-true, leb-true, le-leb}
 use Rattle.std.proofs.lemmas.List.{append-nil, nil_from_length}
-use Rattle.std.proofs.lemmas.List.Concat.{flat_map-append}
 use Rattle.std.proofs.lemmas.List.Elements.{All-from_recursion, recursion_from_All}
 use Rattle.hp_states.specs.declared.limits.TheConstants.{MAX_SUBS, MAX_SCRIPT_BYTES}
 use Rattle.hp_event.specs.declared.event.Op.{Op}
-use Rattle.hp_event.specs.declared.event.Op.TheVariants.{Up, Down}
 use Rattle.hp_play.specs.declared.limits.TheConstants.{MAX_PLAYED}
 use Rattle.hp_event.specs.declared.head.Sub.{Sub}
 use Rattle.hp_model.specs.JournalText.{sub_lines}
-use Rattle.hp_play.specs.Form.{Lines, IsName, IsFormSub, IsSetup, IsWalk, IsForm, IsScript, op_line, spelling}
-use Rattle.hp_play.specs.Reading.{◌>>=◌, cpus_at, dir_at, title_at, rule_at, sub_at, actor_at, setup_at, walk_at, run_of, ops_of, actor_of, lines_of, script_of}
+use Rattle.hp_model.specs.Heads.{IsSub}
+use Rattle.hp_play.specs.Form.{Lines, IsName, IsOp, is_setup, IsForm, IsScript, op_line, spelling}
+use Rattle.hp_play.specs.Reading.{◌>>=◌, cpus_at, dir_at, title_at, rule_at, sub_at, actor_at, walk_at, op_at, run_of, ops_of, actor_of, lines_of, script_of}
 use Rattle.hp_play.proofs.WordLaws.{bind_some, passed, some_is}
 use Rattle.hp_play.proofs.LineLaws.{Anything, cpus_line, actor_line, reads_cpus, reads_actor}
 use Rattle.hp_play.proofs.SubLaws.{NoRule, reads_sub}
-use Rattle.hp_play.proofs.OpLaws.{reads_setup, reads_walk}
+use Rattle.hp_play.proofs.OpLaws.{reads_op}
 use Rattle.hp_play.proofs.RunLaws.{Took, run_takes, run_again}
 
 -- ---- operations
 
--- setups, and then ups and downs
+-- operations of the form, and no more setups than hooks
 pub record AreOps (hooks subs : ℕ) (ops : List Op) : Type 0 where
-  pub setups : List Op
-  pub walks : List Op
-  pub are : ops ≡ setups ++ walks
-  pub all_setups : AllByRecursion (IsSetup subs) setups
-  pub all_walks : AllByRecursion IsWalk walks
-  pub few_setups : length setups ≤ hooks
+  pub all : AllByRecursion (IsOp subs) ops
   pub few : length ops ≤ MAX_PLAYED
+  pub few_setups : count_by is_setup ops ≤ hooks
 
 pub ops_take : (hooks subs : ℕ) (bytes : List ℕ) (ops : List Op) → subs ≤ 1000 → ops_of hooks subs bytes ≡ Some ops → (bytes ≡ flat_map op_line ops) × AreOps hooks subs ops
 unfolding ops_of
 ops_take hooks subs bytes ops few e =
-    let setups = run_of (setup_at subs) (min hooks MAX_PLAYED) bytes in
-    let walks = run_of walk_at (MAX_PLAYED - length setups.0) setups.1 in
-    let first : Took op_line (IsSetup subs) (min hooks MAX_PLAYED) bytes setups = run_takes (setup_at subs) op_line (IsSetup subs) Anything (reads_setup subs few) (min hooks MAX_PLAYED) bytes in
-    let second : Took op_line IsWalk (MAX_PLAYED - length setups.0) setups.1 walks = run_takes walk_at op_line IsWalk Anything reads_walk (MAX_PLAYED - length setups.0) setups.1 in
-    let p = passed (eqb (length walks.1) 0) (Some (setups.0 ++ walks.0)) ops e in
-    let nothing : walks.1 ≡ [] = nil_from_length walks.1 (eqb-true _ _ p.0) in
-    let tail : setups.1 ≡ flat_map op_line walks.0 = second.parts ∙ ap (λ (w : List ℕ). flat_map op_line walks.0 ++ w) nothing ∙ append-nil (flat_map op_line walks.0) in
-    let parts : bytes ≡ flat_map op_line (setups.0 ++ walks.0) = first.parts ∙ ap (λ (w : List ℕ). flat_map op_line setups.0 ++ w) tail ∙ sym (flat_map-append op_line setups.0 walks.0) in
-    let fits : AreOps hooks subs (setups.0 ++ walks.0) = record {
-      setups = setups.0;
-      walks = walks.0;
-      are = refl;
-      all_setups = first.fit;
-      all_walks = second.fit;
-      few_setups = omega (arith, first.few);
-      few = omega (arith, first.few, second.few, length-append setups.0 walks.0);
-    } in
-    subst (λ (o : List Op). (bytes ≡ flat_map op_line o) × AreOps hooks subs o) (some_is (setups.0 ++ walks.0) ops p.1) (parts, fits)
+    let run = run_of (op_at subs) MAX_PLAYED bytes in
+    let took : Took op_line (IsOp subs) MAX_PLAYED bytes run = run_takes (op_at subs) op_line (IsOp subs) Anything (reads_op subs few) MAX_PLAYED bytes in
+    let p = passed (eqb (length run.1) 0 && leb (count_by is_setup run.0) hooks) (Some run.0) ops e in
+    let t = and_parts (eqb (length run.1) 0) (leb (count_by is_setup run.0) hooks) p.0 in
+    let nothing : run.1 ≡ [] = nil_from_length run.1 (eqb-true _ _ t.0) in
+    let parts : bytes ≡ flat_map op_line run.0 = took.parts ∙ ap (λ (w : List ℕ). flat_map op_line run.0 ++ w) nothing ∙ append-nil (flat_map op_line run.0) in
+    let fits : AreOps hooks subs run.0 = record { all = took.fit; few = took.few; few_setups = leb-true _ _ t.1 } in
+    subst (λ (o : List Op). (bytes ≡ flat_map op_line o) × AreOps hooks subs o) (some_is run.0 ops p.1) (parts, fits)
 
--- no up or down is a setup
-no_setup : (subs : ℕ) (walks : List Op) → AllByRecursion IsWalk walks → setup_at subs (flat_map op_line walks ++ []) ≡ None
-unfolding setup_at
-no_setup subs [] fit = refl
-no_setup subs (Up cpu ∷ walks) fit = refl
-no_setup subs (Down cpu ∷ walks) fit = refl
-no_setup subs (_ ∷ walks) fit = absurd fit.0
-
-no_walk : walk_at [] ≡ None
-unfolding walk_at dir_at
-no_walk = refl
+no_op : (subs : ℕ) → op_at subs [] ≡ None
+unfolding op_at walk_at dir_at
+no_op subs = refl
 
 pub ops_again : (hooks subs : ℕ) (ops : List Op) → subs ≤ 1000 → AreOps hooks subs ops → ops_of hooks subs (flat_map op_line ops) ≡ Some ops
 unfolding ops_of
 ops_again hooks subs ops few a =
-    let bytes : flat_map op_line ops ≡ flat_map op_line a.setups ++ (flat_map op_line a.walks ++ []) = ap (flat_map op_line) a.are ∙ flat_map-append op_line a.setups a.walks ∙ ap (λ (w : List ℕ). flat_map op_line a.setups ++ w) (sym (append-nil (flat_map op_line a.walks))) in
-    let count : length a.setups + length a.walks ≤ MAX_PLAYED = omega (arith, a.few, ap length a.are, length-append a.setups a.walks) in
-    let first : run_of (setup_at subs) (min hooks MAX_PLAYED) (flat_map op_line ops) ≡ (a.setups, flat_map op_line a.walks ++ []) = ap (run_of (setup_at subs) (min hooks MAX_PLAYED)) bytes ∙ run_again (setup_at subs) op_line (IsSetup subs) Anything (reads_setup subs few) (min hooks MAX_PLAYED) a.setups (flat_map op_line a.walks ++ []) a.all_setups (omega (arith, count, a.few_setups)) tt (no_setup subs a.walks a.all_walks) in
-    let second : run_of walk_at (MAX_PLAYED - length a.setups) (flat_map op_line a.walks ++ []) ≡ (a.walks, []) = run_again walk_at op_line IsWalk Anything reads_walk (MAX_PLAYED - length a.setups) a.walks [] a.all_walks (omega (arith, count)) tt no_walk in
-    rw (first, second) (ap Some (sym a.are))
+    let run : run_of (op_at subs) MAX_PLAYED (flat_map op_line ops) ≡ (ops, []) =
+    ap (run_of (op_at subs) MAX_PLAYED) (sym (append-nil (flat_map op_line ops)))
+    ∙ run_again (op_at subs) op_line (IsOp subs) Anything (reads_op subs few) MAX_PLAYED ops [] a.all a.few tt (no_op subs) in
+    let hooked : leb (count_by is_setup ops) hooks ≡ true = le-leb _ _ a.few_setups in
+    rw (run, hooked) refl
 
 -- ---- the lines
 
@@ -136,21 +113,17 @@ lines_take hooks bytes l e =
     let a = bind_some (cpus_at bytes) (behind_cpus hooks) l e in
     let subs = run_of sub_at MAX_SUBS a.0.1 in
     let cpus = reads_cpus.takes bytes a.0 a.1 in
-    let took : Took sub_lines IsFormSub MAX_SUBS a.0.1 subs = run_takes sub_at sub_lines IsFormSub NoRule reads_sub MAX_SUBS a.0.1 in
+    let took : Took sub_lines IsSub MAX_SUBS a.0.1 subs = run_takes sub_at sub_lines IsSub NoRule reads_sub MAX_SUBS a.0.1 in
     let tail = tail_takes hooks a.0.0 subs.0 subs.1 l (omega (arith, took.few)) a.2 in
     let parts : bytes ≡ cpus_line a.0.0 ++ (flat_map sub_lines subs.0 ++ (actor_line l.actor ++ flat_map op_line l.ops)) = cpus.0 ∙ ap (λ (w : List ℕ). cpus_line a.0.0 ++ w) (took.parts ∙ ap (λ (w : List ℕ). flat_map sub_lines subs.0 ++ w) tail.parts) in
     let form : IsForm hooks l = record {
       some_cpus = omega (arith, cpus.1, tail.cpus_are);
       few_cpus = omega (arith, cpus.1, tail.cpus_are);
       few_subs = omega (arith, took.few, ap length tail.subs_are);
-      subs_are = subst (All IsFormSub) (sym tail.subs_are) (All-from_recursion IsFormSub subs.0 took.fit);
+      subs_are = subst (All IsSub) (sym tail.subs_are) (All-from_recursion IsSub subs.0 took.fit);
       actor_named = tail.actor;
       few_ops = tail.ops.few;
-      setups = tail.ops.setups;
-      walks = tail.ops.walks;
-      ops_are = tail.ops.are;
-      all_setups = All-from_recursion (IsSetup (length l.subs)) tail.ops.setups (subst (λ (names : List Sub). AllByRecursion (IsSetup (length names)) tail.ops.setups) (sym tail.subs_are) tail.ops.all_setups);
-      all_walks = All-from_recursion IsWalk tail.ops.walks tail.ops.all_walks;
+      ops_are = All-from_recursion (IsOp (length l.subs)) l.ops (subst (λ (subs : List Sub). AllByRecursion (IsOp (length subs)) l.ops) (sym tail.subs_are) tail.ops.all);
       few_setups = tail.ops.few_setups;
     } in
     (form, spelled l a.0.0 subs.0 bytes tail.cpus_are tail.subs_are parts)
@@ -160,16 +133,8 @@ unfolding lines_of
 lines_again hooks l f =
     let tail : List ℕ = actor_line l.actor ++ flat_map op_line l.ops in
     let cpus : cpus_at (spelling l) ≡ Some (l.cpus, flat_map sub_lines l.subs ++ tail) = ap cpus_at (whole l) ∙ reads_cpus.again l.cpus (flat_map sub_lines l.subs ++ tail) (f.some_cpus, f.few_cpus) tt in
-    let subs : run_of sub_at MAX_SUBS (flat_map sub_lines l.subs ++ tail) ≡ (l.subs, tail) = run_again sub_at sub_lines IsFormSub NoRule reads_sub MAX_SUBS l.subs tail (recursion_from_All IsFormSub l.subs f.subs_are) f.few_subs (no_rule l.actor (flat_map op_line l.ops)) (no_sub l.actor (flat_map op_line l.ops)) in
-    let ops : AreOps hooks (length l.subs) l.ops = record {
-      setups = f.setups;
-      walks = f.walks;
-      are = f.ops_are;
-      all_setups = recursion_from_All (IsSetup (length l.subs)) f.setups f.all_setups;
-      all_walks = recursion_from_All IsWalk f.walks f.all_walks;
-      few_setups = f.few_setups;
-      few = f.few_ops;
-    } in
+    let subs : run_of sub_at MAX_SUBS (flat_map sub_lines l.subs ++ tail) ≡ (l.subs, tail) = run_again sub_at sub_lines IsSub NoRule reads_sub MAX_SUBS l.subs tail (recursion_from_All IsSub l.subs f.subs_are) f.few_subs (no_rule l.actor (flat_map op_line l.ops)) (no_sub l.actor (flat_map op_line l.ops)) in
+    let ops : AreOps hooks (length l.subs) l.ops = record { all = recursion_from_All (IsOp (length l.subs)) l.ops f.ops_are; few = f.few_ops; few_setups = f.few_setups } in
     let rest = tail_again hooks l (omega (arith, f.few_subs)) f.actor_named ops in
     ap (λ (o : Option (ℕ × List ℕ)). o >>= behind_cpus hooks) cpus ∙ ap (λ (r : List Sub × List ℕ). actor_of hooks l.cpus r.0 r.1) subs ∙ rest
 

@@ -1,5 +1,5 @@
 -- The seats are in: the machine is tied to the admissions, which are the first events of its run.
-use Rattle.std.proofs.Common.{◌≡◌, ℕ, zero, suc, ◌+◌, ◌<◌, ◌≤◌, Bool, true, false, cond, eqb, Option, Some, None, List, [], ◌∷◌, ◌++◌, length, slice_index, refl, sym, ap, ◌∙◌, subst, arith}
+use Rattle.std.proofs.Common.{◌≡◌, ℕ, zero, suc, ◌+◌, ◌<◌, ◌≤◌, Bool, true, false, cond, eqb, Option, Some, None, List, [], ◌∷◌, ◌++◌, length, refl, sym, ap, ◌∙◌, subst, arith}
 use Rattle.std.proofs.lemmas.Bool.{eq-eqb}
 use Rattle.std.proofs.lemmas.Bool.Decides.{nat_tests}
 use Rattle.hp_states.specs.declared.limits.TheConstants.{MAX_CPUS, ONLINE, OFFLINE}
@@ -206,12 +206,3 @@ admitted_tied head ops es stands places h plain is new =
       subs = λ s. rw (new.vacant s) tt;
       due_is = rw (admissions_are head ops plain.all_present) blank.idle;
     })
-
--- all processors but the first are down at the start
-pub early_first : (head : Head) (stands now : List ℕ) (places : List (Option Step)) → IsNew head stands places → now ≡ stands →
-    length stands ≡ head.possible → (c : ℕ) → 0 < c → c < length now → slice_index now c ≡ OFFLINE
-early_first head stands now places new same all c above inside =
-    let within = rw same at inside in rw same (new.at_start c (omega (arith, within, all)) ∙ other c above)
-  where
-    other : (c : ℕ) → 0 < c → cond (eqb c 0) ONLINE OFFLINE ≡ OFFLINE
-    other c above = let no : eqb c 0 ≡ false = grind (arith, nat_tests) in rw no refl

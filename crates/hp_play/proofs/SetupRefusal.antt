@@ -9,6 +9,7 @@ use Rattle.hp_states.specs.Sections.{is_dynamic, end_of_range, name_of_builtin}
 use Rattle.hp_table.specs.Named.{is_named as is_named_in}
 use Rattle.hp_table.specs.Slots.{first_slot, last_slot, IsLowestFree, IsFull}
 use Rattle.hp_model.specs.Lists.{rising}
+use Rattle.hp_event.specs.declared.event.Form.{Form}
 use Rattle.hp_event.specs.declared.event.Op.{Op}
 use Rattle.hp_event.specs.declared.event.Op.TheVariants.{Setup}
 use Rattle.hp_event.specs.declared.head.Head.{Head}
@@ -26,7 +27,6 @@ use Rattle.hp_model.specs.Refusals.{refusal}
 use Rattle.hp_model.specs.StandsOperations.{IsRefused}
 use Rattle.hp_model.proofs.Laws.{registration_push, registered_push, settled_push, operation_push, walking_push}
 use Rattle.hp_play.specs.declared.due.Due.TheVariants.{Operation as Idle}
-use Rattle.hp_play.specs.Form.{plain}
 use Rattle.hp_table.specs.Step.{Step, step_at}
 use Rattle.hp_play.specs.Tied.{registered_by, IsTied}
 use Rattle.hp_play.proofs.TieFolds.{sites_push}
@@ -62,25 +62,26 @@ setup_checks : (busy reading invalid waiting dynamic named full : Bool) → busy
 setup_checks busy reading invalid waiting dynamic named full a b c = rw (a, b, c) refl
 
 -- why a setup is refused, if it is
-pub setup_refusal : (head : Head) (es : List Event) (stands : List ℕ) (places : List (Option Step)) (asked sub : ℕ) →
-    IsTied head es stands places Idle →
-    refusal head es head.possible (Setup asked sub plain)
+pub setup_refusal : (head : Head) (es : List Event) (stands : List ℕ) (places : List (Option Step)) (asked sub : ℕ) (form : Form) →
+    IsTied head es stands places Idle → form.locked ≡ false →
+    refusal head es head.possible (Setup asked sub form)
     ≡ cond (eqb asked OFFLINE || (leb ONLINE asked || has_no_name (sub_numbered head sub))) (Some EINVAL)
     (cond (not (is_dynamic asked) && is_named head asked es) (Some EBUSY)
     (cond (is_dynamic asked && is_none (lowest_free head asked es)) (Some ENOSPC) None))
-setup_refusal head es stands places asked sub tied =
+setup_refusal head es stands places asked sub form tied unlocked =
     let free = idle_free head es tied.seated tied.due_is in
     let reading : is_reading head.possible es ≡ false = rw (tied.quiet.none_reads head.possible) refl in
-    let waiting : is_waiting es (Setup asked sub plain) ≡ false =
+    let waiting : is_waiting es (Setup asked sub form) ≡ false =
     rw (tied.due_is.no_walk, tied.due_is.no_registration) refl
     in
-    setup_checks (is_busy head.possible es) (is_reading head.possible es)
+    rw unlocked
+    (setup_checks (is_busy head.possible es) (is_reading head.possible es)
     (eqb asked OFFLINE || (leb ONLINE asked || has_no_name (sub_numbered head sub)))
-    (is_waiting es (Setup asked sub plain)) (is_dynamic asked) (is_named head asked es)
-    (is_none (lowest_free head asked es)) free.idle reading waiting
+    (is_waiting es (Setup asked sub form)) (is_dynamic asked) (is_named head asked es)
+    (is_none (lowest_free head asked es)) free.idle reading waiting)
 
-pub named_sub : (head : Head) (asked sub : ℕ) → SubFound head sub → names_sub head (Setup asked sub plain) ≡ true
-named_sub head asked sub found = rw found.is refl
+pub named_sub : (head : Head) (asked sub : ℕ) (form : Form) → SubFound head sub → names_sub head (Setup asked sub form) ≡ true
+named_sub head asked sub form found = rw found.is refl
 
 -- a state has a name by the events where it has one in the table
 pub named_alike : (head : Head) (es : List Event) (stands : List ℕ) (places : List (Option Step)) (s : ℕ) →

@@ -1,5 +1,5 @@
 -- Lists of processors and states that a test picks out of a rising row, and what a place keeps after a write.
-use Rattle.std.proofs.Common.{◌≡◌, ◌≢◌, ℕ, zero, suc, ◌+◌, ◌<◌, ◌≤◌, Bool, true, false, cond, eqb, Option, List, [], ◌∷◌, ◌++◌, length, refl, ap, sym, ◌∙◌, subst, append_assoc, add-one, arith, ⊎_elim}
+use Rattle.std.proofs.Common.{◌≡◌, ◌≢◌, ℕ, zero, suc, ◌<◌, ◌≤◌, Bool, true, false, cond, eqb, Option, List, [], ◌∷◌, ◌++◌, length, refl, ap, sym, ◌∙◌, subst, append_assoc, arith, ⊎_elim}
 use Rattle.std.specs.Prelude.{slice_set}
 use Rattle.std.specs.List.{filter}
 use Rattle.std.proofs.lemmas.List.{append-nil}
@@ -51,10 +51,6 @@ filter_gap p a (suc b) le none =
     ∙ filter_gap p a b (omega arith) (λ c from below. none c from (omega arith)))
     (λ (ge : suc b ≤ a). let e : a ≡ suc b = omega arith in rw e refl)
     (cases_lt a (suc b))
-
--- the test takes the number after those
-pub filter_next : (p : ℕ → Bool) (c : ℕ) → p c ≡ true → filter p (numbers (c + 1)) ≡ filter p (numbers c) ++ c ∷ []
-filter_next p c h = rw add-one (filter_one_in p (numbers c) c h)
 
 -- a number that the test takes is in the row of those below n, after those before it
 pub filter_split : (p : ℕ → Bool) (c n : ℕ) → c < n → p c ≡ true →

@@ -1,8 +1,6 @@
 -- What the machine's parts say at once, and over an event that leaves the processors and the calls as they were.
-use Rattle.std.proofs.Common.{◌≡◌, ℕ, zero, suc, ◌<◌, ◌≤◌, Bool, true, false, Option, Some, None, IfSome, List, [], ◌∷◌, ◌++◌, length, refl, ap, sym, subst, ◌∙◌, arith}
+use Rattle.std.proofs.Common.{◌≡◌, ℕ, zero, suc, ◌<◌, ◌≤◌, Bool, true, false, Option, Some, None, IfSome, List, [], ◌∷◌, ◌++◌, length, refl, ap, sym, ◌∙◌, arith}
 use Rattle.std.specs.Prelude.{slice_get, option_map}
-use Rattle.std.specs.List.{AllByRecursion}
-use Rattle.std.proofs.lemmas.List.Elements.{recursion_from_All}
 use Rattle.hp_event.specs.declared.head.Sub.{Sub}
 use Rattle.hp_event.specs.declared.head.Head.{Head}
 use Rattle.hp_event.specs.declared.event.Event.{Event}
@@ -13,7 +11,7 @@ use Rattle.hp_model.specs.Caller.{caller, is_presumed}
 use Rattle.hp_play.specs.Machine.{seat_at}
 use Rattle.hp_model.specs.Seats.{IsFree}
 use Rattle.hp_model.specs.Calls.{sites}
-use Rattle.hp_model.specs.Subsystems.{sub_numbered, is_multi}
+use Rattle.hp_model.specs.Subsystems.{sub_numbered}
 use Rattle.hp_table.specs.Step.{Step, step_at}
 use Rattle.hp_model.specs.Lawful.{Stands}
 use Rattle.hp_model.specs.MapLock.{operation}
@@ -21,33 +19,24 @@ use Rattle.hp_model.specs.Registrations.{registration}
 use Rattle.hp_model.specs.Registered.{registered}
 use Rattle.hp_model.specs.Settled.{settled}
 use Rattle.hp_model.proofs.HeadlineProof.{lawful_more}
-use Rattle.hp_model.proofs.Owners.{same_some}
 use Rattle.hp_play.specs.declared.due.Due.{Due}
 use Rattle.hp_play.specs.declared.due.Due.TheVariants.{Operation as Idle}
-use Rattle.hp_play.specs.Tied.{IsPlainHead, IsSeated, IsKept, IsIdle, IsEntered, registered_by, registered_so, is_at, IsDue, IsTied}
-use Rattle.hp_play.specs.Form.{IsPlainSub}
+use Rattle.hp_play.specs.Tied.{IsSeated, IsKept, IsIdle, IsEntered, registered_by, registered_so, IsDue, IsTied}
 use Rattle.hp_play.proofs.TieFolds.{IsOurs, quiet_more, seated_more}
 
 -- a subsystem of the head, by its number
 pub record SubFound (head : Head) (number : ℕ) : Type 0 where
   pub sub : Sub
   pub is : sub_numbered head number ≡ Some sub
-  pub plain : IsPlainSub sub
 
-found_at : (subs : List Sub) (i : ℕ) → AllByRecursion IsPlainSub subs → i < length subs →
-    (x : Sub) × (slice_get subs i ≡ Some x) × IsPlainSub x
-found_at [] i all below = absurd (omega arith)
-found_at (x ∷ xs) zero all below = (x, refl, all.0)
-found_at (x ∷ xs) (suc i) all below = found_at xs i all.1 (omega arith)
+found_at : (subs : List Sub) (i : ℕ) → i < length subs → (x : Sub) × (slice_get subs i ≡ Some x)
+found_at [] i below = absurd (omega arith)
+found_at (x ∷ xs) zero below = (x, refl)
+found_at (x ∷ xs) (suc i) below = found_at xs i (omega arith)
 
-pub sub_found : (head : Head) (number : ℕ) → IsPlainHead head → 1 ≤ number → number ≤ length head.subs → SubFound head number
-sub_found head zero plain some few = absurd (omega arith)
-sub_found head (suc i) plain some few =
-    let f = found_at head.subs i (recursion_from_All IsPlainSub head.subs plain.subs) (omega arith) in
-    record { sub = f.0; is = f.1; plain = f.2 }
-
-pub single_sub : (head : Head) (number : ℕ) → SubFound head number → is_multi head number ≡ false
-single_sub head number found = rw (found.is, found.plain.is_single) refl
+pub sub_found : (head : Head) (number : ℕ) → 1 ≤ number → number ≤ length head.subs → SubFound head number
+sub_found head zero some few = absurd (omega arith)
+sub_found head (suc i) some few = let f = found_at head.subs i (omega arith) in record { sub = f.0; is = f.1 }
 
 -- an entry is made by a processor's own seat at an AP state, else by the client
 pub entry_caller : (head : Head) (es : List Event) (seat cpu state client : ℕ) (how : How) → IsSeated head es → cpu < head.possible →
@@ -69,11 +58,10 @@ kept_same head es fs s (Some step) same h =
       sub_is = h.sub_is;
       up_is = h.up_is;
       down_is = h.down_is;
+      multi_is = h.multi_is;
       plan_is = h.plan_is;
       made = h.made ∙ ap length (sym same);
       seen = h.seen ∙ ap (counts_of h.sub.plan) (sym same);
-      single = h.single;
-      bare = h.bare;
     }
 
 -- with nothing in flight the client is free
@@ -95,7 +83,7 @@ entered_more head es e cpu to held idle entered = record {
 pub tied_more : (head : Head) (es : List Event) (stands : List ℕ) (places : List (Option Step)) (due next : Due) (e : Event) →
     IsTied head es stands places due → IsOurs es e → Stands head es e →
     ((c : ℕ) → settled c (es ++ e ∷ []) ≡ settled c es) → ((s : ℕ) → sites s (es ++ e ∷ []) ≡ sites s es) →
-    ((s : ℕ) → registered head s (es ++ e ∷ []) ≡ registered_so (is_at next s) (step_at places s)) →
+    ((s : ℕ) → registered head s (es ++ e ∷ []) ≡ registered_so next s (step_at places s)) →
     IsDue head (es ++ e ∷ []) places next → IsTied head (es ++ e ∷ []) stands places next
 tied_more head es stands places due next e tied ours stood still same registered_is is_due = record {
   lawful = lawful_more head es e tied.lawful stood;
@@ -119,11 +107,3 @@ same_subs head es stands places tied s =
     go : (place : Option Step) → option_map (λ r. r.sub) (registered_by place) ≡ option_map (λ step. step.kept.sub) place
     go None = refl
     go (Some step) = refl
-
--- what is registered at a state is of a plain subsystem
-pub plain_kept : (head : Head) (es : List Event) (s : ℕ) (step : Step) → IsPlainHead head → (k : IsKept head es s step) →
-    (1 ≤ step.kept.sub) × (step.kept.sub ≤ length head.subs) → IsPlainSub k.sub
-plain_kept head es s step plain k range =
-    let found = sub_found head step.kept.sub plain range.0 range.1 in
-    let same : found.sub ≡ k.sub = same_some _ _ (sym found.is ∙ k.sub_is) in
-    subst IsPlainSub same found.plain

@@ -28,7 +28,7 @@ use Rattle.hp_walk.proofs.Alike.{after_alike}
 use Rattle.hp_play.specs.declared.due.Due.{Due}
 use Rattle.hp_play.specs.declared.due.Due.TheVariants.{Operation as Idle, Walk as ToWalk, Walking, End}
 use Rattle.hp_play.specs.Machine.{stands_after}
-use Rattle.hp_play.specs.Tied.{IsTied, IsEntered, Leads, registered_by, is_at}
+use Rattle.hp_play.specs.Tied.{IsTied, IsEntered, Leads, registered_by}
 use Rattle.hp_play.proofs.TieFolds.{sites_push, answers_push, quiet_more, seated_more}
 use Rattle.hp_play.proofs.TieParts.{kept_same, entered_more, tied_more}
 use Rattle.hp_play.proofs.WalkRows.{enter_stands, walk_stands, walked_whole, walked_stands, insts_same}
@@ -172,13 +172,13 @@ walk_ends head es stands places c to w answer t ended there below most =
 
 -- the operation ends
 pub op_ends : (head : Head) (es : List Event) (stands : List ℕ) (places : List (Option Step)) (due : Due) (c to : ℕ) (answer : Answer) →
-    IsTied head es stands places due → ((s : ℕ) → is_at due s ≡ false) → OpEnds head es head.possible answer →
+    IsTied head es stands places due → ((s : ℕ) → registered head s es ≡ registered_by (step_at places s)) → OpEnds head es head.possible answer →
     IsEntered head es c to → walking es ≡ [] → IsTied head (es ++ OpEnd head.possible answer ∷ []) stands places Idle
 op_ends head es stands places due c to answer t elsewhere stand entered still =
     let e : Event = OpEnd head.possible answer in
     tied_more head es stands places due Idle e t (entered.of, c, to, entered.held, entered.leads) stand
     (λ d. settled_push d es e) (λ s. sites_push s es e)
-    (λ s. registered_push head s es e ∙ (rw (elsewhere s) at (t.registered_is s)))
+    (λ s. registered_push head s es e ∙ elsewhere s)
     (record {
       no_operation = operation_push es e;
       no_registration = registration_push es e ∙ entered.no_registration;

@@ -1,13 +1,12 @@
--- The form of script that is played today: processors, subsystems without instances and the rules by which their
--- callbacks answer, and one actor that first registers and then brings processors up and takes them down. This
--- project's own.
-use Rattle.std.specs.Prelude.{◌≡◌, ℕ, ◌≤◌, ◌<◌, Bool, false, ◌&&◌, ◌||◌, ◌==◌, nat_le, IsTrue, Some, List, [], ◌∷◌, ◌++◌, length, codes, decimal, All}
-use Rattle.std.specs.List.{flat_map}
-use Rattle.hp_states.specs.declared.limits.TheConstants.{MAX_CPUS, MAX_SUBS, MAX_NAME_LEN, MAX_SCRIPT_BYTES}
-use Rattle.hp_states.specs.declared.plan.Rule.{Rule}
-use Rattle.hp_play.specs.declared.limits.TheConstants.{MAX_NAMED_CPU, MAX_PLAYED, MAX_SETUP}
+-- The form of script that is played today: processors, subsystems with the rules by which their callbacks answer,
+-- and one actor that registers and deregisters, adds and deletes instances, and brings processors up and takes them
+-- down, in any order. This project's own.
+use Rattle.std.specs.Prelude.{◌≡◌, ℕ, ◌≤◌, Bool, true, false, ◌&&◌, ◌||◌, ◌==◌, nat_le, IsTrue, List, [], ◌∷◌, ◌++◌, length, codes, decimal, All}
+use Rattle.std.specs.List.{flat_map, count_by}
+use Rattle.hp_states.specs.declared.limits.TheConstants.{MAX_CPUS, MAX_SUBS, MAX_NAME_LEN, MAX_INSTANCE, MAX_SCRIPT_BYTES}
+use Rattle.hp_play.specs.declared.limits.TheConstants.{MAX_NAMED_CPU, MAX_PLAYED, MAX_NAMED_STATE}
 use Rattle.hp_event.specs.declared.event.Op.{Op}
-use Rattle.hp_event.specs.declared.event.Op.TheVariants.{Up, Down, Setup}
+use Rattle.hp_event.specs.declared.event.Op.TheVariants.{Up, Down, Setup, Remove, Add, Del}
 use Rattle.hp_event.specs.declared.event.Form.{Form}
 use Rattle.hp_event.specs.declared.head.Sub.{Sub}
 use Rattle.hp_event.specs.declared.head.Head.{Head}
@@ -36,49 +35,39 @@ pub record IsName (name : List ℕ) : Type 0 where
   pub few : length name ≤ MAX_NAME_LEN
   pub bytes : All (λ b. IsTrue (is_name_byte b)) name
 
--- a rule that speaks of one processor, and not of the first
-abbrev pub IsOfOther : Rule → Type 0
-IsOfOther rule = (c : ℕ) × (rule.cpu ≡ Some c) × (1 ≤ c) × (c < MAX_CPUS)
+-- an operation that a script may ask for, with numbers in their ranges: a processor of any number up to the highest,
+-- be it there or not; a state of any number up to the highest, be it a state's or not, and so an instance; and one of
+-- the subsystems, which are numbered from 1. Registrations may have any flags.
+abbrev pub IsOp : (subs : ℕ) → Op → Type 0
+IsOp subs (Up cpu) = cpu ≤ MAX_NAMED_CPU
+IsOp subs (Down cpu) = cpu ≤ MAX_NAMED_CPU
+IsOp subs (Setup state sub form) = (state ≤ MAX_NAMED_STATE) × (1 ≤ sub) × (sub ≤ subs)
+IsOp subs (Remove state form) = state ≤ MAX_NAMED_STATE
+IsOp subs (Add state inst form) = (state ≤ MAX_NAMED_STATE) × (inst ≤ MAX_INSTANCE)
+IsOp subs (Del state inst form) = (state ≤ MAX_NAMED_STATE) × (inst ≤ MAX_INSTANCE)
+IsOp subs _ = ⊥
 
--- a subsystem of the form: without instances, and without rules for the first processor
-pub record IsPlainSub (sub : Sub) : Type 0 where
-  pub is_single : sub.multi ≡ false
-  pub spares_first : All IsOfOther sub.plan
+-- whether an operation takes a hook
+abbrev pub is_setup : Op → Bool
+is_setup (Setup state sub form) = true
+is_setup _ = false
 
--- such a subsystem, with a name, so many rules and such numbers in them as a head can have
-pub record IsFormSub (sub : Sub) : Type 0 where
-  pub is_sub : IsSub sub
-  pub is_plain : IsPlainSub sub
-
-abbrev pub plain : Form
-plain = record { nocalls = false; locked = false }
-
--- a setup of any number up to the highest, be it a state's or not, for one of the subsystems
-abbrev pub IsSetup : (subs : ℕ) → Op → Type 0
-IsSetup subs (Setup state sub form) = (state ≤ MAX_SETUP) × (1 ≤ sub) × (sub ≤ subs) × (form ≡ plain)
-IsSetup subs _ = ⊥
-
--- a processor of any number up to the highest is brought up or taken down, be it there or not
-abbrev pub IsWalk : Op → Type 0
-IsWalk (Up cpu) = cpu ≤ MAX_NAMED_CPU
-IsWalk (Down cpu) = cpu ≤ MAX_NAMED_CPU
-IsWalk _ = ⊥
-
--- the numbers and names are in their ranges, and each setup stands before the first up or down
+-- the numbers and names are in their ranges, and there are no more setups than hooks, wherever they stand
 pub record IsForm (hooks : ℕ) (l : Lines) : Type 0 where
   pub some_cpus : 1 ≤ l.cpus
   pub few_cpus : l.cpus ≤ MAX_CPUS
   pub few_subs : length l.subs ≤ MAX_SUBS
-  pub subs_are : All IsFormSub l.subs
+  pub subs_are : All IsSub l.subs
   pub actor_named : IsName l.actor
   pub few_ops : length l.ops ≤ MAX_PLAYED
-  pub setups : List Op
-  pub walks : List Op
-  pub ops_are : l.ops ≡ setups ++ walks
-  pub all_setups : All (IsSetup (length l.subs)) setups
-  pub all_walks : All IsWalk walks
-  pub few_setups : length setups ≤ hooks
+  pub ops_are : All (IsOp (length l.subs)) l.ops
+  pub few_setups : count_by is_setup l.ops ≤ hooks
 
+-- without flags
+abbrev pub plain : Form
+plain = record { nocalls = false; locked = false }
+
+-- the words of an operation, with its flags, in a line: as in a journal
 abbrev pub op_line : Op → List ℕ
 op_line op = line (op_words op)
 

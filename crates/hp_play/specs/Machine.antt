@@ -1,5 +1,5 @@
 -- What the machine keeps true of its parts between two turns. This project's own.
-use Rattle.std.specs.Prelude.{◌≡◌, ℕ, ◌+◌, ◌*◌, ◌-◌, ◌<◌, ◌≤◌, Bool, true, false, Option, Some, None, IsSome, IsTrue, if◌then◌else◌, List, [], ◌∷◌, ◌++◌, length, All}
+use Rattle.std.specs.Prelude.{◌≡◌, ℕ, ◌+◌, ◌*◌, ◌-◌, ◌<◌, ◌≤◌, Bool, true, false, Option, Some, None, IsSome, if◌then◌else◌, List, [], ◌∷◌, ◌++◌, length, sum_by, not, ◌&&◌, slice_set, AllPairs}
 use Rattle.hp_states.specs.declared.limits.TheConstants.{MAX_CPUS, ONLINE}
 use Rattle.hp_states.specs.Sections.{is_ap_state}
 use Rattle.hp_states.specs.declared.section.Dir.{Dir}
@@ -16,14 +16,27 @@ use Rattle.hp_event.specs.Story.{Story}
 use Rattle.hp_event.specs.declared.event.Event.{Event}
 use Rattle.hp_event.specs.declared.head.Sub.{Sub}
 use Rattle.hp_event.specs.declared.event.Op.{Op}
-use Rattle.hp_event.specs.declared.event.Op.TheVariants.{Setup, Up as UpOf, Down as DownOf}
 use Rattle.hp_model.specs.Events.{is_registration_op}
 use Rattle.hp_model.specs.MapLock.{is_map_op}
 use Rattle.hp_play.specs.declared.due.Due.{Due}
-use Rattle.hp_play.specs.declared.due.Due.TheVariants.{Operation, Adding, Added, Walk, Walking, End}
-use Rattle.hp_play.specs.Form.{IsSetup}
+use Rattle.hp_play.specs.declared.due.Due.TheVariants.{Operation, Registering, Walk, Walking, End}
+use Rattle.hp_play.specs.Form.{IsOp, is_setup}
+use Rattle.hp_play.specs.declared.limits.TheConstants.{MAX_PLAYED}
+use Rattle.hp_model.specs.How.{is_nocalls}
+use Rattle.hp_table.specs.Keys.{keys_of}
+use Rattle.hp_reg.specs.declared.step.RegStep.{RegStep as RegAsk}
+use Rattle.hp_reg.specs.declared.step.RegStep.TheVariants as regask
+use Rattle.hp_reg.specs.Asked.{asked as asked_of}
+use Rattle.hp_reg.specs.Concerned.{key_at, cpus_at}
+use Rattle.hp_reg.specs.CallsLeft.{calls_left}
 use Rattle.hp_table.specs.Kept.{Kept, answer_at}
-use Rattle.hp_table.specs.Step.{Step, step_at, called_step}
+use Rattle.hp_event.specs.declared.event.Op.TheVariants as op
+use Rattle.hp_model.specs.RegistrationShape.{is_adding}
+use Rattle.hp_model.specs.Suspend.{is_ok}
+use Rattle.hp_table.specs.Instances.{without_instance}
+use Rattle.hp_reg.specs.Progress.{Progress}
+use Rattle.hp_reg.specs.After.{IsAfter as IsAfter_of}
+use Rattle.hp_table.specs.Step.{Step, step_at, called_step, changed_at}
 use Rattle.hp_walk.specs.declared.step.Step.{Step as Ask}
 use Rattle.hp_walk.specs.declared.step.Step.TheVariants as ask
 use Rattle.hp_walk.specs.Keys.{keys_by}
@@ -67,23 +80,27 @@ abbrev pub IsCounted : ℕ → Option Step → Type 0
 IsCounted events None = Unit {0}
 IsCounted events (Some step) = step.kept.made ≤ events
 
--- the most entries of a walk, where no state has an instance list
+-- how many keys the states of the table have
+abbrev pub key_total : List (Option Step) → ℕ
+key_total places = sum_by keys_of places
+
+-- the most entries of a walk, with the most keys that the operations of a script can make
 abbrev pub walk_room : ℕ
-walk_room = 3 * ONLINE
+walk_room = 3 * MAX_PLAYED
 
 -- how many events the operation in flight makes at most from here on
-abbrev pub events_left : Due → (cpus : ℕ) → List (Option Step) → ℕ
-events_left Operation cpus places = 0
-events_left (Adding state cpu value) cpus places = (cpus - cpu) + 1
-events_left (Added state value) cpus places = 1
-events_left (Walk cpu to) cpus places = walk_room + 3
-events_left (Walking cpu to walk) cpus places = entries_left (keys_by places) walk + 2
-events_left (End answer) cpus places = 1
+abbrev pub events_left : Due → (absent settled : List ℕ) → List (Option Step) → ℕ
+events_left Operation absent settled places = 0
+events_left (Registering op state reg) absent settled places =
+    calls_left (key_at places reg) (cpus_at settled absent reg) reg + 1
+events_left (Walk cpu to) absent settled places = walk_room + 3
+events_left (Walking cpu to walk) absent settled places = entries_left (keys_by places) walk + 2
+events_left (End answer) absent settled places = 1
 
 -- the same with the operation that may begin, if it has not
-abbrev pub work : Due → (cpus : ℕ) → List (Option Step) → ℕ
-work Operation cpus places = walk_room + 4
-work due cpus places = events_left due cpus places
+abbrev pub work : Due → (absent settled : List ℕ) → List (Option Step) → ℕ
+work Operation absent settled places = walk_room + 4
+work due absent settled places = events_left due absent settled places
 
 -- who makes an entry: at an AP state the processor's own seat, else the client's, which is the one after those
 abbrev pub seat_at : (cpus cpu state : ℕ) → ℕ
@@ -94,14 +111,19 @@ abbrev pub is_ap_call : Ask → Bool
 is_ap_call (ask.Call key d place first) = is_ap_state key.state
 is_ap_call (ask.Ended answer) = false
 
+-- and whether a registration does: an entry that isn't presumed
+abbrev pub is_ap_entry : (nocalls : Bool) → RegAsk → Bool
+is_ap_entry nocalls (regask.Call cpu key d place) = not nocalls && is_ap_state key.state
+is_ap_entry nocalls (regask.Ended answer) = false
+
 -- whether the next event is made by a processor's own seat
-abbrev pub is_entry : Due → List (Option Step) → Bool
-is_entry Operation places = false
-is_entry (Adding state cpu value) places = is_ap_state state
-is_entry (Added state value) places = false
-is_entry (Walk cpu to) places = false
-is_entry (Walking cpu to walk) places = is_ap_call (asked (keys_by places) walk)
-is_entry (End answer) places = false
+abbrev pub is_entry : Due → (absent settled : List ℕ) → List (Option Step) → Bool
+is_entry Operation absent settled places = false
+is_entry (Registering op state reg) absent settled places =
+    is_ap_entry (is_nocalls op) (asked_of (key_at places reg) (cpus_at settled absent reg) reg)
+is_entry (Walk cpu to) absent settled places = false
+is_entry (Walking cpu to walk) absent settled places = is_ap_call (asked (keys_by places) walk)
+is_entry (End answer) absent settled places = false
 
 -- a walk asks for this entry
 abbrev pub Asks : Ask → Key → Dir → Place → Type 0
@@ -123,41 +145,20 @@ is_in_flight _ = true
 -- whether what comes next is of an operation
 abbrev pub is_of : Op → Due → Bool
 is_of op Operation = true
-is_of op (Adding state cpu value) = is_registration_op op
-is_of op (Added state value) = is_registration_op op
+is_of op (Registering asked state reg) = is_registration_op op
 is_of op (Walk cpu to) = is_map_op op
 is_of op (Walking cpu to walk) = is_map_op op
 is_of op (End answer) = is_map_op op
 
--- the operations that the machine plays: a setup of the form, with its hook, an up and a down
+-- the operations that the machine plays: those of the form, a setup with its hook and the others without one
 abbrev pub IsPlayable : Op → (subs : ℕ) → (hook : Bool) → Type 0
-IsPlayable (Setup state sub form) subs hook = IsSetup subs (Setup state sub form) × IsTrue hook
-IsPlayable (UpOf cpu) subs hook = Unit {0}
-IsPlayable (DownOf cpu) subs hook = Unit {0}
-IsPlayable _ subs hook = ⊥
-
-abbrev pub is_setup : Op → Bool
-is_setup (Setup state sub form) = true
-is_setup _ = false
-
--- setups come first
-pub record IsOrdered (ops : List Op) : Type 0 where
-  pub setups : List Op
-  pub walks : List Op
-  pub ops_are : ops ≡ setups ++ walks
-  pub all_setups : All (λ op. is_setup op ≡ true) setups
-  pub no_setups : All (λ op. is_setup op ≡ false) walks
-
--- the same for an operation that is given its hook
-abbrev pub IsPlayableIn : (subs : ℕ) → Op → Type 0
-IsPlayableIn subs op = IsPlayable op subs true
+IsPlayable op subs hook = IsOp subs op × (hook ≡ is_setup op)
 
 -- the processors and states that come next are there
 abbrev pub IsInRange : Due → (cpus : ℕ) → List (Option Step) → Type 0
 IsInRange Operation cpus places = Unit {0}
-IsInRange (Adding state cpu value) cpus places =
-    (cpu < cpus) × (state ≤ ONLINE) × IsSome (step_at places state) × (value ≤ ONLINE)
-IsInRange (Added state value) cpus places = (state ≤ ONLINE) × IsSome (step_at places state) × (value ≤ ONLINE)
+IsInRange (Registering op state reg) cpus places =
+    (state ≤ ONLINE) × IsSome (step_at places state) × (reg.op ≡ op) × (reg.state ≡ state)
 IsInRange (Walk cpu to) cpus places = (cpu < cpus) × (to ≤ ONLINE)
 IsInRange (Walking cpu to walk) cpus places = (cpu < cpus) × (to ≤ ONLINE) × IsWithin (keys_by places) walk
 IsInRange (End answer) cpus places = Unit {0}
@@ -167,5 +168,33 @@ pub record IsReady (journal : Story) (settled : List ℕ) (places : List (Option
   pub few_cpus : length settled ≤ MAX_CPUS
   pub states : length places ≡ ONLINE + 1
   pub in_range : IsInRange due (length settled) places
-  pub room : events_left due (length settled) places ≤ journal.promised
+  pub room : events_left due journal.head.absent settled places ≤ journal.promised
+  pub few_keys : key_total places ≤ MAX_PLAYED
   pub counted : (s : ℕ) → IsCounted (length journal.events) (step_at places s)
+
+-- whether a registration has the form for callers in a read section of their own
+abbrev pub is_locked : Op → Bool
+is_locked (op.Setup state sub form) = form.locked
+is_locked (op.Remove state form) = form.locked
+is_locked (op.Add state inst form) = form.locked
+is_locked (op.Del state inst form) = form.locked
+is_locked _ = false
+
+-- whether what an operation has in the table leaves it at its end: what a faulted one added, and what an Ok one removes
+abbrev pub leaves : Op → Answer → Bool
+leaves op answer = if is_adding op then not (is_ok answer) else is_ok answer
+
+-- the table without the state of an operation, or without its instance
+abbrev pub taken_out : Op → (state : ℕ) → List (Option Step) → List (Option Step)
+taken_out (op.Add s inst form) state places = changed_at places state (without_instance inst)
+taken_out (op.Del s inst form) state places = changed_at places state (without_instance inst)
+taken_out _ state places = slice_set places state None
+
+-- a registration that has no entry yet
+pub record IsBegun (op : Op) (state : ℕ) (reg : Progress) : Type 0 where
+  pub progress : (reg.op ≡ op) × (reg.state ≡ state)
+  pub after : (key : Option ℕ) (cpus : List ℕ) → AllPairs (λ c d. c < d) cpus → IsAfter_of key cpus [] reg
+  pub few : (key : Option ℕ) (cpus : List ℕ) → calls_left key cpus reg ≤ 2 * length cpus - 1
+
+abbrev pub IsStart : Op → (state : ℕ) → Due → Type 0
+IsStart op state due = (reg : Progress) × (due ≡ Registering op state reg) × IsBegun op state reg

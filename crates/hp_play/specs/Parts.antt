@@ -1,16 +1,14 @@
 -- What is so of a machine, and what a turn makes of it. This project's own.
-use Rattle.std.specs.Prelude.{◌≡◌, ℕ, ◌+◌, ◌<◌, ◌≤◌, Bool, true, false, ◌&&◌, not, is_some, if◌then◌else◌, Option, Some, None, List, [], length, slice_index}
-use Rattle.hp_states.specs.declared.limits.TheConstants.{OFFLINE, ONLINE}
+use Rattle.std.specs.Prelude.{◌≡◌, ℕ, ◌+◌, ◌<◌, ◌≤◌, Bool, true, false, is_some, if◌then◌else◌, Option, Some, None, List, [], length}
 use Rattle.hp_event.specs.declared.event.Op.{Op}
-use Rattle.hp_event.specs.declared.event.Op.TheVariants.{Setup}
 use Rattle.hp_model.specs.Resolved.{resolved}
-use Rattle.hp_table.specs.Named.{is_named}
-use Rattle.hp_play.specs.Form.{plain}
+use Rattle.hp_model.specs.Registered.{registered}
+use Rattle.hp_table.specs.Step.{step_at}
 use Rattle.hp_model.specs.Refusals.{refusal}
 use Rattle.hp_play.specs.declared.due.Due.TheVariants.{Operation}
 use Rattle.hp_play.specs.declared.machine.Machine.{Machine}
-use Rattle.hp_play.specs.Machine.{IsReady, work, is_of, is_in_flight, is_setup}
-use Rattle.hp_play.specs.Tied.{IsTied, IsEntered, is_at}
+use Rattle.hp_play.specs.Machine.{IsReady, work, is_entry, is_of, is_in_flight, key_total}
+use Rattle.hp_play.specs.Tied.{IsTied, IsEntered, registered_by}
 use Rattle.hp_model.specs.Walks.{walking}
 use Rattle.hp_model.specs.StandsOperations.{OpEnds}
 use Rattle.hp_event.specs.declared.event.Answer.{Answer}
@@ -39,14 +37,19 @@ GoesOn op answers old new = Plays old.journal.head op answers old.journal.events
 
 -- what is left to do in the operation
 abbrev pub work_of : {H : Type 0} → Machine H → ℕ
-work_of m = work m.due (length m.settled.items) m.table
+work_of m = work m.due m.journal.head.absent m.settled.items m.table
+
+-- whether the next event is made by a processor's own seat
+abbrev pub is_entry_of : {H : Type 0} → Machine H → Bool
+is_entry_of m = is_entry m.due m.journal.head.absent m.settled.items m.table
 
 -- the hooks that its states have
 abbrev pub hooks_of : {H : Type 0} → Machine H → ℕ
 hooks_of m = length (made_of m.table)
 
 -- Turns of an operation, which answer it or not: what was played is of this operation, and if it isn't answered, then
--- something is due of it, and less than before is left. A setup leaves the processors where they stand.
+-- something is due of it, and less than before is left. The
+-- begin of an operation makes one key more at most.
 pub record Advances {H : Type 0} (op : Op) (answers : Bool) (old new : Machine H) : Type 0 where
   pub ready : Ready new
   pub tied : Tied new
@@ -55,7 +58,7 @@ pub record Advances {H : Type 0} (op : Op) (answers : Bool) (old new : Machine H
   pub of : is_of op new.due ≡ true
   pub free : answers ≡ true → new.due ≡ Operation
   pub flight : answers ≡ false → is_in_flight new.due ≡ true
-  pub stays : is_setup op ≡ true → new.settled ≡ old.settled
+  pub keys : key_total new.table ≤ key_total old.table + (if is_in_flight old.due then 0 else 1)
   pub less : answers ≡ false → work_of new < work_of old
 
 -- A turn in which a seat, a processor's or the client's, makes an entry of the operation in flight.
@@ -66,33 +69,21 @@ pub record Enters {H : Type 0} (old new : Machine H) : Type 0 where
   pub goes : (op : Op) → GoesOn op false old new
   pub of : (op : Op) → is_of op old.due ≡ true → is_of op new.due ≡ true
   pub flight : is_in_flight new.due ≡ true
-  pub stays : new.settled ≡ old.settled
+  pub keys : key_total new.table ≤ key_total old.table
   pub less : work_of new < work_of old
 
--- whether an operation registers its state: it is a setup that isn't refused
-abbrev pub registers : {H : Type 0} → Op → Machine H → Bool
-registers op m =
-    is_setup op && not (is_some (refusal m.journal.head m.journal.events m.journal.head.possible op))
+-- a hook that isn't with the machine
+abbrev pub held : {H : Type 0} → Option H → ℕ
+held hook = if is_some hook then 1 else 0
 
--- what is left of an operation's hook, which the state has taken or not
-abbrev pub left_of : {H : Type 0} → (taken : Bool) → Option H → Option H
-left_of taken hook = if taken then None else hook
+-- no hook is lost: the machine's and the one that is held are as many as before
+abbrev pub KeepsHooks : {H : Type 0} → (old new : Machine H) → (hook hook_now : Option H) → Type 0
+KeepsHooks old new hook hook_now = hooks_of new + held hook_now ≡ hooks_of old + held hook
 
-abbrev pub one_if : Bool → ℕ
-one_if taken = if taken then 1 else 0
-
--- an operation that registers gives its hook to the machine, and any other keeps it
-pub record Gives {H : Type 0} (op : Op) (old new : Machine H) (hook hook_now : Option H) : Type 0 where
-  pub left : hook_now ≡ left_of (registers op old) hook
-  pub taken : hooks_of new ≡ hooks_of old + one_if (registers op old)
-
--- a setup that isn't refused, and the state that it registers: nothing is there, and it has no name from the start
-pub record Resolves {H : Type 0} (m : Machine H) (asked sub state : ℕ) : Type 0 where
-  pub passes : refusal m.journal.head m.journal.events m.journal.head.possible (Setup asked sub plain) ≡ None
-  pub state_is : resolved m.journal.head m.journal.events (Setup asked sub plain) ≡ Some state
-  pub above : OFFLINE < state
-  pub below : state < ONLINE
-  pub unnamed : is_named m.table state ≡ false
+-- a registration that isn't refused: the state that it registers or changes
+pub record Resolves {H : Type 0} (m : Machine H) (op : Op) (state : ℕ) : Type 0 where
+  pub passes : refusal m.journal.head m.journal.events m.journal.head.possible op ≡ None
+  pub state_is : resolved m.journal.head m.journal.events op ≡ Some state
 
 -- an operation of the map lock whose end with this answer stands, and no walk of it is in flight
 pub record CanEnd {H : Type 0} (m : Machine H) (answer : Answer) : Type 0 where
@@ -101,12 +92,8 @@ pub record CanEnd {H : Type 0} (m : Machine H) (answer : Answer) : Type 0 where
   pub entered : IsEntered m.journal.head m.journal.events cpu to
   pub no_walk : walking m.journal.events ≡ []
   pub stands : OpEnds m.journal.head m.journal.events m.journal.head.possible answer
-  pub elsewhere : (s : ℕ) → is_at m.due s ≡ false
+  pub elsewhere : (s : ℕ) → registered m.journal.head s m.journal.events ≡ registered_by (step_at m.table s)
   pub room : 1 ≤ m.journal.promised
-
--- all processors but the first are down
-abbrev pub IsEarly : {H : Type 0} → Machine H → Type 0
-IsEarly m = (c : ℕ) → 0 < c → c < length m.settled.items → slice_index m.settled.items c ≡ OFFLINE
 
 -- a machine that played the operations of a head's actor: its journal is one of them, and nothing is in flight
 pub record HasRun {H : Type 0} (head : Head) (ops : List Op) (m : Machine H) : Type 0 where

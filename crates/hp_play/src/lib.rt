@@ -28,6 +28,10 @@ mod tests_reader;
 #[cfg(test)]
 mod tests_refusals;
 #[cfg(test)]
+mod tests_registrations;
+#[cfg(test)]
+mod tests_removes;
+#[cfg(test)]
 mod tests_rules;
 #[cfg(test)]
 mod tests_states;

@@ -9,9 +9,8 @@ ghost use Rattle.hp_event.specs.declared.event.Op.{Op as AnOp};
 ghost use Rattle.hp_model.specs.Subsystems.{names_sub};
 ghost use Rattle.hp_model.specs.Refusals.{refusal};
 ghost use Rattle.hp_states.specs.Sections.{can_fail};
-ghost use Rattle.hp_play.specs.Machine.{IsCounted, entered_step, has_callback_by, how_by, is_in_flight, pushed, seat_at};
+ghost use Rattle.hp_play.specs.Machine.{IsCounted, entered_step, has_callback_by, how_by, is_in_flight, key_total, pushed, seat_at};
 ghost use Rattle.hp_table.specs.Step.{step_at, changed_at};
-ghost use Rattle.hp_table.specs.Instances.{instances_at};
 ghost use Rattle.hp_play.specs.Tied.{IsPlainHead, IsNew};
 ghost use Rattle.hp_model.specs.Heads.{IsHead};
 ghost use Rattle.hp_model.specs.Run.{admissions};
@@ -21,20 +20,22 @@ ghost use Rattle.hp_play.specs.Parts.{Ready, Tied, Advances, hooks_of};
 
 use crate::command::Command;
 use crate::due::Due;
-use crate::hooks::{keep, take_hook};
+use crate::hooks::{keep, retire_hook};
+use crate::limits::MAX_PLAYED;
 use hp_event::{Event, Head, How, Journal, JournalError, Key, NoMemory, Op, Role};
 use hp_hook::{Hook, Rack};
 use hp_states::{Dir, MAX_CPUS, MAX_EVENTS, OFFLINE, ONLINE, Place, is_ap, may_fail};
 use hp_table::Table;
 use std::alloc::Global;
 
+mod begins;
+mod registering;
 mod rounds;
-mod setup;
 mod walk;
 
 /// The most events of an operation: a walk of n keys has at most 3n entries, and its operation four
-/// events besides.
-pub const OPERATION_ROOM: u32 = 3 * ONLINE + 4;
+/// events besides. There are no more keys than operations.
+pub const OPERATION_ROOM: u32 = 3 * MAX_PLAYED + 4;
 
 /// A machine of present processors: where each stands, what is registered, and the journal.
 #[derive(Drop)]
@@ -81,9 +82,9 @@ impl<H: Hook> Machine<H> {
             ≡ admissions self.old.journal.head (ops ∷ [])) }
         ensures free { IfOk result (λ _. self.new.due ≡ Due.Operation) }
         ensures hooks { IfOk result (λ _. hooks_of self.new ≡ hooks_of self.old) }
+        ensures keys { IfOk result (λ _. key_total self.new.table ≡ key_total self.old.table) }
         ensures head { self.new.journal.head ≡ self.old.journal.head }
         ensures cpus { length self.new.settled.items ≡ length self.old.settled.items }
-        ensures settled { self.new.settled ≡ self.old.settled }
         ensures few { IfOk result (λ _. (self.new.journal.promised ≡ 0) × (length self.new.journal.events ≤ MAX_CPUS + 1)) }
     {
         let client = self.client();
@@ -115,23 +116,6 @@ impl<H: Hook> Machine<H> {
         ensures { result ≡ slice_index self.now.settled.items cpu }
     {
         self.settled[cpu as usize]
-    }
-
-    /// The first processor from one on that stands at a state or above it, if there is one.
-    fn next_cpu(&self, state: u32, from: u32) -> Option<u32>
-        requires cpus { length self.now.settled.items ≤ MAX_CPUS }
-        ensures found { IfSome result (λ c. (from ≤ c) × (c < length self.now.settled.items)
-            × (state ≤ slice_index self.now.settled.items c)) }
-        ensures first { IfSome result (λ c. (d : ℕ) → from ≤ d → d < c → slice_index self.now.settled.items d < state) }
-        ensures none { IfNone result ((d : ℕ) → from ≤ d → d < length self.now.settled.items →
-            slice_index self.now.settled.items d < state) }
-    {
-        for cpu in from..self.client() {
-            if self.settled[cpu as usize] >= state {
-                return Some(cpu);
-            }
-        }
-        None
     }
 
     /// Who makes an entry on a processor at a state: at an AP state its own seat, else the client's.
@@ -289,7 +273,6 @@ impl<H: Hook> Machine<H> {
     /// The hooks of the registered states go behind those of the rack, in rising state.
     pub fn retire(self, rack: &mut Rack<H>) -> Result<(), NoMemory>
         requires states { length self.table ≡ ONLINE + 1 }
-        requires bare { (s : ℕ) → instances_at self.table s ≡ [] }
         ensures { IfOk result (λ _. map (λ h. H.made h) rack.new.hooks.items
             ≡ map (λ h. H.made h) rack.old.hooks.items ++ made_of self.table) }
     {
@@ -300,7 +283,7 @@ impl<H: Hook> Machine<H> {
             due: _,
         } = self;
         for state in 0..ONLINE + 1 {
-            keep(&mut rack.hooks, take_hook(&mut table, state))?;
+            keep(&mut rack.hooks, retire_hook(&mut table, state))?;
         }
         Ok(())
     }

@@ -2,7 +2,7 @@
 
 ghost use Rattle.std.specs.Prelude.{◌≡◌, ◌+◌, ◌≤◌, IfOk, All, map, length, count_by, vec_len};
 ghost use Rattle.hp_model.specs.Heads.{IsHead};
-ghost use Rattle.hp_play.specs.Machine.{IsOrdered, IsPlayableIn, is_setup};
+ghost use Rattle.hp_play.specs.Form.{IsOp, is_setup};
 ghost use Rattle.hp_play.specs.Main.{WasPlayed};
 ghost use Rattle.hp_play.specs.Parts.{HasRun, Tied, hooks_of};
 ghost use Rattle.hp_play.specs.Racked.{EndsWith, made_of};
@@ -28,8 +28,7 @@ fn run<H: Hook>(
 ) -> Result<(Machine<H>, Vec<H>), NoMemory>
     requires cpus { script.head.possible ≤ MAX_CPUS }
     requires ops { vec_len script.ops ≤ MAX_PLAYED }
-    requires playable { All (IsPlayableIn (length script.head.subs)) script.ops.items }
-    requires ordered { IsOrdered script.ops.items }
+    requires playable { All (IsOp (length script.head.subs)) script.ops.items }
     requires hooks { count_by is_setup script.ops.items ≤ length rack.old.hooks.items }
     requires head { IsHead script.head }
     requires plain { IsPlainHead script.head }
@@ -77,8 +76,7 @@ pub fn play<H: Hook>(
 ) -> Result<Vec<u8>, NoMemory>
     requires cpus { script.head.possible ≤ MAX_CPUS }
     requires ops { vec_len script.ops ≤ MAX_PLAYED }
-    requires playable { All (IsPlayableIn (length script.head.subs)) script.ops.items }
-    requires ordered { IsOrdered script.ops.items }
+    requires playable { All (IsOp (length script.head.subs)) script.ops.items }
     requires hooks { count_by is_setup script.ops.items ≤ length rack.old.hooks.items }
     requires head { IsHead script.head }
     requires plain { IsPlainHead script.head }

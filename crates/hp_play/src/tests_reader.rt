@@ -6,7 +6,8 @@ use hp_states::MAX_SCRIPT_BYTES;
 use std::alloc::{AllocError, Global};
 use std::test::*;
 
-const PLAIN: Form = Form {
+/// No flags.
+pub const PLAIN: Form = Form {
     nocalls: false,
     locked: false,
 };
@@ -261,7 +262,7 @@ fn refused_subsystems(rt: HostRuntime) -> Result<(), Fail> {
 }
 
 /// A head, so many times a line, and a tail.
-fn repeated(
+pub fn repeated(
     alloc: Global,
     head: &[u8],
     line: &[u8],

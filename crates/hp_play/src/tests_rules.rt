@@ -6,19 +6,21 @@ use hp_states::{Dir, Rule};
 use std::alloc::{AllocError, Global};
 use std::test::*;
 
-/// The callbacks and the rules of the first subsystem that the bytes say.
+/// Whether the first subsystem that the bytes say has these callbacks, instances or none, and these
+/// rules.
 fn first_says(
     alloc: Global,
     bytes: &[u8],
     up: bool,
     down: bool,
+    multi: bool,
     rules: &[Rule],
 ) -> Result<bool, ParseError> {
     match parse(alloc, bytes, 1) {
         Ok(script) => match script.head.subs.as_slice() {
             [] => Ok(false),
             [sub, ..] => Ok(
-                sub.up == up && sub.down == down && !sub.multi && sub.plan.rules() == rules,
+                sub.up == up && sub.down == down && sub.multi == multi && sub.plan.rules() == rules,
             ),
         },
         Err(ParseError::NoMemory) => Err(ParseError::NoMemory),
@@ -54,16 +56,43 @@ fn rule(dir: Dir, cpu: u32, inst: Option<u32>, nth: Option<u32>, code: u32) -> R
 
 #[test]
 fn ends_of_the_ranges_of_rules(rt: HostRuntime) -> Result<(), Fail> {
-    let rules: [(&[u8], Rule, &str); 8] = [
+    let rules: [(&[u8], Rule, &str); 11] = [
         (
-            b"rule up 1 * * 1\n",
-            rule(Dir::Up, 1, None, None, 1),
+            b"rule up 0 * * 1\n",
+            rule(Dir::Up, 0, None, None, 1),
             "the lowest processor and code",
         ),
         (
-            b"rule down 63 * * 4095\n",
-            rule(Dir::Down, 63, None, None, 4095),
+            b"rule down 255 * * 4095\n",
+            rule(Dir::Down, 255, None, None, 4095),
             "the highest processor and code",
+        ),
+        (
+            b"rule down 64 * * 5\n",
+            rule(Dir::Down, 64, None, None, 5),
+            "a processor that no machine has",
+        ),
+        (
+            b"rule up * * * 5\n",
+            Rule {
+                dir: Dir::Up,
+                cpu: None,
+                inst: None,
+                nth: None,
+                code: 5,
+            },
+            "any processor",
+        ),
+        (
+            b"rule down * 3 4 5\n",
+            Rule {
+                dir: Dir::Down,
+                cpu: None,
+                inst: Some(3),
+                nth: Some(4),
+                code: 5,
+            },
+            "any processor, and an instance",
         ),
         (
             b"rule up 2 0 * 5\n",
@@ -86,8 +115,8 @@ fn ends_of_the_ranges_of_rules(rt: HostRuntime) -> Result<(), Fail> {
             "the last call",
         ),
         (
-            b"rule up 62 65534 1048575 4094\n",
-            rule(Dir::Up, 62, Some(65_534), Some(1_048_575), 4094),
+            b"rule up 254 65534 1048575 4094\n",
+            rule(Dir::Up, 254, Some(65_534), Some(1_048_575), 4094),
             "below the highest",
         ),
         (
@@ -99,7 +128,7 @@ fn ends_of_the_ranges_of_rules(rt: HostRuntime) -> Result<(), Fail> {
     for (line, rule, why) in rules {
         let bytes = with_lines(rt.alloc(), line)?;
         assert!(rt;
-            first_says(rt.alloc(), &bytes, true, true, &[rule])?,
+            first_says(rt.alloc(), &bytes, true, true, false, &[rule])?,
             "{why}"
         );
     }
@@ -109,9 +138,9 @@ fn ends_of_the_ranges_of_rules(rt: HostRuntime) -> Result<(), Fail> {
 #[test]
 fn refused_rules(rt: HostRuntime) -> Result<(), Fail> {
     let lines: [(&[u8], &str); 28] = [
-        (b"rule up 0 * * 5\n", "the first processor"),
-        (b"rule up 64 * * 5\n", "a processor too high"),
-        (b"rule up * * * 5\n", "any processor"),
+        (b"rule up 256 * * 5\n", "a processor too high"),
+        (b"rule up ** * * 5\n", "two stars"),
+        (b"rule up 1* * * 5\n", "a number and a star"),
         (b"rule up 01 * * 5\n", "a 0 in front of a processor"),
         (b"rule up -1 * * 5\n", "a sign"),
         (b"rule up 1 65536 * 5\n", "an instance too high"),
@@ -187,7 +216,7 @@ fn eight_rules_in_their_order(rt: HostRuntime) -> Result<(), Fail> {
     let lines =
         b"rule up 1 * 1 8\nrule up 1 * 2 7\nrule down 1 * 1 6\nrule up 1 * * 5\nrule up 1 * * 5\nrule down 3 0 * 3\nrule up 2 4 9 2\nrule down 63 * * 1\n".as_slice();
     let most = with_lines(rt.alloc(), lines)?;
-    assert!(rt; first_says(rt.alloc(), &most, true, true, &rules)?);
+    assert!(rt; first_says(rt.alloc(), &most, true, true, false, &rules)?);
     let mut ninth = Vec::from_slice(rt.alloc(), lines)?;
     ninth.extend_from_slice(b"rule up 1 * * 9\n")?;
     let more = with_lines(rt.alloc(), &ninth)?;
@@ -197,7 +226,7 @@ fn eight_rules_in_their_order(rt: HostRuntime) -> Result<(), Fail> {
     again.extend_from_slice(lines)?;
     let two = with_lines(rt.alloc(), &again)?;
     assert!(rt;
-        first_says(rt.alloc(), &two, true, true, &rules)?,
+        first_says(rt.alloc(), &two, true, true, false, &rules)?,
         "of two subsystems"
     );
     Ok(())
@@ -206,7 +235,7 @@ fn eight_rules_in_their_order(rt: HostRuntime) -> Result<(), Fail> {
 #[test]
 fn rules_of_the_second_subsystem(rt: HostRuntime) -> Result<(), Fail> {
     let bytes = b"cpus 2\nsub a up single\nsub b down single\nrule down 1 * * 5\nactor a\n";
-    assert!(rt; first_says(rt.alloc(), bytes, true, false, &[])?);
+    assert!(rt; first_says(rt.alloc(), bytes, true, false, false, &[])?);
     match parse(rt.alloc(), bytes, 1)?.head.subs.as_slice() {
         [_, second] => {
             assert!(rt; !second.up && second.down && second.name.as_slice() == b"b".as_slice());
@@ -218,29 +247,53 @@ fn rules_of_the_second_subsystem(rt: HostRuntime) -> Result<(), Fail> {
 }
 
 #[test]
-fn callbacks(rt: HostRuntime) -> Result<(), Fail> {
-    let words: [(&[u8], bool, bool); 4] = [
-        (b"both single", true, true),
-        (b"up single", true, false),
-        (b"down single", false, true),
-        (b"none single", false, false),
+fn callbacks_and_kinds(rt: HostRuntime) -> Result<(), Fail> {
+    let words: [(&[u8], bool, bool, bool); 8] = [
+        (b"both single", true, true, false),
+        (b"up single", true, false, false),
+        (b"down single", false, true, false),
+        (b"none single", false, false, false),
+        (b"both multi", true, true, true),
+        (b"up multi", true, false, true),
+        (b"down multi", false, true, true),
+        (b"none multi", false, false, true),
     ];
-    for (words, up, down) in words {
+    for (words, up, down, multi) in words {
         let bytes = with_words(rt.alloc(), words)?;
-        assert!(rt; first_says(rt.alloc(), &bytes, up, down, &[])?);
+        assert!(rt; first_says(rt.alloc(), &bytes, up, down, multi, &[])?);
     }
-    let refused: [(&[u8], &str); 12] = [
+    let bytes = b"cpus 2\nsub a up multi\nrule up * 7 * 5\nsub b down single\nactor a\n";
+    let any = Rule {
+        dir: Dir::Up,
+        cpu: None,
+        inst: Some(7),
+        nth: None,
+        code: 5,
+    };
+    assert!(rt;
+        first_says(rt.alloc(), bytes, true, false, true, &[any])?,
+        "instances and a rule"
+    );
+    Ok(())
+}
+
+#[test]
+fn refused_callbacks_and_kinds(rt: HostRuntime) -> Result<(), Fail> {
+    let refused: [(&[u8], &str); 15] = [
         (b"all single", "no word for callbacks"),
         (b"Both single", "a large letter"),
         (b"bothsingle", "no space"),
         (b"both", "a word too few"),
         (b"single", "a word too few"),
+        (b"multi", "a word too few"),
         (b"up down single", "two words for callbacks"),
-        (b"both multi", "instances"),
-        (b"none multi", "instances"),
+        (b"both single multi", "two words for instances"),
+        (b"both many", "no word for instances"),
+        (b"both Multi", "a large letter"),
         (b"both  single", "two spaces"),
+        (b"both  multi", "two spaces"),
         (b" both single", "two spaces"),
-        (b"both single ", "a space at the end"),
+        (b"both multi ", "a space at the end"),
         (b"both single 1", "a word too many"),
     ];
     for (words, why) in refused {

@@ -6,10 +6,11 @@ ghost use Rattle.std.specs.Prelude.{◌≡◌, ◌≤◌, length};
 ghost use Rattle.std.specs.List.{list_all};
 ghost use Rattle.std.specs.Option.{option_map};
 ghost use Rattle.hp_play.specs.Form.{is_name_byte};
-ghost use Rattle.hp_play.specs.Reading.{behind, dir_at, word_to, read_on, number_of, is_name, is_byte, named, is_within, any_of, number_to, number_within, any_within, name_to};
+ghost use Rattle.hp_play.specs.Reading.{behind, dir_at, flags, flags_at, word_to, digits_of, read_on, number_of, is_name, is_byte, named, is_within, any_of, number_to, number_within, number_at, any_within, name_to};
 ghost use Rattle.hp_play.specs.declared.limits.TheConstants.{MAX_DIGITS};
 
 use crate::limits::MAX_DIGITS;
+use hp_event::Form;
 use hp_states::{Dir, MAX_NAME_LEN};
 
 /// The bytes behind this front, where they begin so.
@@ -31,6 +32,30 @@ pub fn dir_at(bytes: &[u8]) -> Option<(Dir, &[u8])>
     Some((Dir::Down, rest))
 }
 
+fn flags(nocalls: bool, locked: bool) -> Form
+    ensures { result ≡ flags nocalls locked }
+{
+    Form { nocalls, locked }
+}
+
+/// The flags of a registration to the end of a line, and the bytes behind the line.
+#[tactic(auto, unfolding(crate::specs::Reading::flags_at))]
+pub fn flags_at(bytes: &[u8]) -> Option<(Form, &[u8])>
+    ensures { option_map (λ x. (x.0, x.1.now)) result ≡ flags_at bytes.now }
+{
+    if let Some(rest) = behind(b"\n", bytes) {
+        return Some((flags(false, false), rest));
+    }
+    if let Some(rest) = behind(b" nocalls\n", bytes) {
+        return Some((flags(true, false), rest));
+    }
+    if let Some(rest) = behind(b" locked\n", bytes) {
+        return Some((flags(false, true), rest));
+    }
+    let rest = behind(b" nocalls locked\n", bytes)?;
+    Some((flags(true, true), rest))
+}
+
 /// The word before the first byte `end`, and the bytes behind that byte, where there is one.
 fn word_to(end: u8, bytes: &[u8]) -> Option<(&[u8], &[u8])>
     ensures { option_map (λ x. (x.0.now, x.1.now)) result ≡ word_to end bytes.now }
@@ -41,6 +66,18 @@ fn word_to(end: u8, bytes: &[u8]) -> Option<(&[u8], &[u8])>
         }
     }
     None
+}
+
+/// The digits at the front, and the bytes behind them.
+fn digits_of(bytes: &[u8]) -> (&[u8], &[u8])
+    ensures { (result.0.now, result.1.now) ≡ digits_of bytes.now }
+{
+    for (i, byte) in bytes.iter().enumerate() {
+        if !byte.is_ascii_digit() {
+            return (&bytes[..i], &bytes[i..]);
+        }
+    }
+    (bytes, &[])
 }
 
 /// The number that digits say, of which there are few enough.
@@ -112,6 +149,20 @@ pub fn number_within(end: u8, low: u32, high: u32, bytes: &[u8]) -> Option<(u32,
     ensures { option_map (λ x. (x.0, x.1.now)) result ≡ number_within end low high bytes.now }
 {
     let (number, rest) = number_to(end, bytes)?;
+    if is_within(low, high, number) {
+        Some((number, rest))
+    } else {
+        None
+    }
+}
+
+/// The number in this range that the digits at the front say, and the bytes behind them.
+#[tactic(auto, unfolding(crate::specs::Reading::number_at))]
+pub fn number_at(low: u32, high: u32, bytes: &[u8]) -> Option<(u32, &[u8])>
+    ensures { option_map (λ x. (x.0, x.1.now)) result ≡ number_at low high bytes.now }
+{
+    let (digits, rest) = digits_of(bytes);
+    let number = number_of(digits)?;
     if is_within(low, high, number) {
         Some((number, rest))
     } else {

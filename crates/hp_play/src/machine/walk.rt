@@ -6,8 +6,8 @@ ghost use Rattle.hp_event.specs.declared.event.Op.{Op as AnOp};
 ghost use Rattle.hp_model.specs.MapLock.{is_map_op};
 ghost use Rattle.hp_model.specs.Processors.{online};
 ghost use Rattle.hp_model.specs.Refusals.{Passes};
-ghost use Rattle.hp_play.specs.Machine.{Asks, is_entry, stands_after};
-ghost use Rattle.hp_play.specs.Parts.{Ready, Tied, Advances, CanEnd, Enters, hooks_of};
+ghost use Rattle.hp_play.specs.Machine.{Asks, stands_after};
+ghost use Rattle.hp_play.specs.Parts.{Ready, Tied, Advances, CanEnd, Enters, hooks_of, is_entry_of};
 ghost use Rattle.hp_play.specs.Tied.{Leads};
 ghost use Rattle.hp_walk.specs.declared.step.Step.TheVariants as ask;
 ghost use Rattle.hp_walk.specs.Asked.{asked};
@@ -139,8 +139,8 @@ impl<H: Hook> Machine<H> {
         requires tied { Tied self.old }
         requires due { self.old.due ≡ Due.Walking cpu to walk }
         requires op { is_map_op op ≡ true }
-        ensures turns { is_entry self.old.due self.old.table ≡ false → Advances op false self.old self.new }
-        ensures idle { is_entry self.old.due self.old.table ≡ true → self.new ≡ self.old }
+        ensures turns { is_entry_of self.old ≡ false → Advances op false self.old self.new }
+        ensures idle { is_entry_of self.old ≡ true → self.new ≡ self.old }
         ensures hooks { hooks_of self.new ≡ hooks_of self.old }
     {
         match walk.next(&self.table) {

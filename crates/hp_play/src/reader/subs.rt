@@ -2,13 +2,13 @@
 
 ghost use Rattle.std.specs.Prelude.{◌≡◌, length, IfOk};
 ghost use Rattle.std.specs.Option.{option_map};
-ghost use Rattle.hp_play.specs.Reading.{calls_at, rule_at, title_at, sub_at, run_of};
+ghost use Rattle.hp_play.specs.Reading.{calls_at, kind_at, rule_at, title_at, sub_at, run_of};
 ghost use Rattle.hp_states.specs.declared.limits.TheConstants.{MAX_SUBS, MAX_RULES};
 
 use crate::words::{any_within, behind, dir_at, name_to, named, number_within};
 use hp_event::{Name, NoMemory, Sub, Subs};
 use hp_states::{
-    HookPlan, MAX_CODE, MAX_CPUS, MAX_EVENTS, MAX_INSTANCE, MAX_RULES, MAX_SUBS, Rule,
+    HookPlan, MAX_CODE, MAX_EVENTS, MAX_INSTANCE, MAX_RULE_CPU, MAX_RULES, MAX_SUBS, Rule,
 };
 use std::alloc::Global;
 
@@ -31,6 +31,19 @@ fn calls_at(bytes: &[u8]) -> Option<((bool, bool), &[u8])>
     Some(((false, false), rest))
 }
 
+/// The word for whether a subsystem's states have instances, to the end of a line, and the bytes
+/// behind the line.
+#[tactic(auto, unfolding(crate::specs::Reading::kind_at))]
+fn kind_at(bytes: &[u8]) -> Option<(bool, &[u8])>
+    ensures { option_map (λ x. (x.0, x.1.now)) result ≡ kind_at bytes.now }
+{
+    if let Some(rest) = behind(b"single\n", bytes) {
+        return Some((false, rest));
+    }
+    let rest = behind(b"multi\n", bytes)?;
+    Some((true, rest))
+}
+
 /// The line `rule DIR C INST NTH CODE`: the rule, and the bytes behind the line.
 #[tactic(auto, unfolding(crate::specs::Reading::rule_at))]
 fn rule_at(bytes: &[u8]) -> Option<(Rule, &[u8])>
@@ -38,13 +51,13 @@ fn rule_at(bytes: &[u8]) -> Option<(Rule, &[u8])>
 {
     let rest = behind(b"rule ", bytes)?;
     let (dir, rest) = dir_at(rest)?;
-    let (cpu, rest) = number_within(b' ', 1, MAX_CPUS - 1, rest)?;
+    let (cpu, rest) = any_within(b' ', 0, MAX_RULE_CPU, rest)?;
     let (inst, rest) = any_within(b' ', 0, MAX_INSTANCE, rest)?;
     let (nth, rest) = any_within(b' ', 1, MAX_EVENTS, rest)?;
     let (code, rest) = number_within(b'\n', 1, MAX_CODE, rest)?;
     let rule = Rule {
         dir,
-        cpu: Some(cpu),
+        cpu,
         inst,
         nth,
         code,
@@ -69,17 +82,17 @@ fn rules_of(bytes: &[u8]) -> (HookPlan, &[u8])
     (plan, rest)
 }
 
-/// The line `sub NAME CALLS single`: the word for the name, whether there is a startup and a
-/// teardown, and the bytes behind the line.
+/// The line `sub NAME CALLS KIND`: the word for the name, whether there is a startup and a
+/// teardown, whether there are instances, and the bytes behind the line.
 #[tactic(auto, unfolding(crate::specs::Reading::title_at))]
-fn title_at(bytes: &[u8]) -> Option<(&[u8], (bool, bool), &[u8])>
-    ensures { option_map (λ x. (x.0.now, x.1, x.2.now)) result ≡ title_at bytes.now }
+fn title_at(bytes: &[u8]) -> Option<(&[u8], (bool, bool), bool, &[u8])>
+    ensures { option_map (λ x. (x.0.now, x.1, x.2, x.3.now)) result ≡ title_at bytes.now }
 {
     let rest = behind(b"sub ", bytes)?;
     let (word, rest) = name_to(b' ', rest)?;
     let (calls, rest) = calls_at(rest)?;
-    let rest = behind(b"single\n", rest)?;
-    Some((word, calls, rest))
+    let (multi, rest) = kind_at(rest)?;
+    Some((word, calls, multi, rest))
 }
 
 /// The line of a subsystem and those of its rules: the subsystem, and the bytes behind the lines.
@@ -87,7 +100,7 @@ fn title_at(bytes: &[u8]) -> Option<(&[u8], (bool, bool), &[u8])>
 fn sub_at(alloc: Global, bytes: &[u8]) -> Result<Option<(Sub, &[u8])>, NoMemory>
     ensures { IfOk result (λ read. option_map (λ x. (x.0, x.1.now)) read ≡ sub_at bytes.now) }
 {
-    let Some((word, (up, down), rest)) = title_at(bytes) else {
+    let Some((word, (up, down), multi, rest)) = title_at(bytes) else {
         return Ok(None);
     };
     let name = Vec::from_slice(alloc, named(word))?;
@@ -96,7 +109,7 @@ fn sub_at(alloc: Global, bytes: &[u8]) -> Result<Option<(Sub, &[u8])>, NoMemory>
         name: Name::from_vec(name),
         up,
         down,
-        multi: false,
+        multi,
         plan,
     };
     Ok(Some((sub, rest)))

@@ -1,11 +1,8 @@
 -- The rack ends with the hooks of the registered states.
 use Rattle.std.proofs.Common.{rules, ◌≡◌, ◌+◌, length, arith}
 use Rattle.hp_play.specs.Parts.{hooks_of}
-use Rattle.hp_play.proofs.RackLaws.{bare_all, as_many, ends_so}
+use Rattle.hp_play.proofs.RackLaws.{as_many, ends_so}
 use Rattle.hp_play.proofs.run.put_back.Goals as goal
-
-pub retire-requires-clause-bare : goal.retire-requires-clause-bare
-retire-requires-clause-bare g c = bare_all _ _ _ _ _ c.requires.tied
 
 pub returns-clause-whole : goal.returns-clause-whole
 returns-clause-whole g c =

@@ -1,17 +1,14 @@
 -- Each operation is playable and its hook is there; together they are the actor's run.
 use Rattle.std.proofs.Common.{rules, ◌≡◌, sym, ap, ◌∙◌, length, arith}
-use Rattle.hp_play.proofs.Playable.{playable_at, setups_left, setups_from, still_setup}
-use Rattle.hp_play.proofs.Seated.{early_first}
+use Rattle.hp_play.proofs.Playable.{playable_at, setups_left}
 use Rattle.hp_play.proofs.PlayedRun.{played_first, played_more, played_all, op_at}
 use Rattle.hp_play.proofs.RackLaws.{length_with, none_lost}
+use Rattle.hp_play.proofs.KeyTotals.{no_keys}
 use Rattle.hp_play.proofs.run.run.Goals as goal
 
 pub operate-requires-clause-op : goal.operate-requires-clause-op
 operate-requires-clause-op g c =
     playable_at _ _ _ _ _ _ _ c.loop-op.invariant.items (ap (λ h. length h.subs) c.loop-op.invariant.head) c.requires.playable c.loop-op-test.true c.hook_for-hook.ensures.setup
-
-pub operate-requires-clause-early : goal.operate-requires-clause-early
-operate-requires-clause-early g c = λ setup. c.loop-op.invariant.early (setups_from _ _ _ c.loop-op-test.true setup)
 
 pub loop-op-init : goal.loop-op-init
 loop-op-init g c =
@@ -23,9 +20,11 @@ loop-op-init g c =
       none = search rules;
       head = search rules;
       few = search rules;
+      keys =
+          let none = no_keys _ c.in_ok-machine.ensures.new.vacant in
+          omega (arith, c.in_ok-admit_all.ensures.keys, none);
       items = search rules;
       hooks = search rules;
-      early = λ some. early_first _ _ _ _ c.in_ok-machine.ensures.new (ap (λ v. v.items) c.in_ok-admit_all.ensures.settled) (rw c.in_ok-machine.ensures.journal at c.in_ok-machine.ensures.ready.cpus);
       whole = search rules;
     }
 
@@ -42,16 +41,11 @@ loop-op-preserved g c =
       few = omega (arith, c.in_ok-operate.ensures.few, c.loop-op.invariant.few);
       items = c.loop-op.invariant.items;
       hooks = setups_left _ _ _ _ _ c.loop-op-test.true c.loop-op.invariant.hooks (sym (rw c.hook_for-hook.ensures.setup at taken));
-      early = λ some.
-          let first = still_setup _ _ _ _ c.requires.ordered c.loop-op.invariant.items c.loop-op-test.true some in
-          let before = c.loop-op.invariant.early (setups_from _ _ _ c.loop-op-test.true first) in
-          rw (c.in_ok-operate.ensures.stays first) before;
+      keys = omega (arith, c.in_ok-operate.ensures.keys, c.loop-op.invariant.keys);
       whole =
-          rw
-          (none_lost _ _ _ _ _ _ _ _ _ _ c.hook_for-hook.ensures.setup taken c.in_ok-operate.ensures.gives.left
-          c.in_ok-operate.ensures.gives.taken
-          (length_with _ _ _ c.in_ok-keep.ensures.last c.in_ok-keep.ensures.none))
-          c.loop-op.invariant.whole;
+          none_lost _ _ _ _ _ _ _ _ taken c.in_ok-operate.ensures.hooks
+          (length_with _ _ _ c.in_ok-keep.ensures.last c.in_ok-keep.ensures.none)
+          ∙ c.loop-op.invariant.whole;
     }
 
 pub returns-clause-ran : goal.returns-clause-ran

@@ -1,8 +1,10 @@
-use Rattle.std.proofs.Common.{◌≡◌, ◌+◌, ◌*◌, ◌<◌, ◌≤◌, length, drop, count_by}
-use Rattle.hp_states.specs.declared.limits.TheConstants.{MAX_CPUS, ONLINE}
+use Rattle.std.proofs.Common.{◌≡◌, ◌+◌, ◌*◌, ◌≤◌, length, drop, count_by}
+use Rattle.hp_states.specs.declared.limits.TheConstants.{MAX_CPUS}
 use Rattle.hp_play.specs.declared.due.Due.TheVariants.{Operation}
-use Rattle.hp_play.specs.Machine.{is_setup}
-use Rattle.hp_play.specs.Parts.{Ready, Tied, IsEarly, hooks_of}
+use Rattle.hp_play.specs.declared.machine.TheConstants.{OPERATION_ROOM}
+use Rattle.hp_play.specs.Form.{is_setup}
+use Rattle.hp_play.specs.Machine.{key_total}
+use Rattle.hp_play.specs.Parts.{Ready, Tied, hooks_of}
 use Rattle.hp_play.specs.Plays.{HasPlayed}
 use Rattle.hp_play.proofs.run.run.Given as goal
 
@@ -15,9 +17,9 @@ invariant-loop-op g l =
       free : l.machine.due ≡ Operation;
       none : l.machine.journal.promised ≡ 0;
       head : l.machine.journal.head ≡ l.fn.script.head;
-      few : length l.machine.journal.events ≤ (MAX_CPUS + 1) + l.op-index * (3 * ONLINE + 4);
+      few : length l.machine.journal.events ≤ (MAX_CPUS + 1) + l.op-index * OPERATION_ROOM;
+      keys : key_total l.machine.table ≤ l.op-index;
       items : l.op-items ≡ l.fn.script.ops.items;
       hooks : count_by is_setup (drop l.op-index l.op-items) ≤ length l.rack.hooks.items;
-      early : 0 < count_by is_setup (drop l.op-index l.op-items) → IsEarly l.machine;
       whole : length l.rack.hooks.items + length l.spent.items + hooks_of l.machine ≡ length l.fn.rack.hooks.items;
     }

@@ -3,10 +3,9 @@ use Rattle.std.proofs.Common.{ℕ, ◌≤◌, List, length, count_by, sym, ap, s
 use Rattle.std.specs.List.{All}
 use Rattle.hp_event.specs.declared.event.Op.{Op}
 use Rattle.hp_play.specs.declared.script.Script.{Script}
-use Rattle.hp_play.specs.Machine.{IsOrdered, IsPlayableIn, is_setup}
 use Rattle.hp_play.specs.Parsed.{Reads}
-use Rattle.hp_play.specs.Form.{head_of}
-use Rattle.hp_play.proofs.Playable.{form_playable, form_hooks, form_ordered}
+use Rattle.hp_play.specs.Form.{IsOp, head_of, is_setup}
+use Rattle.hp_play.proofs.Playable.{form_playable, form_hooks}
 use Rattle.hp_event.specs.declared.head.Head.{Head}
 use Rattle.hp_model.specs.Heads.{IsHead}
 use Rattle.hp_play.specs.Tied.{IsPlainHead}
@@ -14,10 +13,10 @@ use Rattle.hp_play.proofs.FormHeads.{head_is, plain_head}
 use Rattle.hp_play.proofs.top.text_of_script.Goals as goal
 
 playable : (hooks : ℕ) (bytes : List ℕ) (script : Script) → Reads hooks bytes script
-    → All (IsPlayableIn (length script.head.subs)) script.ops.items
+    → All (IsOp (length script.head.subs)) script.ops.items
 playable hooks bytes script reads =
-    let P : ℕ → Type 0 = λ n. All (IsPlayableIn n) script.ops.items in
-    let Q : List Op → Type 0 = λ ops. All (IsPlayableIn (length (head_of reads.lines).subs)) ops in
+    let P : ℕ → Type 0 = λ n. All (IsOp n) script.ops.items in
+    let Q : List Op → Type 0 = λ ops. All (IsOp (length (head_of reads.lines).subs)) ops in
     subst P (sym (ap (λ h. length h.subs) reads.says.head))
     (subst Q (sym reads.says.ops) (form_playable hooks reads.lines reads.of_form.form))
 
@@ -28,12 +27,6 @@ enough hooks bytes script reads =
 
 pub play-requires-clause-playable : goal.play-requires-clause-playable
 play-requires-clause-playable g c = playable _ _ _ c.in-Ok.ensures.found
-
-pub play-requires-clause-ordered : goal.play-requires-clause-ordered
-play-requires-clause-ordered g c =
-    let reads = c.in-Ok.ensures.found in
-    let P : List Op → Type 0 = λ ops. IsOrdered ops in
-    subst P (sym reads.says.ops) (form_ordered _ reads.lines reads.of_form.form)
 
 pub play-requires-clause-hooks : goal.play-requires-clause-hooks
 play-requires-clause-hooks g c =

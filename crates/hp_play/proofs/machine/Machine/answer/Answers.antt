@@ -25,6 +25,6 @@ returns-clause-turns g c =
       of = refl;
       free = λ _. refl;
       flight = grind (arith, common_steps);
-      stays = λ _. refl;
+      keys = omega arith;
       less = grind (arith, common_steps);
     }

@@ -3,8 +3,7 @@ use Rattle.std.proofs.Common.{◌≡◌, ℕ, ◌<◌, ◌≤◌, false, ◌++�
 use Rattle.std.proofs.lemmas.Grind.{common_steps}
 use Rattle.hp_states.specs.declared.limits.TheConstants.{ONLINE}
 use Rattle.hp_event.specs.declared.event.Event.TheVariants.{WalkBegin}
-use Rattle.hp_play.proofs.FewKeys.{few_keys}
-use Rattle.hp_play.proofs.Leading.{no_setup}
+use Rattle.hp_play.proofs.KeyTotals.{few_keys}
 use Rattle.hp_play.proofs.WalkRows.{walk_stands}
 use Rattle.hp_play.proofs.TieWalk.{walk_begins}
 use Rattle.hp_play.proofs.PlaysLaws.{plays_one}
@@ -27,14 +26,14 @@ returns-clause-turns g c =
     let moves : c.state-from.result ≡ c.args.to → ⊥ = λ same. c.requires.moves (sym c.state-from.ensures ∙ same) in
     let high : c.state-from.result ≤ ONLINE = rw c.state-from.ensures (c.requires.tied.highest c.args.cpu) in
     let walk = c.begin-walk.ensures in
-    let few = few_keys journal.head journal.events c.args.self.now.table c.state-from.result c.args.to c.requires.tied.kept high range.1 in
+    let few = few_keys c.args.self.now.table c.state-from.result c.args.to in
     let room = rw c.requires.due at c.requires.ready.room in
     let most = walk.most in
     record {
       ready =
           rw (c.push.ensures)
           (ready_more journal c.args.self.now.settled.items c.args.self.now.settled.items c.args.self.now.table _ _ _ c.requires.ready
-          refl (range.0, range.1, walk.after.within) (omega (arith, room, few, most)));
+          refl (range.0, range.1, walk.after.within) (omega (arith, room, few, most, c.requires.ready.few_keys)));
       tied =
           rw (c.push.ensures, seat)
           (walk_begins _ _ _ _ c.args.cpu c.state-from.result c.args.to _ tied there c.state-from.ensures moves walk.after walk.walk);
@@ -48,6 +47,6 @@ returns-clause-turns g c =
       of = grind (arith, common_steps);
       free = grind (arith, common_steps);
       flight = grind (arith, common_steps);
-      stays = λ setup. absurd (no_setup c.args.op c.requires.op setup);
-      less = λ _. rw c.requires.due (omega (arith, few, most));
+      keys = omega arith;
+      less = λ _. rw c.requires.due (omega (arith, few, most, c.requires.ready.few_keys));
     }

@@ -5,6 +5,8 @@ use Rattle.hp_play.proofs.CrossingDue.{registered_key, keys_stay, can_take, with
 use Rattle.hp_play.proofs.TieCrossing.{made_how, crossing_stands, crossed}
 use Rattle.hp_play.proofs.ReadyMore.{ready_set, one_taken, entered_made, entry_due}
 use Rattle.hp_play.proofs.PlaysLaws.{plays_entry}
+use Rattle.hp_play.specs.Machine.{key_total}
+use Rattle.hp_play.proofs.EnteredPlace.{total_entered}
 use Rattle.hp_play.proofs.machine.Machine.cross.Goals as goal
 
 pub took-requires-clause-within : goal.took-requires-clause-within
@@ -51,12 +53,16 @@ returns-clause-enters g c =
     let left = left_stays _ _ c.args.walk same in
     let less = took.less in
     let event = rw how at c.call-how.ensures.event in
+    let total : key_total c.call-how.new.self.table ≡ key_total c.args.self.now.table =
+    rw e.written_is
+    (total_entered _ c.args.key.state e.step (site_at c.args.cpu c.args.key.inst c.args.dir) e.step_is)
+    in
     rw (event, c.call-how.ensures.same.0)
     (record {
       ready =
           ready_set _ _ _ _ _ _ c.args.key.state _ _ c.requires.ready e.written_is e.below
           (let made = entered_made (site_at c.args.cpu c.args.key.inst c.args.dir) e.step in omega (arith, made, e.counted))
-          (range.0, range.1, took.within) (omega (arith, room, left, less));
+          (range.0, range.1, took.within) (omega (arith, room, left, less)) (omega (arith, total, c.requires.ready.few_keys));
       tied =
           crossed _ _ _ _ _ _ c.args.cpu c.args.to c.args.walk _ c.args.key c.args.dir c.args.place c.requires.asked.0 e.step tied
           c.requires.asked.1 e.there e.by e.step_is e.below e.written_is took;
@@ -68,6 +74,6 @@ returns-clause-enters g c =
           refl;
       of = λ op of. rw c.requires.due at of;
       flight = refl;
-      stays = refl;
+      keys = omega (arith, total);
       less = rw c.requires.due (omega (arith, left, less));
     })

@@ -1,5 +1,5 @@
 -- The operation can end after its walk.
-use Rattle.std.proofs.Common.{refl, arith}
+use Rattle.std.proofs.Common.{arith}
 use Rattle.hp_play.proofs.WalkRows.{end_stands}
 use Rattle.hp_play.proofs.machine.Machine.end.Goals as goal
 
@@ -13,6 +13,6 @@ answer-requires-clause-ends g c =
       entered = tied.due_is.entered;
       no_walk = tied.due_is.no_walk;
       stands = end_stands _ _ _ _ c.args.answer tied;
-      elsewhere = λ s. rw c.requires.due refl;
+      elsewhere = tied.registered_is;
       room = omega (arith, room);
     }

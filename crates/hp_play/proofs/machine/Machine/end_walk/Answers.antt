@@ -3,7 +3,6 @@ use Rattle.std.proofs.Common.{◌≡◌, ℕ, ◌<◌, false, ◌++◌, ◌∷�
 use Rattle.std.proofs.lemmas.Grind.{common_steps}
 use Rattle.std.proofs.lemmas.List.{length-set}
 use Rattle.hp_event.specs.declared.event.Event.TheVariants.{WalkEnd}
-use Rattle.hp_play.proofs.Leading.{no_setup}
 use Rattle.hp_play.proofs.WalkRows.{walked_stands}
 use Rattle.hp_play.proofs.TieWalk.{walk_ends}
 use Rattle.hp_play.proofs.PlaysLaws.{plays_one}
@@ -35,6 +34,6 @@ returns-clause-turns g c =
       of = c.requires.op;
       free = grind (arith, common_steps);
       flight = λ _. refl;
-      stays = λ setup. absurd (no_setup c.args.op c.requires.op setup);
+      keys = omega arith;
       less = λ _. rw c.requires.due (omega arith);
     }

@@ -24,6 +24,6 @@ returns-clause-turns g c =
       of = leads_map c.args.op c.args.cpu c.args.to c.requires.leads;
       free = grind (arith, common_steps);
       flight = grind (arith, common_steps);
-      stays = λ _. refl;
+      keys = omega arith;
       less = grind (arith, common_steps);
     }

@@ -1,5 +1,5 @@
 -- A round more of the operation.
-use Rattle.std.proofs.Common.{◌∙◌}
+use Rattle.std.proofs.Common.{◌∙◌, arith}
 use Rattle.hp_play.proofs.Placed.{flies}
 use Rattle.hp_play.proofs.PlaysLaws.{plays_more}
 use Rattle.hp_play.proofs.machine.Machine.operate.Goals as goal
@@ -18,7 +18,7 @@ loop-answered-preserved g c =
       head = after.keeps.0 ∙ before.head;
       total = after.keeps.2 ∙ before.total;
       goes = plays_more _ _ _ _ _ _ (rw waits at before.goes) (rw before.head at after.goes);
-      stays = λ setup. after.stays setup ∙ before.stays setup;
-      left = before.left;
+      hook = c.round-answered.ensures.taken;
       hooks = c.round-answered.ensures.hooks ∙ before.hooks;
+      keys = let same = rw (rw waits at before.flight) at after.keys in omega (arith, same, before.keys);
     }

@@ -1,7 +1,7 @@
-use Rattle.std.proofs.Common.{◌≡◌, ◌+◌, ◌*◌, length, true, not, if◌then◌else◌}
-use Rattle.hp_states.specs.declared.limits.TheConstants.{ONLINE}
-use Rattle.hp_play.specs.Machine.{is_of, is_in_flight, is_setup}
-use Rattle.hp_play.specs.Parts.{Ready, Tied, GoesOn, work_of, hooks_of, registers, left_of, one_if}
+use Rattle.std.proofs.Common.{◌≡◌, ◌+◌, ◌*◌, ◌≤◌, length, None, true, false, not, if◌then◌else◌}
+use Rattle.hp_play.specs.declared.limits.TheConstants.{MAX_PLAYED}
+use Rattle.hp_play.specs.Machine.{is_of, is_in_flight, key_total}
+use Rattle.hp_play.specs.Parts.{Ready, Tied, GoesOn, KeepsHooks, work_of}
 use Rattle.hp_play.specs.declared.due.Due.TheVariants.{Operation}
 use Rattle.hp_play.proofs.machine.Machine.operate.Given as goal
 
@@ -14,11 +14,11 @@ invariant-loop-answered g l =
       of : is_of l.fn.op l.self.due ≡ true;
       free : l.answered ≡ true → l.self.due ≡ Operation;
       head : l.self.journal.head ≡ l.fn.self.journal.head;
-      total : length l.self.journal.events + l.self.journal.promised ≡ length l.fn.self.journal.events + (3 * ONLINE + 4);
+      total : length l.self.journal.events + l.self.journal.promised ≡ length l.fn.self.journal.events + (3 * MAX_PLAYED + 4);
       goes : GoesOn l.fn.op l.answered l.fn.self l.self;
-      stays : is_setup l.fn.op ≡ true → l.self.settled ≡ l.fn.self.settled;
-      left : l.hook ≡ left_of (registers l.fn.op l.fn.self) l.fn.hook;
-      hooks : hooks_of l.self ≡ hooks_of l.fn.self + one_if (registers l.fn.op l.fn.self);
+      hook : l.answered ≡ false → l.hook ≡ None;
+      hooks : KeepsHooks l.fn.self l.self l.fn.hook l.hook;
+      keys : key_total l.self.table ≤ key_total l.fn.self.table + 1;
     }
 
 abbrev pub decreases-loop-answered : goal.decreases-loop-answered

@@ -28,6 +28,6 @@ returns-clause-turns g c =
       of = grind (arith, common_steps);
       free = grind (arith, common_steps);
       flight = grind (arith, common_steps);
-      stays = λ _. refl;
+      keys = omega arith;
       less = grind (arith, common_steps);
     }

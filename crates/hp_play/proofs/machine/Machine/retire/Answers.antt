@@ -1,15 +1,9 @@
 -- One state more is out of the table, and its hook in the rack.
 use Rattle.std.proofs.Common.{◌≡◌, ◌≤◌, ◌<◌, ◌≢◌, refl, ap, ◌∙◌, length, arith}
 use Rattle.std.proofs.Math.Seq.{take-length}
-use Rattle.hp_table.specs.Instances.{instances_of}
 use Rattle.hp_play.specs.Racked.{made_at}
 use Rattle.hp_play.proofs.RackLaws.{made_next, rack_next}
 use Rattle.hp_play.proofs.machine.Machine.retire.Goals as goal
-
-pub take_hook-requires : goal.take_hook-requires
-take_hook-requires g c =
-    let here : c.loop-state.state ≤ c.loop-state.state = omega arith in
-    ap instances_of (c.loop-state.invariant.same c.loop-state.state here) ∙ c.requires.bare c.loop-state.state
 
 pub loop-state-preserved : goal.loop-state-preserved
 loop-state-preserved g c =
@@ -19,11 +13,11 @@ loop-state-preserved g c =
       same = λ s from.
           let other : s ≢ c.loop-state.state = λ is. absurd (omega (arith, is, from)) in
           let above : c.loop-state.state ≤ s = omega (arith, from) in
-          c.take_hook.ensures.others s other ∙ c.loop-state.invariant.same s above;
+          c.retire_hook.ensures.others s other ∙ c.loop-state.invariant.same s above;
       made =
           rw (made_next c.args.self.table c.loop-state.state below)
           (rack_next _ _ _ _ _ _ _ c.loop-state.invariant.made c.in_ok-keep.ensures.last c.in_ok-keep.ensures.none
-          (c.take_hook.ensures.made ∙ ap made_at (c.loop-state.invariant.same c.loop-state.state here)));
+          (c.retire_hook.ensures.made ∙ ap made_at (c.loop-state.invariant.same c.loop-state.state here)));
     }
 
 pub returns : goal.returns

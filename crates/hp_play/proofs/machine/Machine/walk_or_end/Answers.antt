@@ -1,5 +1,5 @@
 -- The operation can end where the processor stands there already.
-use Rattle.std.proofs.Common.{◌<◌, refl, sym, ◌∙◌, arith}
+use Rattle.std.proofs.Common.{◌<◌, sym, ◌∙◌, arith}
 use Rattle.hp_play.proofs.WalkRows.{still_ends}
 use Rattle.hp_play.proofs.machine.Machine.walk_or_end.Goals as goal
 
@@ -15,6 +15,6 @@ answer-requires-clause-ends g c =
       entered = tied.due_is.entered;
       no_walk = tied.due_is.no_walk;
       stands = still_ends _ _ _ _ c.args.cpu c.args.to tied there (sym c.state.ensures ∙ c.if-state-to.true);
-      elsewhere = λ s. rw c.requires.due refl;
+      elsewhere = tied.registered_is;
       room = omega (arith, room);
     }
