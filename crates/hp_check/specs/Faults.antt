@@ -1,5 +1,5 @@
 -- Faults, as the definitions see them.
-use Rattle.hp_check.specs.declared.due.Fault.{Fault}
+use Rattle.hp_check.specs.declared.faults.Fault.{Fault}
 use Rattle.hp_model.specs.Faults.{Faulty}
 
 abbrev pub faulty_by : Fault → Faulty

@@ -1,9 +1,9 @@
+pub mod Counts
 pub mod Due
 pub mod Entry
 pub mod Faults
 pub mod InFlight
 pub mod Nexts
-pub mod NoneDue
 pub mod Replay
 pub mod Sites
 pub mod Spots

@@ -2,7 +2,7 @@
 use Rattle.std.specs.Prelude.{pos}
 use Rattle.hp_check.specs.declared.next.Next.{Next}
 use Rattle.hp_check.specs.declared.next.Next.TheVariants.{Walks, Ends, Counts, Nothing}
-use Rattle.hp_event.specs.declared.event.Answer.TheVariants.{Ok}
+use Rattle.hp_event.specs.declared.answer.Answer.TheVariants.{Ok}
 use Rattle.hp_model.specs.Sequence.{Next as ANext, walks, ends, nothing}
 
 abbrev pub next_by : Next → ANext

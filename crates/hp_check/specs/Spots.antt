@@ -12,7 +12,7 @@ abbrev pub slot_by : Spot → Slot
 slot_by s = record { cpu = s.cpu; state = s.state; inst = s.inst; dir = s.dir; place = s.place; first = s.first; fails = false }
 
 abbrev pub at_by : Reached → At
-at_by (Next spot may_fail) = next (slot_by spot) may_fail
+at_by (Next spot) = next (slot_by spot)
 at_by Ended = ended
 at_by Astray = astray
 

@@ -4,15 +4,15 @@
 ghost use Rattle.std.specs.Prelude.{◌≡◌, ◌∷◌, [], ◌++◌, List, map, count_by, option_map, IfOk};
 ghost use Rattle.hp_states.specs.Rules.{Site as ASite, matches as matches_of, allows as allows_of, answer_of as answer_spec};
 ghost use Rattle.hp_model.specs.Subsystems.{plan_of};
-ghost use Rattle.hp_model.specs.Calls.{is_called as is_called_of, sites as sites_of, number_found as number_found_of, number_at as number_at_of, sub_at as sub_at_of};
+ghost use Rattle.hp_model.specs.Calls.{sites as sites_of, number_found as number_found_of, number_at as number_at_of, sub_at as sub_at_of};
 ghost use Rattle.hp_model.specs.Found.{registered_by};
 ghost use Rattle.hp_check.specs.InFlight.{registration_by};
 ghost use Rattle.hp_check.specs.Sites.{site_by};
 
 use crate::registrations::{Registration, registration_of};
-use hp_event::{Event, Head, How, NoMemory, Op, Sub};
-use hp_model::{Found, registered_at, sub_numbered};
-use hp_states::{Dir, Rule};
+use hp_event::{Event, Head, Op, Sub};
+use hp_model::{Found, registered_at};
+use hp_states::{Dir, NoMemory, Rule};
 use std::alloc::Global;
 
 /// Where a callback is called.
@@ -23,18 +23,8 @@ pub struct Site {
     pub dir: Dir,
 }
 
-/// Whether a callback was called.
-fn is_called(how: &How) -> bool
-    ensures { result ≡ is_called_of how.now }
-{
-    match how {
-        How::RanOk | How::RanFault(_) | How::Overruled(_) => true,
-        How::Injected | How::Empty | How::Presumed => false,
-    }
-}
-
 /// The calls at a state since the setup that registered it began.
-#[tactic(auto, using(crate::proofs::SiteSteps::sites_push, crate::proofs::SiteSteps::map_push), unfolding(hp_model::specs::Calls::sites))]
+#[tactic(auto, using(hp_model::proofs::Laws::sites_push, crate::proofs::SiteSteps::map_push), unfolding(hp_model::specs::Calls::sites))]
 pub fn sites(alloc: Global, state: u32, events: &[Event]) -> Result<Vec<Site>, NoMemory>
     ensures { IfOk result (λ found. map site_by found.items ≡ sites_of state events.now) }
 {
@@ -55,7 +45,7 @@ pub fn sites(alloc: Global, state: u32, events: &[Event]) -> Result<Vec<Site>, N
                 ..
             } => {
                 let mut found = sites(alloc, state, before)?;
-                if *at == state && is_called(how) {
+                if *at == state && how.is_called() {
                     found.push(Site {
                         cpu: *cpu,
                         inst: *inst,
@@ -105,24 +95,7 @@ pub fn sub_at<'a>(
     ensures { IfOk result (λ sub. option_map (λ s. s.now) sub ≡ sub_at_of head.now state events.now) }
 {
     let found = registered_at(alloc, head, state, events)?;
-    Ok(sub_numbered(head, number_at(state, registration_of(events), &found)))
-}
-
-/// Whether an absent number, which stands for every one, or a number allows another.
-fn allows(wanted: Option<u32>, number: u32) -> bool
-    ensures { result ≡ allows_of wanted number }
-{
-    match wanted {
-        None => true,
-        Some(wanted) => wanted == number,
-    }
-}
-
-/// Whether a rule matches a site.
-fn matches_site(rule: &Rule, site: &Site) -> bool
-    ensures { result ≡ matches_of rule.now (site_by site.now) }
-{
-    rule.dir == site.dir && (allows(rule.cpu, site.cpu) && allows(rule.inst, site.inst))
+    Ok(head.sub(number_at(state, registration_of(events), &found)))
 }
 
 /// How many sites a rule matches.
@@ -133,7 +106,7 @@ fn count_of(rule: &Rule, all: &[Site]) -> usize
         None => 0,
         Some((site, rest)) => {
             let count = count_of(rule, rest);
-            if matches_site(rule, site) {
+            if rule.matches(site.cpu, site.inst, site.dir) {
                 count + 1
             } else {
                 count
@@ -150,7 +123,9 @@ fn answer_of(rules: &[Rule], all: &[Site], site: &Site) -> u32
     match rules.split_first() {
         None => 0,
         Some((rule, rest)) => {
-            if matches_site(rule, site) && is_turn(rule.nth, count_of(rule, all)) {
+            if rule.matches(site.cpu, site.inst, site.dir)
+                && is_turn(rule.nth, count_of(rule, all))
+            {
                 rule.code
             } else {
                 answer_of(rest, all, site)

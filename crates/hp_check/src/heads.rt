@@ -1,56 +1,13 @@
 //! Which heads a machine can be started with.
 
-ghost use Rattle.std.specs.Prelude.{◌≡◌, ◌↔◌, ◌<◌, ◌≤◌, IsTrue, All, IfSome, codes};
-ghost use Rattle.std.specs.List.{AllPass};
+ghost use Rattle.std.specs.Prelude.{◌≡◌, ◌↔◌, ◌<◌, ◌≤◌, IsTrue, All, IfSome};
 ghost use Rattle.std.specs.List.Sorted.{IsStrictlyIncreasing};
-ghost use Rattle.hp_model.specs.Heads.{is_name_byte as is_name_byte_of, IsName, IsRule, IsSub, IsHead};
+ghost use Rattle.hp_model.specs.Heads.{IsRule, IsSub, IsHead};
 
-use crate::processors::is_present;
 use hp_event::{Head, Sub};
 use hp_states::{
-    MAX_CODE, MAX_CPUS, MAX_EVENTS, MAX_INSTANCE, MAX_NAME_LEN, MAX_RULES, MAX_SUBS, Rule,
+    MAX_CODE, MAX_CPUS, MAX_EVENTS, MAX_INSTANCE, MAX_RULE_CPU, MAX_RULES, MAX_SUBS, Rule, is_name,
 };
-
-/// Whether a byte can stand in a name.
-fn is_name_byte(byte: u8) -> bool
-    ensures { result ≡ is_name_byte_of byte }
-{
-    (97 <= byte && byte <= 122)
-        || (65 <= byte && byte <= 90)
-        || (48 <= byte && byte <= 57)
-        || byte == 58
-        || byte == 95
-        || byte == 47
-        || byte == 46
-        || byte == 45
-}
-
-/// Whether all bytes can stand in a name.
-fn are_name_bytes(bytes: &[u8]) -> bool
-    ensures { IsTrue result ↔ AllPass is_name_byte_of bytes.now }
-{
-    match bytes.split_first() {
-        None => true,
-        Some((byte, rest)) => is_name_byte(*byte) && are_name_bytes(rest),
-    }
-}
-
-/// Whether some bytes are a dash alone.
-fn is_dash(bytes: &[u8]) -> bool
-    ensures { IsTrue result ↔ (bytes.now ≡ codes "-") }
-{
-    match bytes.split_first() {
-        None => false,
-        Some((byte, rest)) => *byte == 45 && rest.is_empty(),
-    }
-}
-
-/// Whether some bytes are a name.
-fn is_name(bytes: &[u8]) -> bool
-    ensures { IsTrue result ↔ IsName bytes.now }
-{
-    bytes.len() <= MAX_NAME_LEN as usize && are_name_bytes(bytes) && !is_dash(bytes)
-}
 
 /// Whether a number is absent or in a range.
 fn is_within(number: Option<u32>, low: u32, high: u32) -> bool
@@ -66,7 +23,7 @@ fn is_within(number: Option<u32>, low: u32, high: u32) -> bool
 fn is_rule(rule: &Rule) -> bool
     ensures { IsTrue result ↔ IsRule rule.now }
 {
-    is_within(rule.cpu, 0, 255)
+    is_within(rule.cpu, 0, MAX_RULE_CPU)
         && is_within(rule.inst, 0, MAX_INSTANCE)
         && is_within(rule.nth, 1, MAX_EVENTS)
         && (0 < rule.code && rule.code <= MAX_CODE)
@@ -132,6 +89,6 @@ pub fn is_head(head: &Head) -> bool
     0 < head.possible
         && head.possible <= MAX_CPUS
         && (is_rising(absent) && are_below(absent, head.possible))
-        && is_present(head, 0)
+        && head.is_present(0)
         && (subs.len() <= MAX_SUBS as usize && are_subs(subs))
 }

@@ -1,16 +1,15 @@
 //! How an entry is made, and by which seat.
 
 ghost use Rattle.std.specs.Prelude.{◌≡◌, IfOk};
-ghost use Rattle.hp_states.specs.Sections.{can_fail as can_fail_of};
 ghost use Rattle.hp_model.specs.Armed.{armed as armed_of};
 ghost use Rattle.hp_model.specs.Caller.{caller as caller_of};
-ghost use Rattle.hp_model.specs.How.{how_answered as how_answered_of, takes_fault as takes_fault_of, how_in_walk as how_in_walk_of, how_in_registration as how_in_registration_of, is_nocalls as is_nocalls_of};
+ghost use Rattle.hp_model.specs.How.{takes_fault as takes_fault_of, how_in_walk as how_in_walk_of, how_in_registration as how_in_registration_of, is_nocalls as is_nocalls_of};
 
 use crate::calls::{Site, answer_at, sub_at};
 use crate::seats::ap_seat;
 use crate::subsystems::has_callback;
-use hp_event::{Event, Head, How, NoMemory, Op};
-use hp_states::{AP_ONLINE, BRINGUP_CPU, Dir, Place, TEARDOWN_CPU};
+use hp_event::{Event, Head, How, Op};
+use hp_states::{Dir, NoMemory, Place, is_ap, may_fail};
 use std::alloc::Global;
 
 /// An entry that is due: where it stands.
@@ -24,27 +23,9 @@ pub struct Spot {
     pub first: bool,
 }
 
-/// Whether an entry may fail.
-pub fn can_fail(dir: Dir, state: u32, place: Place) -> bool
-    ensures { result ≡ can_fail_of dir state place }
-{
-    let upwards = matches!(dir, Dir::Up);
-    match place {
-        Place::Forward | Place::Back => {
-            if state <= BRINGUP_CPU {
-                upwards
-            } else {
-                state > AP_ONLINE
-            }
-        }
-        Place::Add => upwards && (state <= BRINGUP_CPU || state > AP_ONLINE),
-        Place::Part | Place::Undo | Place::Remove => false,
-    }
-}
-
 /// The state that was written last for a processor, where no fault was injected since.
-#[tactic(auto, using(crate::proofs::Folds::armed_push), unfolding(hp_model::specs::Armed::armed))]
-fn armed(cpu: u32, events: &[Event]) -> Option<u32>
+#[tactic(auto, using(hp_model::proofs::Laws::armed_push), unfolding(hp_model::specs::Armed::armed))]
+pub fn armed(cpu: u32, events: &[Event]) -> Option<u32>
     ensures { result ≡ armed_of cpu events.now }
 {
     match events.split_last() {
@@ -67,25 +48,12 @@ fn armed(cpu: u32, events: &[Event]) -> Option<u32>
     }
 }
 
-/// How a callback that answers a code was made.
-fn how_answered(may_fail: bool, code: u32) -> How
-    ensures { result ≡ how_answered_of may_fail code }
-{
-    if code == 0 {
-        How::RanOk
-    } else if may_fail {
-        How::RanFault(code)
-    } else {
-        How::Overruled(code)
-    }
-}
-
 /// Whether an armed fault is taken.
 fn takes_fault(events: &[Event], spot: &Spot) -> bool
     ensures { result ≡ takes_fault_of events.now spot.now.cpu spot.now.state spot.now.dir spot.now.place spot.now.first }
 {
     spot.first
-        && (can_fail(spot.dir, spot.state, spot.place)
+        && (may_fail(spot.dir, spot.state, spot.place)
             && armed(spot.cpu, events) == Some(spot.state))
 }
 
@@ -105,7 +73,7 @@ pub fn how_in_walk(
     } else if takes_fault(events, spot) {
         Ok(How::Injected)
     } else {
-        Ok(how_answered(can_fail(spot.dir, spot.state, spot.place), code))
+        Ok(How::of_answer(code, spot.dir, spot.state, spot.place))
     }
 }
 
@@ -113,13 +81,7 @@ pub fn how_in_walk(
 fn is_nocalls(op: &Op) -> bool
     ensures { result ≡ is_nocalls_of op.now }
 {
-    match op {
-        Op::Setup { form, .. }
-        | Op::Remove { form, .. }
-        | Op::Add { form, .. }
-        | Op::Del { form, .. } => form.nocalls,
-        _ => false,
-    }
+    op.form().is_some_and(|form| form.nocalls)
 }
 
 /// How an entry of a registration is made.
@@ -139,7 +101,7 @@ pub fn how_in_registration(
     } else if !has_callback(sub, spot.dir) {
         Ok(How::Empty)
     } else {
-        Ok(how_answered(can_fail(spot.dir, spot.state, spot.place), code))
+        Ok(How::of_answer(code, spot.dir, spot.state, spot.place))
     }
 }
 
@@ -158,7 +120,7 @@ fn site_of(spot: &Spot) -> Site
 pub fn caller(events: &[Event], cpu: u32, state: u32, how: &How, client: u32) -> Option<u32>
     ensures { result ≡ caller_of events.now cpu state how.now client }
 {
-    if state > BRINGUP_CPU && state != TEARDOWN_CPU && !matches!(how, How::Presumed) {
+    if is_ap(state) && !matches!(how, How::Presumed) {
         ap_seat(cpu, events)
     } else {
         Some(client)

@@ -11,7 +11,9 @@ ghost use Rattle.hp_model.specs.Journal.{EachAfter};
 ghost use Rattle.hp_model.specs.Lawful.{Stands, IsLawful};
 
 mod calls;
-mod due;
+mod faults;
+mod file_rows;
+mod files;
 mod heads;
 mod how;
 mod lists;
@@ -29,6 +31,7 @@ mod registration_rows;
 mod registrations;
 mod replay;
 mod resolved;
+mod room;
 mod seat_rows;
 mod seats;
 mod sequence;
@@ -38,19 +41,29 @@ mod stands;
 mod subsystems;
 mod suspend;
 #[cfg(test)]
-mod test_journals;
+mod test_file_journals;
+#[cfg(test)]
+mod test_files;
 #[cfg(test)]
 mod test_lines;
 #[cfg(test)]
+mod test_registration_journals;
+#[cfg(test)]
 mod test_registrations;
+#[cfg(test)]
+mod test_seats;
 #[cfg(test)]
 mod test_summaries;
 #[cfg(test)]
+mod test_walk_journals;
+#[cfg(test)]
 mod test_walks;
+mod under_way;
 mod waits;
 mod walks;
 
-use hp_event::{Event, Head, NoMemory};
+use hp_event::{Event, Head};
+use hp_states::NoMemory;
 use std::alloc::Global;
 
 /// Whether a journal is lawful: its head is one, and each event stands after those before it.

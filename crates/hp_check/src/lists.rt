@@ -3,17 +3,14 @@
 ghost use Rattle.std.specs.Prelude.{◌≡◌, IfOk};
 ghost use Rattle.hp_model.specs.Lists.{among as among_of, numbers as numbers_of};
 
-use hp_event::NoMemory;
+use hp_states::NoMemory;
 use std::alloc::Global;
 
 /// Whether a number is in a list.
 pub fn among(number: u32, list: &[u32]) -> bool
     ensures { result ≡ among_of number list.now }
 {
-    match list.split_first() {
-        None => false,
-        Some((first, rest)) => *first == number || among(number, rest),
-    }
+    list.contains(&number)
 }
 
 /// The numbers below one, rising.

@@ -1,7 +1,7 @@
 //! The operation that holds the map lock.
 
 ghost use Rattle.std.specs.Prelude.{◌≡◌, option_map};
-ghost use Rattle.hp_model.specs.MapLock.{operation as operation_spec, is_map_op as is_map_op_of, is_map_held as is_map_held_of};
+ghost use Rattle.hp_model.specs.MapLock.{operation as operation_spec, is_map_held as is_map_held_of};
 ghost use Rattle.hp_check.specs.InFlight.{operation_by};
 
 use hp_event::{Event, Op};
@@ -38,21 +38,4 @@ pub fn is_map_held(events: &[Event]) -> bool
     ensures { result ≡ is_map_held_of events.now }
 {
     operation_of(events).is_some()
-}
-
-/// Whether an operation is one that takes the map lock.
-pub fn is_map_op(op: &Op) -> bool
-    ensures { result ≡ is_map_op_of op.now }
-{
-    match op {
-        Op::Up(_)
-        | Op::Down(_)
-        | Op::Target(_, _)
-        | Op::Boot(_)
-        | Op::Disable
-        | Op::Enable
-        | Op::Freeze(_)
-        | Op::Thaw => true,
-        _ => false,
-    }
 }

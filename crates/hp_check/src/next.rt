@@ -2,16 +2,16 @@
 
 ghost use Rattle.std.specs.Prelude.{◌≡◌, Bool, ℕ, length, pos, IfOk};
 ghost use Rattle.hp_model.specs.Sequence.{single_next, first_next as first_next_of, boot_next as boot_next_of, freeze_next as freeze_next_of, next as next_spec};
-ghost use Rattle.hp_event.specs.declared.event.Answer.TheVariants.{Ok as OkAnswer};
+ghost use Rattle.hp_event.specs.declared.answer.Answer.TheVariants.{Ok as OkAnswer};
 ghost use Rattle.hp_model.specs.Sequence.{ends};
 ghost use Rattle.hp_check.specs.Nexts.{next_by};
 
 use crate::processors::online;
 use crate::sequence::{answers, failures, target_of, to_boot, to_freeze, to_thaw};
 use crate::suspend::wakeup_pending;
-use hp_event::{Answer, Event, Head, NoMemory, Op};
+use hp_event::{Answer, Event, Head, Op};
 use hp_model::settled_after;
-use hp_states::{EBUSY, OFFLINE, ONLINE};
+use hp_states::{EBUSY, NoMemory, OFFLINE, ONLINE};
 use std::alloc::Global;
 
 /// What comes next: a walk, the end with an answer, the end with Ok and a number, or nothing.

@@ -2,28 +2,25 @@
 //! is refused.
 
 ghost use Rattle.std.specs.Prelude.{◌≡◌, ◌↔◌, IsTrue, false, Some, IfOk};
-ghost use Rattle.hp_model.specs.Plan.{direction as direction_of};
-ghost use Rattle.hp_model.specs.Walks.{walk_entries as walk_entries_of};
-ghost use Rattle.hp_model.specs.Faults.{faults as faults_of, walk_answer as walk_answer_of};
-ghost use Rattle.hp_check.specs.Replay.{ended};
-ghost use Rattle.hp_check.specs.Spots.{at_by};
+ghost use Rattle.hp_event.specs.declared.event.Event.TheVariants.{WalkEnd as WalkEndEvent};
 ghost use Rattle.hp_model.specs.Sequence.{walks, ends};
-ghost use Rattle.hp_model.specs.StandsOperations.{Enters, IsRefused, WalkBegins, WalkEnds, OpEnds};
+ghost use Rattle.hp_model.specs.StandsOperations.{Enters, IsRefused, WalkBegins, WalkEnds, IsOver, IsCut, OpEnds};
 ghost use Rattle.hp_check.specs.Nexts.{next_by};
 
-use crate::due::{faults, is_ok_with, walk_answer, walk_reached};
-use crate::map_lock::{is_map_op, operation_of};
+use crate::faults::is_ok_with;
+use crate::map_lock::operation_of;
 use crate::next::{Next, next_of};
-use crate::plan::direction;
 use crate::readers::is_read;
 use crate::refusals::{can_ask, refusal};
 use crate::registrations::is_registering;
-use crate::replay::Reached;
+use crate::room::has_room;
 use crate::seats::is_free;
 use crate::subsystems::names_sub;
-use crate::walks::{Walk, is_walking, walk_entries, walk_of};
-use hp_event::{Answer, Event, Head, NoMemory, Op};
+use crate::under_way::next_of_walk;
+use crate::walks::is_walking;
+use hp_event::{Answer, Event, Head, Op};
 use hp_model::settled_after;
+use hp_states::NoMemory;
 use std::alloc::Global;
 
 /// Whether an Enter stands.
@@ -37,7 +34,7 @@ pub fn can_enter(
     ensures { IfOk result (λ yes. IsTrue yes ↔ Enters head.now before.now seat op.now) }
 {
     let asks = can_ask(alloc, head, before, seat, op)?;
-    Ok(is_map_op(op) && asks)
+    Ok(op.takes_map() && asks)
 }
 
 /// Whether a Refused stands.
@@ -112,7 +109,6 @@ fn is_quiet(walks: bool, read: bool, registers: bool) -> bool
 }
 
 /// Whether a WalkEnd stands.
-#[tactic(auto, using(crate::proofs::WalkEnd::no_walk_ends))]
 pub fn can_end_walk(
     alloc: Global,
     head: &Head,
@@ -123,67 +119,36 @@ pub fn can_end_walk(
 ) -> Result<bool, NoMemory>
     ensures { IfOk result (λ yes. IsTrue yes ↔ WalkEnds head.now before.now seat cpu answer.now) }
 {
-    match walk_of(cpu, before) {
-        None => Ok(false),
-        Some(walk) => {
-            let reached = walk_reached(alloc, head, before, cpu, &walk)?;
-            let due = is_walk_answer(alloc, before, cpu, &walk, answer)?;
-            Ok(is_whole(walk.seat, seat, &reached, due))
-        }
+    let next = next_of_walk(alloc, head, before, cpu)?;
+    Ok(is_walk_end(next, seat, cpu, answer))
+}
+
+/// Whether it is the end of a walk that was found.
+fn is_walk_end(found: Option<Event>, seat: u32, cpu: u32, answer: &Answer) -> bool
+    ensures { IsTrue result ↔ (found ≡ Some (WalkEndEvent seat cpu answer.now)) }
+{
+    match found {
+        Some(
+            Event::WalkEnd {
+                seat: k,
+                cpu: c,
+                answer: given,
+            },
+        ) => k == seat && c == cpu && given == *answer,
+        _ => false,
     }
 }
 
-/// Whether a walk in flight answers so if it ends now.
-fn is_walk_answer(
-    alloc: Global,
-    before: &[Event],
-    cpu: u32,
-    walk: &Walk<'_>,
-    answer: &Answer,
-) -> Result<bool, NoMemory>
-    ensures { IfOk result (λ yes. IsTrue yes
-        ↔ (walk_answer_of (direction_of walk.now.from walk.now.to) (faults_of (walk_entries_of cpu before.now)) ≡ Some answer.now)) }
-{
-    let entries = walk_entries(alloc, cpu, before)?;
-    let found = faults(alloc, entries.as_slice())?;
-    let due = walk_answer(direction(walk.from, walk.to), found.as_slice());
-    Ok(is_answer(due, answer))
-}
-
-/// Whether what a seat began is at its end, and answers so.
-pub fn is_whole(begun_by: u32, seat: u32, reached: &Reached, due: bool) -> bool
-    ensures { IsTrue result ↔ ((begun_by ≡ seat) × (at_by reached.now ≡ ended) × IsTrue due) }
-{
-    begun_by == seat && is_ended(reached) && due
-}
-
-/// Whether it is the answer that is due.
-fn is_answer(due: Option<Answer>, answer: &Answer) -> bool
-    ensures { IsTrue result ↔ (due ≡ Some answer.now) }
-{
-    match due {
-        None => false,
-        Some(found) => found == *answer,
-    }
-}
-
-/// Whether it is the end that is reached.
-fn is_ended(reached: &Reached) -> bool
-    ensures { IsTrue result ↔ (at_by reached.now ≡ ended) }
-{
-    matches!(reached, Reached::Ended)
-}
-
-/// Whether an OpEnd stands.
-#[tactic(auto, using(crate::proofs::OperationRows::op_ends, crate::proofs::OperationRows::no_op_ends))]
-pub fn can_end_operation(
+/// Whether what comes next of the operation that holds the map lock is its end.
+#[tactic(auto, using(crate::proofs::OperationRows::is_over, crate::proofs::OperationRows::not_over))]
+fn is_over(
     alloc: Global,
     head: &Head,
     before: &[Event],
     seat: u32,
     answer: &Answer,
 ) -> Result<bool, NoMemory>
-    ensures { IfOk result (λ yes. IsTrue yes ↔ OpEnds head.now before.now seat answer.now) }
+    ensures { IfOk result (λ yes. IsTrue yes ↔ IsOver head.now before.now seat answer.now) }
 {
     match operation_of(before) {
         None => Ok(false),
@@ -193,4 +158,50 @@ pub fn can_end_operation(
             Ok(of.seat == seat && !walks && is_end_next(next, answer))
         }
     }
+}
+
+/// Whether what comes next is a walk that could begin, and is kept out by room alone.
+#[tactic(auto, using(crate::proofs::OperationRows::is_cut, crate::proofs::OperationRows::not_cut, crate::proofs::OperationRows::not_cut_at_end, crate::proofs::OperationRows::not_cut_at_nothing))]
+fn is_cut(
+    alloc: Global,
+    head: &Head,
+    before: &[Event],
+    seat: u32,
+    answer: &Answer,
+) -> Result<bool, NoMemory>
+    ensures { IfOk result (λ yes. IsTrue yes ↔ IsCut head.now before.now seat answer.now) }
+{
+    match operation_of(before) {
+        None => Ok(false),
+        Some(of) => match next_of(alloc, head, before, of.before, &of.op)? {
+            Next::Walks { cpu, to } => {
+                let from = settled_after(cpu, before);
+                let begins = can_begin_walk(alloc, head, before, seat, cpu, from, to)?;
+                let walk = Event::WalkBegin {
+                    seat,
+                    cpu,
+                    from,
+                    to,
+                };
+                let fits = has_room(alloc, head, before, &walk)?;
+                Ok(begins && !fits && *answer == Answer::LogFull)
+            }
+            Next::Ends(_) | Next::Counts(_) | Next::Nothing => Ok(false),
+        },
+    }
+}
+
+/// Whether an OpEnd stands.
+pub fn can_end_operation(
+    alloc: Global,
+    head: &Head,
+    before: &[Event],
+    seat: u32,
+    answer: &Answer,
+) -> Result<bool, NoMemory>
+    ensures { IfOk result (λ yes. IsTrue yes ↔ OpEnds head.now before.now seat answer.now) }
+{
+    let over = is_over(alloc, head, before, seat, answer)?;
+    let cut = is_cut(alloc, head, before, seat, answer)?;
+    Ok(over || cut)
 }

@@ -3,11 +3,11 @@
 ghost use Rattle.std.specs.Prelude.{◌≡◌, ◌-◌, IfOk};
 ghost use Rattle.hp_model.specs.Lists.{rising as rising_of};
 ghost use Rattle.hp_model.specs.Registered.{keys as keys_of};
-ghost use Rattle.hp_model.specs.Plan.{keyed as keyed_of, direction as direction_of, plan as plan_of};
+ghost use Rattle.hp_model.specs.Plan.{keyed as keyed_of, plan as plan_of};
 
-use hp_event::{Event, Head, NoMemory};
+use hp_event::{Event, Head};
 use hp_model::instances_of_keys;
-use hp_states::Dir;
+use hp_states::NoMemory;
 use std::alloc::Global;
 
 /// The numbers above one and up to another, rising.
@@ -41,13 +41,6 @@ fn keyed(
         }
     }
     Ok(found)
-}
-
-/// The direction of a walk.
-pub fn direction(from: u32, to: u32) -> Dir
-    ensures { result ≡ direction_of from to }
-{
-    if from < to { Dir::Up } else { Dir::Down }
 }
 
 /// The plan of a walk that begins after some events.

@@ -1,12 +1,13 @@
 //! Processors that are possible, present, online, or at a state or above.
 
 ghost use Rattle.std.specs.Prelude.{◌≡◌, IfOk};
-ghost use Rattle.hp_model.specs.Processors.{is_possible as is_possible_of, is_present as is_present_of, online as online_of, processors as processors_of};
+ghost use Rattle.hp_model.specs.Processors.{is_possible as is_possible_of, online as online_of, processors as processors_of};
 
-use crate::lists::{among, numbers};
+use crate::lists::numbers;
 use crate::settled::is_online;
-use hp_event::{Event, Head, NoMemory};
+use hp_event::{Event, Head};
 use hp_model::settled_after;
+use hp_states::NoMemory;
 use std::alloc::Global;
 
 /// Whether a processor is possible.
@@ -14,13 +15,6 @@ pub fn is_possible(head: &Head, cpu: u32) -> bool
     ensures { result ≡ is_possible_of head.now cpu }
 {
     cpu < head.possible
-}
-
-/// Whether a processor is present.
-pub fn is_present(head: &Head, cpu: u32) -> bool
-    ensures { result ≡ is_present_of head.now cpu }
-{
-    cpu < head.possible && !among(cpu, head.absent.as_slice())
 }
 
 /// The processors that are online, in rising number.
@@ -49,7 +43,7 @@ pub fn processors(
     let all = numbers(alloc, head.possible)?;
     let mut found = Vec::new(alloc);
     for cpu in all.as_slice() {
-        if is_present(head, *cpu) && state <= settled_after(*cpu, events) {
+        if head.is_present(*cpu) && state <= settled_after(*cpu, events) {
             found.push(*cpu)?;
         }
     }

@@ -3,8 +3,9 @@
 ghost use Rattle.std.specs.Prelude.{◌≡◌, IfOk};
 ghost use Rattle.hp_model.specs.Readers.{is_reading as is_reading_of, readers as readers_of, is_read as is_read_of};
 
-use hp_event::{Event, NoMemory};
+use hp_event::Event;
 use hp_model::without;
+use hp_states::NoMemory;
 use std::alloc::Global;
 
 /// Whether a seat reads.

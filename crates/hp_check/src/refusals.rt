@@ -2,29 +2,29 @@
 
 ghost use Rattle.std.specs.Prelude.{◌≡◌, ◌↔◌, ℕ, [], ◌∷◌, IsTrue, IfOk};
 ghost use Rattle.hp_states.specs.declared.limits.TheConstants.{EINVAL as EINVAL_of, EBUSY as EBUSY_of};
-ghost use Rattle.hp_states.specs.Sections.{is_stop as is_stop_of};
-ghost use Rattle.hp_event.specs.declared.event.Form.{Form as AForm};
+ghost use Rattle.hp_event.specs.declared.op.Form.{Form as AForm};
 ghost use Rattle.hp_model.specs.RefusalsAtOnce.{first_that_holds, if_so};
 ghost use Rattle.hp_model.specs.Seats.{IsFree};
 ghost use Rattle.hp_model.specs.Refusals.{one_online as one_online_of, refusals_of_target, can_be_armed as can_be_armed_of, refusals_of_arm, refusals_after_waits, refusal as refusal_of, Passes};
-ghost use Rattle.hp_event.specs.declared.event.Op.TheVariants.{Setup as SetupOp, Remove as RemoveOp, Add as AddOp, Del as DelOp};
+ghost use Rattle.hp_event.specs.declared.op.Op.TheVariants.{Setup as SetupOp, Remove as RemoveOp, Add as AddOp, Del as DelOp};
 
 use crate::calls::number_found;
 use crate::lists::among;
-use crate::processors::{is_present, online};
+use crate::processors::online;
 use crate::refusals_at_once::{invalid, refused_at_once};
 use crate::registered::{instances, is_multi_state, is_named, is_table_full};
-use crate::resolved::{is_dynamic, lowest_free};
+use crate::resolved::lowest_free;
 use crate::seats::{is_busy, is_free};
 use crate::sequence::target_of;
 use crate::shown::shown;
 use crate::subsystems::has_callback;
 use crate::suspend::disabled;
 use crate::waits::is_waiting;
-use hp_event::{Event, Head, NoMemory, Op};
-use hp_model::{registered_at, settled_after, sub_numbered};
+use hp_event::{Event, Head, Op};
+use hp_model::{registered_at, settled_after};
 use hp_states::{
-    AP_ONLINE, BRINGUP_CPU, Dir, EBUSY, EINVAL, ENOSPC, MAX_INSTANCES, ONLINE, TEARDOWN_CPU,
+    BRINGUP_CPU, Dir, EBUSY, EINVAL, ENOSPC, MAX_INSTANCES, NoMemory, ONLINE, Range, can_stop,
+    is_atomic,
 };
 use std::alloc::Global;
 
@@ -34,13 +34,6 @@ fn is_one_online(alloc: Global, head: &Head, events: &[Event]) -> Result<bool, N
 {
     let on = online(alloc, head, events)?;
     Ok(on.len() == 1)
-}
-
-/// Whether a walk can be aimed at a state.
-fn is_stop(state: u32) -> bool
-    ensures { result ≡ is_stop_of state }
-{
-    !(state >= BRINGUP_CPU && state <= TEARDOWN_CPU + 1)
 }
 
 /// The number by which a target is refused after the waits, where the processor stands at a state.
@@ -56,11 +49,11 @@ fn refused_target(
 {
     let is_alone = is_one_online(alloc, head, events)?;
     let is_disabled = disabled(events) > 0;
-    if !is_named(alloc, head, to, events)? || !is_stop(to) {
+    if !is_named(alloc, head, to, events)? || !can_stop(to) {
         Ok(Some(EINVAL))
     } else if now < to && is_disabled {
         Ok(Some(EBUSY))
-    } else if now < to && !is_present(head, cpu) {
+    } else if now < to && !head.is_present(cpu) {
         Ok(Some(EINVAL))
     } else if to < now && (is_disabled || is_alone) {
         Ok(Some(EBUSY))
@@ -74,7 +67,7 @@ fn can_be_armed(alloc: Global, head: &Head, state: u32, events: &[Event]) -> Res
     ensures { IfOk result (λ yes. yes ≡ can_be_armed_of head.now state events.now) }
 {
     let found = registered_at(alloc, head, state, events)?;
-    let sub = sub_numbered(head, number_found(&found));
+    let sub = head.sub(number_found(&found));
     Ok(has_callback(sub, Dir::Up) || has_callback(sub, Dir::Down))
 }
 
@@ -96,9 +89,8 @@ fn refused_arm(
     }
     let state = value as u32;
     let is_passed = state <= BRINGUP_CPU && shown(alloc, head, cpu, events)? > BRINGUP_CPU;
-    let is_atomic = state > BRINGUP_CPU && state < AP_ONLINE;
     let is_armable = can_be_armed(alloc, head, state, events)?;
-    Ok(invalid(state > ONLINE || (is_atomic || (is_passed || !is_armable))))
+    Ok(invalid(state > ONLINE || (is_atomic(state) || (is_passed || !is_armable))))
 }
 
 /// The number by which a setup is refused after the waits.
@@ -111,7 +103,7 @@ fn refused_setup(
     ensures { (sub : ℕ) (form : AForm) →
         IfOk result (λ n. n ≡ first_that_holds (refusals_after_waits head.now events.now (SetupOp state sub form))) }
 {
-    if is_dynamic(state) {
+    if Range::asked_by(state).is_some() {
         let free = lowest_free(alloc, head, state, events)?;
         if free.is_none() {
             Ok(Some(ENOSPC))
@@ -206,10 +198,10 @@ fn refused_after_waits(
 {
     let is_disabled = disabled(events) > 0;
     match op {
-        Op::Up(cpu) => Ok(busy_or_invalid(is_disabled, !is_present(head, *cpu))),
+        Op::Up(cpu) => Ok(busy_or_invalid(is_disabled, !head.is_present(*cpu))),
         Op::Down(cpu) => {
             let is_alone = is_one_online(alloc, head, events)?;
-            Ok(busy_or_invalid(is_disabled || is_alone, !is_present(head, *cpu)))
+            Ok(busy_or_invalid(is_disabled || is_alone, !head.is_present(*cpu)))
         }
         Op::Target(cpu, value) => {
             let now = settled_after(*cpu, events);

@@ -9,7 +9,6 @@ use crate::processors::is_possible;
 use crate::readers::is_reading;
 use crate::subsystems::has_no_name;
 use hp_event::{Event, Form, Head, Op};
-use hp_model::sub_numbered;
 use hp_states::{EDEADLK, EINVAL, EPERM, ONLINE};
 
 /// The number of a registration's form that is refused, else that of a further condition.
@@ -63,7 +62,7 @@ pub fn refused_at_once(head: &Head, events: &[Event], seat: u32, op: &Op) -> Opt
         }
         Op::Unlock => { if reading { None } else { Some(EPERM) } }
         Op::Setup { state, sub, form } => {
-            let is_bad = *state == 0 || (*state >= ONLINE || has_no_name(sub_numbered(head, *sub)));
+            let is_bad = *state == 0 || (*state >= ONLINE || has_no_name(head.sub(*sub)));
             refused_form(reading, form, is_bad)
         }
         Op::Add { inst, form, .. } => refused_form(reading, form, *inst == 0),

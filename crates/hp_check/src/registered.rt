@@ -1,14 +1,13 @@
 //! What is asked of the registered states.
 
-ghost use Rattle.std.specs.Prelude.{◌≡◌, option_map, is_some, nat_le, IfOk};
-ghost use Rattle.hp_states.specs.Sections.{name_of_builtin};
+ghost use Rattle.std.specs.Prelude.{◌≡◌, option_map, nat_le, IfOk};
 ghost use Rattle.hp_model.specs.Registered.{instances as instances_of, instance_count as instance_count_of, is_named as is_named_of};
 ghost use Rattle.hp_model.specs.Refusals.{is_multi_state as is_multi_state_of};
 ghost use Rattle.hp_model.specs.Found.{registered_by};
 
-use hp_event::{Event, Head, NoMemory};
+use hp_event::{Event, Head};
 use hp_model::{Found, registered_at};
-use hp_states::{MAX_TABLE_INSTANCES, ONLINE, builtin_name};
+use hp_states::{MAX_TABLE_INSTANCES, NoMemory, ONLINE, is_builtin};
 use std::alloc::Global;
 
 /// The instances of a state, newest first.
@@ -37,13 +36,6 @@ pub fn is_named(alloc: Global, head: &Head, state: u32, events: &[Event]) -> Res
 {
     let found = registered_at(alloc, head, state, events)?;
     Ok(is_builtin(state) || found.is_some())
-}
-
-/// Whether a state has a name from the start.
-fn is_builtin(state: u32) -> bool
-    ensures { result ≡ is_some (name_of_builtin state) }
-{
-    state <= ONLINE && builtin_name(state).is_some()
 }
 
 /// Whether all states together have as many instances as they can.

@@ -2,7 +2,7 @@
 
 ghost use Rattle.std.specs.Prelude.{◌≡◌, ◌≤◌, length, take, drop, option_map, IfOk};
 ghost use Rattle.hp_model.specs.RegistrationShape.{key_of as key_of_spec, key_of_op as key_of_op_of, is_adding as is_adding_of};
-ghost use Rattle.hp_model.proofs.NextRegistration.{down_tree, add_tree, registration_tree};
+ghost use Rattle.hp_model.specs.Trees.{down_tree, add_tree, registration_tree};
 ghost use Rattle.hp_check.specs.Replay.{reached};
 ghost use Rattle.hp_model.specs.Found.{registered_by};
 ghost use Rattle.hp_check.specs.InFlight.{registration_by};
@@ -10,18 +10,11 @@ ghost use Rattle.hp_check.specs.Spots.{at_by};
 
 use crate::how::Spot;
 use crate::registrations::Registration;
-use crate::replay::{Reached, goes_on, is_for, reached_end};
-use hp_event::{Event, Head, NoMemory, Op};
+use crate::replay::{Reached, is_done_call, is_for, reached_end};
+use hp_event::{Event, Head, Op};
 use hp_model::{Found, is_multi, registered_at};
-use hp_states::{Dir, Place};
+use hp_states::{Dir, NoMemory, Place};
 use std::alloc::Global;
-
-/// Whether a registration adds.
-fn is_adding(op: &Op) -> bool
-    ensures { result ≡ is_adding_of op.now }
-{
-    matches!(op, Op::Setup { .. } | Op::Add { .. })
-}
 
 /// The instance of the key of an operation, where what stands at its state is known.
 fn key_of_op(head: &Head, op: &Op, found: &Option<Found>) -> Option<u32>
@@ -52,6 +45,7 @@ pub fn key_of(
 }
 
 /// Where some entries lead that take a key from some processors.
+#[tactic(auto, using(crate::proofs::Visits::dead_reached))]
 fn reached_down(place: Place, state: u32, inst: u32, cpus: &[u32], entries: &[Event]) -> Reached
     ensures { at_by result ≡ reached (down_tree place state inst cpus.now) entries.now }
 {
@@ -67,10 +61,10 @@ fn reached_down(place: Place, state: u32, inst: u32, cpus: &[u32], entries: &[Ev
                 first: false,
             };
             match entries.split_first() {
-                None => Reached::Next(spot, false),
+                None => Reached::Next(spot),
                 Some((entry, more)) => {
                     if is_for(&spot, entry) {
-                        if goes_on(entry) {
+                        if is_done_call(entry) {
                             reached_down(place, state, inst, rest, more)
                         } else {
                             Reached::Astray
@@ -102,10 +96,10 @@ fn reached_add(state: u32, inst: u32, cpus: &[u32], from: usize, entries: &[Even
         first: false,
     };
     match entries.split_first() {
-        None => Reached::Next(spot, true),
+        None => Reached::Next(spot),
         Some((entry, more)) => {
             if is_for(&spot, entry) {
-                if goes_on(entry) {
+                if is_done_call(entry) {
                     reached_add(state, inst, cpus, from + 1, more)
                 } else {
                     reached_down(Place::Undo, state, inst, &cpus[..from], more)
@@ -130,7 +124,7 @@ pub fn reached_registration(
     match key {
         None => reached_end(entries),
         Some(inst) => {
-            if is_adding(op) {
+            if op.is_adding() {
                 reached_add(state, inst, cpus, 0, entries)
             } else {
                 reached_down(Place::Remove, state, inst, cpus, entries)

@@ -4,7 +4,8 @@ ghost use Rattle.std.specs.Prelude.{◌≡◌, option_map, IfOk};
 ghost use Rattle.hp_model.specs.Registrations.{registration as registration_spec, registration_entries as registration_entries_of, is_registering as is_registering_of};
 ghost use Rattle.hp_check.specs.InFlight.{registration_by};
 
-use hp_event::{Event, NoMemory, Op};
+use hp_event::{Event, Op};
+use hp_states::NoMemory;
 use std::alloc::Global;
 
 /// A registration in flight: who asks, its resolved state, its operation, and the events before its

@@ -1,24 +1,23 @@
 //! Where the entries of a walk lead along its plan: to the next entry, to the end, or astray.
 
 ghost use Rattle.std.specs.Prelude.{◌≡◌, ◌≤◌, false, [], length, take, drop, reverse, IfOk};
-ghost use Rattle.hp_states.specs.Sections.{opposite as opposite_of};
-ghost use Rattle.hp_states.specs.declared.section.Place.TheVariants.{Part};
+ghost use Rattle.hp_states.specs.declared.place.Place.TheVariants.{Part};
 ghost use Rattle.hp_model.specs.Registered.{keys as keys_of};
-ghost use Rattle.hp_model.proofs.NextSlot.{part_tree, back_tree, walk_tree, stop};
-ghost use Rattle.hp_check.specs.Replay.{is_for as is_for_of, goes_on as goes_on_of, reached, visiting};
+ghost use Rattle.hp_model.specs.Trees.{part_tree, back_tree, walk_tree, stop};
+ghost use Rattle.hp_model.specs.Remaining.{is_for as is_for_of, is_done_call as is_done_call_of};
+ghost use Rattle.hp_check.specs.Replay.{reached, visiting};
 ghost use Rattle.hp_check.specs.Spots.{slot_by, at_by, visit_by, IsWithin};
 
 use crate::how::Spot;
-use hp_event::{Event, Head, NoMemory};
-use hp_model::{instances_of_keys, is_done};
-use hp_states::{Dir, Place};
+use hp_event::{Event, Head};
+use hp_model::instances_of_keys;
+use hp_states::{Dir, NoMemory, Place};
 use std::alloc::Global;
 
-/// Where some entries lead: to the spot of the next, and whether a fault may come there; to the end;
-/// or astray.
+/// Where some entries lead: to the spot of the next, to the end, or astray.
 #[derive(Clone, Copy)]
 pub enum Reached {
-    Next(Spot, bool),
+    Next(Spot),
     Ended,
     Astray,
 }
@@ -50,11 +49,11 @@ pub fn is_for(spot: &Spot, entry: &Event) -> bool
 }
 
 /// Whether an entry is done.
-pub fn goes_on(entry: &Event) -> bool
-    ensures { result ≡ goes_on_of entry.now }
+pub fn is_done_call(entry: &Event) -> bool
+    ensures { result ≡ is_done_call_of entry.now }
 {
     match entry {
-        Event::Call { how, .. } => is_done(how),
+        Event::Call { how, .. } => how.is_done(),
         _ => false,
     }
 }
@@ -78,7 +77,7 @@ pub fn visit_from<'a>(spot: &Spot, insts: &[u32], from: usize, entries: &'a [Eve
         None => Visit::On(here),
         Some((entry, more)) => {
             if is_for(&here, entry) {
-                if goes_on(entry) {
+                if is_done_call(entry) {
                     let next = Spot {
                         first: false,
                         ..*spot
@@ -119,16 +118,6 @@ fn undo<'a>(cpu: u32, dir: Dir, state: u32, insts: &[u32], entries: &'a [Event])
     visit_from(&spot, insts, 0, entries)
 }
 
-/// The opposite direction.
-pub fn opposite(dir: Dir) -> Dir
-    ensures { result ≡ opposite_of dir }
-{
-    match dir {
-        Dir::Up => Dir::Down,
-        Dir::Down => Dir::Up,
-    }
-}
-
 /// Where some entries lead on the way back through some states, the last of them first.
 #[tactic(auto, using(crate::proofs::Visits::back_last, crate::proofs::Visits::part_step))]
 pub fn reached_back(
@@ -155,12 +144,12 @@ pub fn reached_back(
                 first: true,
             };
             match visit_from(&spot, insts.as_slice(), 0, entries) {
-                Visit::On(next) => Ok(Reached::Next(next, true)),
+                Visit::On(next) => Ok(Reached::Next(next)),
                 Visit::Lost => Ok(Reached::Astray),
                 Visit::Whole(more) => reached_back(alloc, head, before, cpu, dir, rest, more),
                 Visit::Faulted(n, more) => Ok(undone(
                     cpu,
-                    opposite(dir),
+                    dir.opposite(),
                     *state,
                     &insts.as_slice()[..n],
                     more,
@@ -176,7 +165,7 @@ fn undone(cpu: u32, dir: Dir, state: u32, insts: &[u32], entries: &[Event]) -> R
     ensures { at_by result ≡ reached (part_tree cpu dir state insts.now stop) entries.now }
 {
     match undo(cpu, dir, state, insts, entries) {
-        Visit::On(next) => Reached::Next(next, false),
+        Visit::On(next) => Reached::Next(next),
         Visit::Lost | Visit::Faulted(_, _) => Reached::Astray,
         Visit::Whole(more) => reached_end(more),
     }
@@ -212,13 +201,13 @@ pub fn reached_forward(
         first: true,
     };
     match visit_from(&spot, insts.as_slice(), 0, entries) {
-        Visit::On(next) => Ok(Reached::Next(next, true)),
+        Visit::On(next) => Ok(Reached::Next(next)),
         Visit::Lost => Ok(Reached::Astray),
         Visit::Whole(more) => reached_forward(alloc, head, before, cpu, dir, plan, from + 1, more),
         Visit::Faulted(n, more) => {
             let undone = &insts.as_slice()[..n];
             let crossed = &plan[..from];
-            let way = opposite(dir);
+            let way = dir.opposite();
             reached_turn(alloc, head, before, cpu, way, state, undone, crossed, more)
         }
     }
@@ -241,7 +230,7 @@ fn reached_turn(
         ≡ reached (part_tree cpu dir state insts.now (back_tree cpu (keys_of head.now before.now) dir (reverse crossed.now))) entries.now) }
 {
     match undo(cpu, dir, state, insts, entries) {
-        Visit::On(next) => Ok(Reached::Next(next, false)),
+        Visit::On(next) => Ok(Reached::Next(next)),
         Visit::Lost | Visit::Faulted(_, _) => Ok(Reached::Astray),
         Visit::Whole(more) => reached_back(alloc, head, before, cpu, dir, crossed, more),
     }

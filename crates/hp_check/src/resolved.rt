@@ -7,16 +7,11 @@ ghost use Rattle.hp_model.specs.Registered.{is_named as is_named_of};
 ghost use Rattle.hp_model.specs.Resolved.{lowest_free as lowest_free_of, resolved as resolved_of};
 
 use crate::registered::is_named;
-use hp_event::{Event, Head, NoMemory, Op};
-use hp_states::{ONLINE, ONLINE_DYN, ONLINE_DYN_END, PREPARE_DYN, PREPARE_DYN_END};
+use hp_event::{Event, Head, Op};
+use hp_states::{
+    NoMemory, ONLINE, ONLINE_DYN, ONLINE_DYN_END, PREPARE_DYN, PREPARE_DYN_END, Range,
+};
 use std::alloc::Global;
-
-/// Whether a number asks for a free state of a range.
-pub fn is_dynamic(state: u32) -> bool
-    ensures { result ≡ is_dynamic_of state }
-{
-    state == PREPARE_DYN || state == ONLINE_DYN
-}
 
 /// The lowest state without a name of one and some above it.
 fn first_free(
@@ -73,7 +68,7 @@ pub fn resolved(
 {
     match op {
         Op::Setup { state, .. } => {
-            if is_dynamic(*state) {
+            if Range::asked_by(*state).is_some() {
                 lowest_free(alloc, head, *state, events)
             } else {
                 Ok(Some(*state))

@@ -4,16 +4,16 @@ ghost use Rattle.std.specs.Prelude.{◌≡◌, ℤ, pos, ◌↔◌, IsTrue, leng
 ghost use Rattle.hp_model.specs.Sequence.{begun as begun_of, answers as answers_of, failures as failures_of, target_of as target_of_of, primary_of as primary_of_of, first_of as first_of_of, to_boot as to_boot_of, to_freeze as to_freeze_of, to_thaw as to_thaw_of};
 
 use crate::lists::{among, numbers};
-use crate::processors::{is_present, online};
+use crate::processors::online;
 use crate::settled::is_online;
 use crate::suspend::{frozen, is_ok};
-use hp_event::{Answer, Event, Head, NoMemory};
+use hp_event::{Answer, Event, Head};
 use hp_model::settled_after;
-use hp_states::{OFFLINE, ONLINE};
+use hp_states::{NoMemory, OFFLINE, ONLINE};
 use std::alloc::Global;
 
 /// The processors whose walks began since the last Enter.
-#[tactic(auto, using(crate::proofs::Folds::begun_push), unfolding(hp_model::specs::Sequence::begun))]
+#[tactic(auto, using(hp_model::proofs::Laws::begun_push), unfolding(hp_model::specs::Sequence::begun))]
 pub fn begun(alloc: Global, events: &[Event]) -> Result<Vec<u32>, NoMemory>
     ensures { IfOk result (λ found. found.items ≡ begun_of events.now) }
 {
@@ -32,7 +32,7 @@ pub fn begun(alloc: Global, events: &[Event]) -> Result<Vec<u32>, NoMemory>
 }
 
 /// The answers of the walks that ended since the last Enter.
-#[tactic(auto, using(crate::proofs::Folds::answers_push), unfolding(hp_model::specs::Sequence::answers))]
+#[tactic(auto, using(hp_model::proofs::Laws::answers_push), unfolding(hp_model::specs::Sequence::answers))]
 pub fn answers(alloc: Global, events: &[Event]) -> Result<Vec<Answer>, NoMemory>
     ensures { IfOk result (λ found. found.items ≡ answers_of events.now) }
 {
@@ -100,7 +100,7 @@ pub fn to_boot(alloc: Global, head: &Head, events: &[Event]) -> Result<Vec<u32>,
     let done = begun(alloc, events)?;
     let mut found = Vec::new(alloc);
     for cpu in all.as_slice() {
-        if is_present(head, *cpu) && (!is_online(*cpu, events) && !among(*cpu, done.as_slice())) {
+        if head.is_present(*cpu) && (!is_online(*cpu, events) && !among(*cpu, done.as_slice())) {
             found.push(*cpu)?;
         }
     }

@@ -4,7 +4,6 @@ ghost use Rattle.std.specs.Prelude.{◌≡◌, option_map};
 ghost use Rattle.hp_model.specs.Subsystems.{names_sub as names_sub_of, has_no_name as has_no_name_of, has_callback as has_callback_of};
 
 use hp_event::{Head, Op, Sub};
-use hp_model::sub_numbered;
 use hp_states::Dir;
 
 /// Whether an operation speaks of subsystems of the head alone.
@@ -12,7 +11,7 @@ pub fn names_sub(head: &Head, op: &Op) -> bool
     ensures { result ≡ names_sub_of head.now op.now }
 {
     match op {
-        Op::Setup { sub, .. } => sub_numbered(head, *sub).is_some(),
+        Op::Setup { sub, .. } => head.sub(*sub).is_some(),
         _ => true,
     }
 }

@@ -6,7 +6,8 @@ ghost use Rattle.hp_model.specs.Suspend.{held_by, is_freeze as is_freeze_of, is_
 ghost use Rattle.hp_check.specs.InFlight.{operation_by};
 
 use crate::map_lock::{Operation, operation_of};
-use hp_event::{Answer, Event, NoMemory, Op};
+use hp_event::{Answer, Event, Op};
+use hp_states::NoMemory;
 use std::alloc::Global;
 
 /// Whether the map lock is held by a freeze.
@@ -57,7 +58,7 @@ pub fn is_ok(answer: &Answer) -> bool
 }
 
 /// How often hotplug is disabled.
-#[tactic(auto, using(crate::proofs::Folds::disabled_push), unfolding(hp_model::specs::Suspend::disabled))]
+#[tactic(auto, using(hp_model::proofs::Laws::disabled_push), unfolding(hp_model::specs::Suspend::disabled))]
 pub fn disabled(events: &[Event]) -> usize
     ensures value { result ≡ disabled_of events.now }
     ensures few { result ≤ length events.now }
@@ -109,7 +110,7 @@ pub fn frozen(alloc: Global, events: &[Event]) -> Result<Vec<u32>, NoMemory>
 }
 
 /// Whether a wakeup is pending.
-#[tactic(auto, using(crate::proofs::Folds::wakeup_push), unfolding(hp_model::specs::Suspend::wakeup_pending))]
+#[tactic(auto, using(hp_model::proofs::Laws::wakeup_push), unfolding(hp_model::specs::Suspend::wakeup_pending))]
 pub fn wakeup_pending(events: &[Event]) -> bool
     ensures { result ≡ wakeup_pending_of events.now }
 {

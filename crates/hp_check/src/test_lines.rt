@@ -1,7 +1,7 @@
 //! The notation of the tests: a function for each line of a journal's text.
 
 use crate::{can_stand, is_lawful};
-use hp_event::{Answer, Event, Form, Head, How, Journal, Name, Numbers, Op, Role, Sub, Subs};
+use hp_event::{Answer, Event, File, Form, Head, How, Journal, Name, Numbers, Op, Role, Sub, Subs};
 use hp_states::{Dir, HookPlan, Rule};
 use std::alloc::Global;
 use std::test::Fail;
@@ -86,6 +86,35 @@ pub fn done(seat: u32, answer: Answer) -> Event {
     Event::OpEnd { seat, answer }
 }
 
+pub fn leave(seat: u32) -> Event {
+    Event::Leave { seat }
+}
+
+pub fn lock(seat: u32) -> Event {
+    Event::ReadLock { seat }
+}
+
+pub fn unlock(seat: u32) -> Event {
+    Event::ReadUnlock { seat }
+}
+
+pub fn armed(seat: u32, cpu: u32, value: i32) -> Event {
+    Event::Armed { seat, cpu, value }
+}
+
+pub fn shown(seat: u32, file: File, cpu: u32, value: i32) -> Event {
+    Event::Shown {
+        seat,
+        file,
+        cpu,
+        value,
+    }
+}
+
+pub fn wakeup(seat: u32) -> Event {
+    Event::Wakeup { seat }
+}
+
 const FORM: Form = Form {
     nocalls: false,
     locked: false,
@@ -96,6 +125,17 @@ pub fn setup(state: u32, sub: u32) -> Op {
         state,
         sub,
         form: FORM,
+    }
+}
+
+pub fn setup_locked(state: u32, sub: u32) -> Op {
+    Op::Setup {
+        state,
+        sub,
+        form: Form {
+            nocalls: false,
+            locked: true,
+        },
     }
 }
 

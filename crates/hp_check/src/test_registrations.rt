@@ -1,13 +1,13 @@
 //! Journals of registrations and refusals that are accepted, and refused with one line changed.
 
 use crate::is_lawful;
-use crate::test_journals::{
-    dynamic_setups, failed_setup, freeze_with_setup_between, last_processor, overruled_fault,
-    presumed, setup_without_calls,
-};
 use crate::test_lines::{
     OK, admit_ap, call, done, down, enter, first_let_through, refused, reg, regged, setup, up,
     up_fault, walk, walked,
+};
+use crate::test_registration_journals::{
+    dynamic_setups, failed_setup, freeze_with_setup_between, last_processor, overruled_fault,
+    presumed, setup_without_calls,
 };
 use hp_event::{Answer, How, Op};
 use hp_states::Dir;

@@ -1,9 +1,11 @@
 //! What `hp_model` computes of a journal: where each processor stands, the keys in force there, and
 //! the registered keys. Written by hand, as the lines `cpu` and `sub` of the journal's summary.
 
-use crate::test_journals::{
-    dynamic_setups, failed_setup, fault_of_an_instance, fault_on_the_way_down, fault_on_the_way_up,
-    freeze_with_setup_between, overruled_fault, setup_without_calls, stuck_on_the_way_back,
+use crate::test_registration_journals::{
+    dynamic_setups, failed_setup, freeze_with_setup_between, overruled_fault, setup_without_calls,
+};
+use crate::test_walk_journals::{
+    fault_of_an_instance, fault_on_the_way_down, fault_on_the_way_up, stuck_on_the_way_back,
 };
 use hp_event::{Journal, Key};
 use hp_model::{net_of, registered_of, settled_of};

@@ -1,13 +1,13 @@
 //! Journals of walks that are accepted, and refused with one line changed.
 
 use crate::is_lawful;
-use crate::test_journals::{
-    empty, fault_of_an_instance, fault_on_the_way_down, fault_on_the_way_up, state_without_startup,
-    stuck_at, stuck_on_the_way_back, walk_up,
-};
 use crate::test_lines::{
     OK, add, admit_client, call, done, down, down_fault, enter, first_let_through, reg, regged,
     setup, up, up_fault, walk, walked,
+};
+use crate::test_walk_journals::{
+    empty, fault_of_an_instance, fault_on_the_way_down, fault_on_the_way_up, state_without_startup,
+    stuck_at, stuck_on_the_way_back, walk_up,
 };
 use hp_event::{Answer, How, Op};
 use hp_states::Dir;

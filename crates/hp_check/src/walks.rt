@@ -4,8 +4,9 @@ ghost use Rattle.std.specs.Prelude.{◌≡◌, option_map, IfOk};
 ghost use Rattle.hp_model.specs.Walks.{walk as walk_spec, walk_entries as walk_entries_of, walking as walking_of, is_walking as is_walking_of};
 ghost use Rattle.hp_check.specs.InFlight.{walk_by};
 
-use hp_event::{Event, NoMemory};
+use hp_event::Event;
 use hp_model::without;
+use hp_states::NoMemory;
 use std::alloc::Global;
 
 /// A walk in flight: who walks, where from, where to, and the events before its WalkBegin.

@@ -1,3 +1,7 @@
+pub mod Hows
+pub mod Ops
+pub mod Leaves
+pub mod Heads
 pub mod Story
 pub mod Room
 pub mod Texts

@@ -3,10 +3,11 @@
 //! It stands before the first event, and no event changes it. What a head is, is this project's
 //! own.
 
-ghost use Rattle.std.specs.Prelude.{◌≡◌, ◌++◌, ◌∷◌, [], IfOk, OnOk, OnErr};
+ghost use Rattle.std.specs.Prelude.{◌≡◌, ◌++◌, ◌∷◌, [], IfOk, OnOk, OnErr, option_map};
+ghost use Rattle.hp_event.specs.Heads.{is_present as is_present_of, sub_numbered};
 
-use crate::lists::{Name, NoMemory, Numbers};
-use hp_states::HookPlan;
+use crate::lists::{Name, Numbers};
+use hp_states::{HookPlan, NoMemory};
 use std::alloc::Global;
 use std::marker::Model;
 
@@ -133,6 +134,29 @@ pub struct Head {
 }
 
 impl Head {
+    /// Whether a processor is present: it is possible and isn't absent.
+    ///
+    /// `cpu` may be any number. Takes no memory, and time for the absent processors. After
+    /// `cpu_present_mask` of `kernel/cpu.c`.
+    pub fn is_present(&self, cpu: u32) -> bool
+        ensures { result ≡ is_present_of self.now cpu }
+    {
+        cpu < self.possible && !self.absent.as_slice().contains(&cpu)
+    }
+
+    /// The subsystem of a number, counted from 1 in the order of the head. None where the number is
+    /// 0 or above the count of subsystems.
+    ///
+    /// Takes no memory. That subsystems have numbers is this project's own.
+    pub fn sub(&self, number: u32) -> Option<&Sub>
+        ensures { option_map (λ s. s.now) result ≡ sub_numbered self.now number }
+    {
+        if number == 0 {
+            return None;
+        }
+        self.subs.as_slice().get(number as usize - 1)
+    }
+
     /// A head equal to this one.
     ///
     /// Takes memory for the absent processors, the subsystems and their names; where there is none:

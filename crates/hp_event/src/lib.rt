@@ -6,14 +6,22 @@
 //! that a push into a promised place takes no memory.
 #![tactic(auto)]
 
+mod answer;
 mod event;
 mod head;
+mod how;
 mod journal;
+mod key;
 mod lists;
+mod op;
 #[cfg(test)]
 mod tests;
 
-pub use event::{Answer, Event, File, Form, How, Key, Op, Role};
+pub use answer::Answer;
+pub use event::{Event, File, Role};
 pub use head::{Head, Sub, Subs};
+pub use how::How;
 pub use journal::{Journal, JournalError};
-pub use lists::{Keys, Name, NoMemory, Numbers};
+pub use key::Key;
+pub use lists::{Keys, Name, Numbers};
+pub use op::{Form, Op};

@@ -5,38 +5,10 @@
 
 ghost use Rattle.std.specs.Prelude.{◌≡◌, ◌++◌, ◌∷◌, [], codes, IfOk, OnOk, OnErr, Some};
 
-use crate::event::Key;
-use std::alloc::{AllocError, AllocFailed, Global};
-use std::error::Error;
-use std::fmt;
+use crate::key::Key;
+use hp_states::NoMemory;
+use std::alloc::Global;
 use std::marker::Model;
-
-/// Memory was wanting. What the call was to change is as before it; what was moved into it is
-/// dropped.
-#[derive(Clone, Copy, Debug, PartialEq, Eq)]
-pub struct NoMemory;
-
-impl fmt::Display for NoMemory {
-    ghost output = { λ _. Some (codes "out of memory") };
-
-    fn fmt<W: fmt::Write>(&self, f: &mut fmt::Formatter<W>) -> fmt::Result {
-        write!(f, "out of memory")
-    }
-}
-
-impl Error for NoMemory {}
-
-impl From<AllocError> for NoMemory {
-    fn from(_: AllocError) -> NoMemory {
-        NoMemory
-    }
-}
-
-impl<T: Drop> From<AllocFailed<T>> for NoMemory {
-    fn from(_: AllocFailed<T>) -> NoMemory {
-        NoMemory
-    }
-}
 
 /// A name, as its bytes; the empty one is no name.
 #[derive(Debug, Drop)]
@@ -74,7 +46,7 @@ pub struct Keys {
 
 impl Model for Keys {
     ghost use Rattle.std.specs.Prelude.{List};
-    ghost use Rattle.hp_event.specs.declared.event.Key.{Key};
+    ghost use Rattle.hp_event.specs.declared.key.Key.{Key};
 
     ghost Value = { List Key };
 

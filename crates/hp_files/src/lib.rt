@@ -5,7 +5,7 @@
 //!
 //! Its contract: the bytes are exactly those of `states_file` of `specs/StatesFile.antt`, for the
 //! names that the table gives, or memory was wanting. `states` of the same file is the states file
-//! of a journal. `states_of_table` of `proofs/Names.antt` says that the two are one text wherever
+//! of a journal. The lemma `states_of_table` says that the two are one text wherever
 //! table and journal have the same subsystem at each state.
 #![tactic(auto)]
 

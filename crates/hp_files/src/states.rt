@@ -1,13 +1,12 @@
 //! The `states` file.
 
-ghost use Rattle.std.specs.Prelude.{◌≡◌, ℕ, ◌-◌, ◌≤◌, ◌++◌, IfOk, IfSome, OnOk, length, replicate};
+ghost use Rattle.std.specs.Prelude.{◌≡◌, ◌-◌, ◌++◌, IfOk, OnOk, replicate};
 ghost use Rattle.std.specs.Option.{option_copied};
-ghost use Rattle.hp_table.specs.Step.{step_at};
 ghost use Rattle.hp_files.specs.StatesFile.{right_in_three, state_line, line_of, states_file, name_in};
 
-use hp_event::{Head, NoMemory};
+use hp_event::Head;
 use hp_hook::Hook;
-use hp_states::{ONLINE, builtin_name};
+use hp_states::{NoMemory, ONLINE, builtin_name};
 use hp_table::Table;
 use itoa::Buffer;
 use std::alloc::{AllocError, Global};
@@ -44,15 +43,13 @@ fn append_line(out: &mut Vec<u8>, state: u32, name: &[u8]) -> Result<(), AllocEr
 
 /// The name of a state: the built-in one, or else that of the subsystem that is registered there.
 fn name_of<'a, H: Hook>(head: &'a Head, table: &Table<H>, state: u32) -> Option<&'a [u8]>
-    requires state { state ≤ ONLINE }
-    requires sub { IfSome (step_at table.now state) (λ step. (1 ≤ step.kept.sub) × (step.kept.sub ≤ length head.now.subs)) }
     ensures { option_copied result ≡ name_in head.now table.now state }
 {
     if let Some(name) = builtin_name(state) {
         return Some(name.as_bytes());
     }
     let record = table.step(state)?;
-    let sub = &head.subs.as_slice()[record.sub as usize - 1];
+    let sub = head.sub(record.sub)?;
     Some(sub.name.as_slice())
 }
 
@@ -63,8 +60,6 @@ fn append_state<H: Hook>(
     table: &Table<H>,
     state: u32,
 ) -> Result<(), AllocError>
-    requires state { state ≤ ONLINE }
-    requires sub { IfSome (step_at table.now state) (λ step. (1 ≤ step.kept.sub) × (step.kept.sub ≤ length head.now.subs)) }
     ensures { OnOk result (out.new.items ≡ out.old.items ++ line_of state (name_in head.now table.now state)) }
 {
     match name_of(head, table, state) {
@@ -76,8 +71,8 @@ fn append_state<H: Hook>(
 /// The text of the `states` file: a line for each state that has a name, in rising number.
 ///
 /// A line is the number at the right of three places, a colon, a space, the name and a newline. A
-/// state has its built-in name, or else that of the subsystem that is registered there. The number
-/// of each registered record is one of the head: from 1 to how many subsystems it has.
+/// state has its built-in name, or else that of the subsystem that is registered there; it has none
+/// where the number of that subsystem is none of the head's.
 ///
 /// - `NoMemory` where memory for the text is wanting.
 ///
@@ -90,8 +85,6 @@ pub fn show_states<H: Hook>(
     head: &Head,
     table: &Table<H>,
 ) -> Result<Vec<u8>, NoMemory>
-    requires { (s : ℕ) →
-        IfSome (step_at table.now s) (λ step. (1 ≤ step.kept.sub) × (step.kept.sub ≤ length head.now.subs)) }
     ensures { IfOk result (λ text. text.items ≡ states_file (name_in head.now table.now)) }
 {
     let mut out = Vec::new(alloc);

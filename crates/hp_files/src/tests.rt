@@ -1,13 +1,10 @@
 //! What no clause says: that memory suffices where it is ample, and that the file comes out as
 //! written by hand.
 
-ghost use Rattle.std.specs.Prelude.{ℕ, ◌≤◌, IsTrue, IfSome, length};
-ghost use Rattle.hp_table.specs.Step.{step_at};
-
 use crate::show_states;
 use hp_event::{Head, Name, Numbers, Sub, Subs};
 use hp_hook::{Hook, ScriptHook};
-use hp_states::{HookPlan, OFFLINE, ONLINE};
+use hp_states::HookPlan;
 use hp_table::{Record, Table};
 use std::alloc::Global;
 use std::process::Abort;
@@ -45,24 +42,6 @@ fn put(table: &mut Table<ScriptHook>, state: u32, sub: u32) -> Result<(), Fail> 
     }
 }
 
-/// Whether the number of each registered record's subsystem is one of the head.
-fn are_known<H: Hook>(head: &Head, table: &Table<H>) -> bool
-    ensures { IsTrue result → (s : ℕ) →
-        IfSome (step_at table.now s) (λ step. (1 ≤ step.kept.sub) × (step.kept.sub ≤ length head.now.subs)) }
-{
-    if table.step(OFFLINE).is_some() {
-        return false;
-    }
-    for state in OFFLINE + 1..ONLINE + 1 {
-        if let Some(record) = table.step(state) {
-            if record.sub == 0 || record.sub as usize > head.subs.as_slice().len() {
-                return false;
-            }
-        }
-    }
-    true
-}
-
 fn check<H: Hook>(
     rt: &impl Abort,
     alloc: Global,
@@ -70,7 +49,6 @@ fn check<H: Hook>(
     table: &Table<H>,
     wanted: &[u8],
 ) -> Result<(), Fail> {
-    assert!(rt; are_known(head, table));
     let text = show_states(alloc, head, table)?;
     assert_eq!(rt; text.as_slice(), wanted);
     Ok(())
@@ -94,5 +72,18 @@ fn registered_states_are_named_too(rt: HostRuntime) -> Result<(), Fail> {
     }
     let wanted =
         b"  0: offline\n  7: x\n 41: y\n 62: cpu:bringup\n 63: idle:dead\n 64: ap:offline\n100: ap:online\n101: cpu:teardown\n102: online:idle\n120: net:a\n150: net:b\n199: sched:active\n200: online\n";
+    check(&rt, rt.alloc(), &head, &table, wanted)
+}
+
+/// A record whose subsystem's number is none of the head's has no line.
+#[test]
+fn a_number_past_the_heads_has_no_name(rt: HostRuntime) -> Result<(), Fail> {
+    let head = head_of(rt.alloc(), &[b"net:a"])?;
+    let mut table = Table::new(rt.alloc())?;
+    put(&mut table, 41, 0)?;
+    put(&mut table, 120, 1)?;
+    put(&mut table, 150, 2)?;
+    let wanted =
+        b"  0: offline\n 62: cpu:bringup\n 63: idle:dead\n 64: ap:offline\n100: ap:online\n101: cpu:teardown\n102: online:idle\n120: net:a\n199: sched:active\n200: online\n";
     check(&rt, rt.alloc(), &head, &table, wanted)
 }

@@ -101,15 +101,6 @@ impl Hook for ScriptHook {
     }
 }
 
-/// Whether a rule matches a site.
-fn is_match(rule: &Rule, cpu: u32, inst: u32, dir: Dir) -> bool
-    ensures { result ≡ matches rule.now (site_at cpu inst dir) }
-{
-    rule.dir == dir
-        && rule.cpu.is_none_or(|only| only == cpu)
-        && rule.inst.is_none_or(|only| only == inst)
-}
-
 /// Counts a site that a rule matches, and says whether the rule answers there: it matches the site, and
 /// its `nth` is absent or is the raised count.
 fn count_site(rule: &Rule, count: &mut u32, cpu: u32, inst: u32, dir: Dir) -> bool
@@ -119,7 +110,7 @@ fn count_site(rule: &Rule, count: &mut u32, cpu: u32, inst: u32, dir: Dir) -> bo
     ensures answers { result
         ≡ (matches rule.now (site_at cpu inst dir) && allows rule.now.nth count.new) }
 {
-    if !is_match(rule, cpu, inst, dir) {
+    if !rule.matches(cpu, inst, dir) {
         return false;
     }
     *count += 1;

@@ -1,3 +1,5 @@
+//! A read or a write that failed.
+
 ghost use Rattle.std.specs.Prelude.{Some, codes};
 
 use std::error::Error;

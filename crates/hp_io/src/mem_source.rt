@@ -1,3 +1,5 @@
+//! A source in memory.
+
 ghost use Rattle.std.specs.Prelude.{◌≡◌, ◌↔◌, ◌+◌, ◌-◌, ◌<◌, ◌≤◌, ◌⊎◌, [], ◌++◌, min, Some, length, take, drop, vec_len, IsErr, IfOk, OnErr};
 ghost use Rattle.hp_io.specs.Calls.{calls_after, IsToFail};
 ghost use Rattle.hp_io.specs.Faults.{CountsFault};

@@ -1,3 +1,5 @@
+//! Sources and sinks over readers and writers of std.
+
 ghost use Rattle.std.specs.Prelude.{◌≡◌, ◌<◌, ◌≤◌, None, length, IfOk};
 ghost use Rattle.std.specs.Io.KnownBytes.{ReadConsumes, WriteAppends};
 ghost use Rattle.hp_io.specs.Faults.{CountsFault};

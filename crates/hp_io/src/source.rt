@@ -1,3 +1,5 @@
+//! What bytes are read from.
+
 ghost use Rattle.std.specs.Prelude.{◌≡◌, ◌+◌, ◌<◌, ◌≤◌, ◌^◌, ℕ, List, Option, Some, length, take, vec_len, IfOk, IfSome, OnOk, OnErr};
 ghost use Rattle.std.specs.Io.KnownBytes.{prepend_known, IsAtEnd};
 ghost use Rattle.hp_io.specs.Faults.{CountsFault, CountsReadFault, message_of};
@@ -68,7 +70,7 @@ impl From<AllocError> for ReadError {
     }
 }
 
-// How many bytes one read asks for at most: what a pipe of Linux holds.
+/// How many bytes one read asks for at most: what a pipe of Linux holds.
 const CHUNK: usize = 65_536;
 
 /// Reads a source to its end, or to one byte past `most`, whichever comes first.
@@ -91,7 +93,7 @@ pub fn read_up_to<S: Source>(
     ensures limited { IfOk result (λ v. vec_len v ≤ most + 1) }
     ensures end { IfOk result (λ v. vec_len v ≤ most → IsAtEnd (S.left source.new)) }
 
-    // An error has its cause, and what is left is an end of what was left.
+    // An error has its cause, and what was read before it is gone from the front of what was left.
     ensures counted { CountsReadFault result (S.faults source.old) (S.faults source.new) }
     ensures lost { OnErr result ((bs : List ℕ) × (length bs ≤ most + 1)
         × (S.left source.old ≡ prepend_known bs (S.left source.new))) }
@@ -102,8 +104,8 @@ pub fn read_up_to<S: Source>(
     Ok(bytes)
 }
 
-// Reads until the source is at its end or there is one byte past `most`. Each byte read is appended, also before an
-// error.
+/// Reads until the source is at its end or there is one byte past `most`. Each byte read is appended, also before an
+/// error.
 fn fill<S: Source>(
     source: &mut S,
     chunk: &mut [u8],
@@ -128,7 +130,7 @@ fn fill<S: Source>(
     Ok(())
 }
 
-// Reads once, at most to one byte past `most`, and appends what was read. Says how many bytes it was, 0 at the end.
+/// Reads once, at most to one byte past `most`, and appends what was read. Says how many bytes it was, 0 at the end.
 fn read_more<S: Source>(
     source: &mut S,
     chunk: &mut [u8],

@@ -1,3 +1,5 @@
+//! What no clause says: how sources and sinks fail in mid-stream, and that the system's own take and give bytes.
+
 use super::*;
 use std::io;
 use std::io::{ErrorKind, Read, Write};
@@ -24,7 +26,7 @@ fn one_byte_past_the_limit_is_read_and_no_more(rt: HostRuntime) -> Result<(), Fa
     Ok(())
 }
 
-// A text of more than one chunk.
+/// A text of more than one chunk.
 #[test]
 fn a_long_source_is_read_in_chunks(rt: HostRuntime) -> Result<(), Fail> {
     let alloc = rt.alloc();
@@ -78,7 +80,7 @@ fn a_write_fails_in_mid_stream(rt: HostRuntime) -> Result<(), Fail> {
     Ok(())
 }
 
-// The call of number 2^64 - 1 is the last that can be told to fail.
+/// The call of number 2^64 - 1 is the last that can be told to fail.
 #[test]
 fn the_number_of_calls_stands_at_its_end(rt: HostRuntime) -> Result<(), Fail> {
     let alloc = rt.alloc();
@@ -92,7 +94,7 @@ fn the_number_of_calls_stands_at_its_end(rt: HostRuntime) -> Result<(), Fail> {
     Ok(())
 }
 
-// A reader of std whose second read fails.
+/// A reader of std whose second read fails.
 #[derive(Drop)]
 struct Torn {
     calls: u8,
@@ -127,7 +129,7 @@ fn an_error_of_a_reader_is_a_fault(rt: HostRuntime) -> Result<(), Fail> {
     Ok(())
 }
 
-// A writer of std that takes one byte, then none, and then fails.
+/// A writer of std that takes one byte, then none, and then fails.
 #[derive(Drop)]
 struct Full {
     bytes: Vec<u8>,
@@ -167,6 +169,7 @@ fn a_writer_that_takes_nothing_is_a_fault(rt: HostRuntime) -> Result<(), Fail> {
     Ok(())
 }
 
+/// What the system does with the bytes can't be seen here: only that it takes them.
 #[test]
 fn standard_output_takes_bytes(rt: HostRuntime) -> Result<(), Fail> {
     let mut sink = RealSink::new(rt.stdout());

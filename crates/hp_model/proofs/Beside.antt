@@ -2,9 +2,9 @@
 use Rattle.std.proofs.Common.{◌≡◌, ℕ, Bool, true, false, cond, eqb, Option, Some, None, List, [], ◌∷◌, ◌++◌, refl, sym, ◌∙◌, inl, inr, ◌⊎◌, is_some, append_assoc}
 use Rattle.std.proofs.lemmas.List.{append-nil}
 use Rattle.std.proofs.lemmas.Bool.{true≢false, eqb-true}
-use Rattle.hp_states.specs.declared.section.Dir.{Dir}
-use Rattle.hp_event.specs.declared.event.How.{How}
-use Rattle.hp_event.specs.declared.event.Answer.{Answer}
+use Rattle.hp_states.specs.declared.dir.Dir.{Dir}
+use Rattle.hp_event.specs.declared.how.How.{How}
+use Rattle.hp_event.specs.declared.answer.Answer.{Answer}
 use Rattle.hp_event.specs.declared.head.Head.{Head}
 use Rattle.hp_event.specs.declared.event.Event.{Event}
 use Rattle.hp_event.specs.declared.event.Event.TheVariants.{WalkBegin, Call, WalkEnd, RegBegin, RegEnd}
@@ -14,7 +14,7 @@ use Rattle.hp_model.specs.Walks.{Walk, walk, touched}
 use Rattle.hp_model.specs.Settled.{settled}
 use Rattle.hp_model.specs.StandsCalls.{InWalk, InRegistration}
 use Rattle.hp_model.specs.StandsOperations.{WalkEnds}
-use Rattle.hp_model.specs.Lawful.{Stands, IsLawful}
+use Rattle.hp_model.specs.Lawful.{Comes, Stands, IsLawful}
 use Rattle.hp_model.proofs.Laws.{walk_push, touched_push}
 use Rattle.hp_model.proofs.Kept.{RegistrationKept, Kept, Unmoved}
 use Rattle.hp_model.proofs.WalkSteps.{unmoved_event, begin_unmoved, call_unmoved, end_unmoved}
@@ -112,9 +112,9 @@ beside_call head xs seat cpu state inst dir how h k b = record {
     which : (c o : ℕ) →
         InWalk head xs seat cpu state inst dir how ⊎ InRegistration head xs seat cpu state inst dir how →
         BesideBy c o ys (walk c xs)
-    which c o (inl i) = go c o i.of i.in_flight (eqb cpu o) refl
+    which c o (inl i) = go c o i.entry.of i.entry.in_flight (eqb cpu o) refl
     which c o (inr i) =
-        let r : RegistrationKept head i.of xs = rw i.in_flight at k.registration_kept in
+        let r : RegistrationKept head i.entry.of xs = rw i.entry.in_flight at k.registration_kept in
         rw (r.no_walk c) tt
 
 pub beside_end : (head : Head) (xs : List Event) (seat cpu : ℕ) (answer : Answer) → WalkEnds head xs seat cpu answer →
@@ -139,7 +139,7 @@ beside_end head xs seat cpu answer h b = record {
 pub beside_none : (xs ys : List Event) → ((c : ℕ) → walk c ys ≡ None) → Beside ys
 beside_none xs ys h = record { at = λ c o. rw (h c) tt }
 
-pub beside_step : (head : Head) (xs : List Event) (e : Event) → Stands head xs e → Kept head xs → Beside xs → Beside (xs ++ e ∷ [])
+pub beside_step : (head : Head) (xs : List Event) (e : Event) → Comes head xs e → Kept head xs → Beside xs → Beside (xs ++ e ∷ [])
 beside_step head xs (WalkBegin seat cpu from to) h k b = beside_begin head xs seat cpu from to b
 beside_step head xs (Call seat cpu state inst dir how) h k b = beside_call head xs seat cpu state inst dir how h k b
 beside_step head xs (WalkEnd seat cpu answer) h k b = beside_end head xs seat cpu answer h b
@@ -160,7 +160,7 @@ pub beside_from : (head : Head) (before es : List Event) → Held head before �
     Beside (before ++ es)
 beside_from head before [] k b h = rw append-nil b
 beside_from head before (e ∷ es) k b h =
-    let r = beside_from head (before ++ e ∷ []) es (held_step head before e h.0 k) (beside_step head before e h.0 k.kept b) h.1 in
+    let r = beside_from head (before ++ e ∷ []) es (held_step head before e h.0.0 k) (beside_step head before e h.0.0 k.kept b) h.1 in
     rw (append_assoc before (e ∷ []) es) at r
 
 pub none_at_first : (c : ℕ) → walk c [] ≡ None

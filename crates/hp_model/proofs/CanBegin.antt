@@ -1,7 +1,7 @@
 -- What an operation of a registration needs of what is registered at its state.
 use Rattle.std.proofs.Common.{◌≡◌, ◌<◌, true, Option, Some, None, []}
-use Rattle.hp_event.specs.declared.event.Op.{Op}
-use Rattle.hp_event.specs.declared.event.Op.TheVariants.{Setup, Remove, Add, Del}
+use Rattle.hp_event.specs.declared.op.Op.{Op}
+use Rattle.hp_event.specs.declared.op.Op.TheVariants.{Setup, Remove, Add, Del}
 use Rattle.hp_model.specs.Lists.{occurs}
 use Rattle.hp_model.specs.Registered.{Registered}
 

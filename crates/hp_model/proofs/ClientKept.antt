@@ -2,7 +2,7 @@
 use Rattle.std.proofs.Common.{◌≡◌, ℕ, ◌+◌, Bool, true, false, cond, eqb, Option, Some, None, List, [], ◌∷◌, ◌++◌, length, refl, sym, ◌∙◌, append_assoc}
 use Rattle.std.proofs.lemmas.List.{append-nil}
 use Rattle.std.proofs.lemmas.Bool.{eqb-true, true≢false}
-use Rattle.hp_event.specs.declared.event.Op.{Op}
+use Rattle.hp_event.specs.declared.op.Op.{Op}
 use Rattle.hp_event.specs.declared.event.Role.{Role}
 use Rattle.hp_event.specs.declared.event.Role.TheVariants.{Client, Ap}
 use Rattle.hp_event.specs.declared.head.Head.{Head}
@@ -27,7 +27,7 @@ ap_from s k (c ∷ cs) before found h =
     go true e = cc
     go false e = h e
 
-no_client : (s k : ℕ) (cpus : List ℕ) → role_of s (ap_admits k cpus) ≡ Some Client → ⊥
+pub no_client : (s k : ℕ) (cpus : List ℕ) → role_of s (ap_admits k cpus) ≡ Some Client → ⊥
 unfolding role_of
 no_client s k cpus = ap_from s k cpus [] None (λ e. cc)
 

@@ -1,23 +1,17 @@
 -- Going down the tree of a plan by the entries so far: where code stands in a walk. From it follow what
 -- the row of a Call and the row of a WalkEnd need of the shapes.
-use Rattle.std.proofs.Common.{◌≡◌, ℕ, Bool, true, false, cond, List, [], ◌∷◌, ◌++◌, refl, sym}
+use Rattle.std.proofs.Common.{ℕ, Bool, true, false, cond, List, [], ◌∷◌, ◌++◌, refl, sym}
 use Rattle.std.proofs.lemmas.List.{append-nil}
-use Rattle.hp_states.specs.declared.section.Dir.{Dir}
-use Rattle.hp_states.specs.declared.section.Place.{Place}
+use Rattle.hp_states.specs.declared.dir.Dir.{Dir}
+use Rattle.hp_states.specs.declared.place.Place.{Place}
 use Rattle.hp_states.specs.Sections.{opposite}
 use Rattle.hp_event.specs.declared.event.Event.{Event}
-use Rattle.hp_model.specs.Crossing.{Slot, Fits, Fill, Crossing, slots}
+use Rattle.hp_model.specs.Crossing.{Slot, Fill, Crossing, slots}
 use Rattle.hp_model.specs.WalkShape.{Outcome, IsWalkShape}
 use Rattle.hp_model.specs.StandsCalls.{IsNextInWalk}
+pub use Rattle.hp_model.specs.Runs.{Runs, StandsAt}
 use Rattle.hp_model.proofs.NextSlot.{with_fails, Tree, stop, dead, step, Follow, visit_tree, part_tree, back_tree, walk_tree}
 use Rattle.hp_model.proofs.TreeShapes.{tree_shape}
-
--- the entries lead from one tree down to another
-abbrev pub Runs : Tree → List Event → Tree → Type 0
-Runs t [] u = t ≡ u
-Runs stop (e ∷ es) u = ⊥
-Runs dead (e ∷ es) u = ⊥
-Runs (step s a b) (e ∷ es) u = (fails : Bool) × Fits (with_fails s fails) e × Runs (cond fails b a) es u
 
 pub record IsBefore (t : Tree) (es : List Event) (ys : List Slot) : Type 0 where
   pub front : List Slot
@@ -92,10 +86,6 @@ sound_below (step s a b) (e ∷ es) u r h = go r.0 r.2 (sound_below a es u) (sou
     go : (fails : Bool) → Runs (cond fails b a) es u → (Runs a es u → Sound a → Sound u) → (Runs b es u → Sound b → Sound u) → Sound u
     go true k f g = g k h.2
     go false k f g = f k h.1
-
--- where code stands: these entries lead down the tree of the plan to this tree
-pub record StandsAt (c : ℕ) (keys : ℕ → List ℕ) (d : Dir) (plan : List ℕ) (es : List Event) (t : Tree) : Type 0 where
-  pub runs : Runs (walk_tree c keys d [] plan) es t
 
 -- At a step a Call can come that fits its slot, done or a fault, where that leads to no dead end.
 pub sound_branch : (fails : Bool) (a b : Tree) → Sound a → Sound b → Sound (cond fails b a)

@@ -1,23 +1,24 @@
 -- A lawful journal, step by step: a state is set up, and a walk up of processor 1 is turned back by a
 -- fault. It shows that the conditions can be met, and how each is shown on a journal that is given.
-use Rattle.std.proofs.Common.{◌≡◌, true, false, Some, None, List, [], ◌∷◌, ◌++◌, refl, arith, inl, inr}
+use Rattle.std.proofs.Common.{◌≡◌, ℕ, ◌+◌, ◌≤◌, true, false, Option, Some, None, List, [], ◌∷◌, ◌++◌, length, refl, ap, arith, inl, inr, length-append}
+use Rattle.std.proofs.lemmas.Bool.{le-leb}
 use Rattle.std.specs.Prelude.{pos, slice_get}
-use Rattle.hp_states.specs.declared.section.Dir.TheVariants.{Up}
-use Rattle.hp_states.specs.declared.section.Place.{Place}
-use Rattle.hp_states.specs.declared.section.Place.TheVariants.{Forward}
+use Rattle.hp_states.specs.declared.dir.Dir.TheVariants.{Up}
+use Rattle.hp_states.specs.declared.place.Place.{Place}
+use Rattle.hp_states.specs.declared.place.Place.TheVariants.{Forward}
 use Rattle.hp_states.specs.declared.plan.Rule.{Rule}
-use Rattle.hp_event.specs.declared.event.How.TheVariants.{RanOk, RanFault}
-use Rattle.hp_event.specs.declared.event.Op.{Op}
-use Rattle.hp_event.specs.declared.event.Op.TheVariants.{Setup, Target}
+use Rattle.hp_event.specs.declared.how.How.TheVariants.{RanOk, RanFault}
+use Rattle.hp_event.specs.declared.op.Op.{Op}
+use Rattle.hp_event.specs.declared.op.Op.TheVariants.{Setup, Target}
 use Rattle.hp_event.specs.declared.event.Role.TheVariants.{Client}
-use Rattle.hp_event.specs.declared.event.Answer.TheVariants.{Ok, Fault}
-use Rattle.hp_event.specs.declared.event.Form.{Form}
+use Rattle.hp_event.specs.declared.answer.Answer.TheVariants.{Ok, Fault}
+use Rattle.hp_event.specs.declared.op.Form.{Form}
 use Rattle.hp_event.specs.declared.head.Sub.{Sub}
 use Rattle.hp_event.specs.declared.head.Head.{Head}
 use Rattle.hp_event.specs.declared.event.Event.{Event}
 use Rattle.hp_event.specs.declared.event.Event.TheVariants.{Admit, Enter, WalkBegin, Call, WalkEnd, OpEnd, RegBegin, RegEnd}
 use Rattle.hp_model.specs.Crossing.{Crossing, failed}
-use Rattle.hp_model.specs.Plan.{plan}
+use Rattle.hp_model.specs.Plan.{plan, keys_on}
 use Rattle.hp_model.specs.WalkShape.{returned, IsBack}
 use Rattle.hp_model.specs.Walks.{Walk, walk, walk_entries, walking}
 use Rattle.hp_model.specs.Registrations.{Registration, registration, registration_entries}
@@ -30,15 +31,25 @@ use Rattle.hp_model.specs.Calls.{sites}
 use Rattle.hp_model.specs.MapLock.{Operation, operation}
 use Rattle.hp_model.specs.Sequence.{answers}
 use Rattle.hp_model.specs.Suspend.{disabled}
-use Rattle.hp_model.specs.Processors.{is_present, processors}
+use Rattle.hp_model.specs.Processors.{is_present, present, processors}
 use Rattle.hp_model.specs.RegistrationShape.{key_of, each, IsRegistrationShape, made}
 use Rattle.hp_model.specs.StandsSeats.{Admits}
 use Rattle.hp_model.specs.StandsOperations.{Enters, OpEnds, WalkBegins, WalkEnds}
 use Rattle.hp_model.specs.StandsCalls.{InWalk, InRegistration}
 use Rattle.hp_model.specs.StandsRegistrations.{RegBegins, RegEnds}
-use Rattle.hp_model.specs.Lawful.{IsLawful}
+use Rattle.hp_model.specs.Needs.{need, taken}
+use Rattle.hp_model.specs.Promised.{promised}
+use Rattle.hp_model.specs.Room.{is_room}
+use Rattle.hp_model.specs.Lawful.{Comes, Stands, IsLawful}
 use Rattle.hp_model.specs.Heads.{IsHead}
-use Rattle.hp_model.specs.Lists.{is_empty}
+use Rattle.hp_states.specs.declared.limits.TheConstants.{MAX_EVENTS}
+use Rattle.hp_model.specs.Lists.{is_empty, numbers}
+use Rattle.hp_model.proofs.Induction.{Held, held_none, held_step}
+use Rattle.hp_model.proofs.Lengths.{total}
+use Rattle.hp_model.proofs.EntryBounds.{total_sum}
+use Rattle.hp_model.proofs.SumLemmas.{length-filter_le, length-numbers}
+use Rattle.hp_model.proofs.Owners.{Owners, owners_none, owners_step}
+use Rattle.hp_model.proofs.Promises.{uses, promised_none}
 
 abbrev form : Form
 form = record { nocalls = false; locked = false }
@@ -120,15 +131,17 @@ setup_shape head f = rw (f.first_sub, f.single, f.alone) refl
 s3 : (head : Head) → Fitting head → InRegistration head j2 0 0 10 0 Up RanOk
 unfolding registration registration_entries registered sites
 s3 head f = record {
-  of = asked;
-  in_flight = refl;
-  outcome = made;
-  slots = each Place.Add Up 10 0 (0 ∷ []);
-  shape = setup_shape head f;
-  slot = record { cpu = 0; state = 10; inst = 0; dir = Up; place = Place.Add; first = false; fails = false };
-  is_next = record { front = []; rest = []; slots_are = refl; filled = tt };
-  fits = (refl, refl, refl, refl, refl);
-  how_is = rw (f.first_sub, f.up, f.rules) refl;
+  entry = record {
+    of = asked;
+    in_flight = refl;
+    outcome = made;
+    slots = each Place.Add Up 10 0 (0 ∷ []);
+    shape = setup_shape head f;
+    slot = record { cpu = 0; state = 10; inst = 0; dir = Up; place = Place.Add; first = false; fails = false };
+    is_next = record { front = []; rest = []; slots_are = refl; filled = tt };
+    fits = (refl, refl, refl, refl, refl);
+    how_is = rw (f.first_sub, f.up, f.rules) refl;
+  };
   caller_is = refl;
 }
 
@@ -164,8 +177,7 @@ s6 head = record {
   no_walk = refl;
   gives = refl;
   from_is = refl;
-  no_reader = refl;
-  no_registration = refl;
+  no_wait = refl;
 }
 
 plan_is : (head : Head) → Fitting head → plan (keys head j5) 0 10 ≡ 10 ∷ []
@@ -195,15 +207,17 @@ turned_shape head f = record {
 s7 : (head : Head) → Fitting head → InWalk head j6 0 1 10 0 Up (RanFault 5)
 unfolding walk walk_entries registration registered armed sites
 s7 head f = record {
-  of = way;
-  in_flight = refl;
-  outcome = returned;
-  crossings = turned;
-  shape = turned_shape head f;
-  slot = record { cpu = 1; state = 10; inst = 0; dir = Up; place = Forward; first = true; fails = true };
-  is_next = record { front = []; rest = []; slots_are = refl; filled = tt };
-  fits = (refl, refl, refl, refl, refl);
-  how_is = rw (f.first_sub, f.up, f.rules) refl;
+  entry = record {
+    of = way;
+    in_flight = refl;
+    outcome = returned;
+    crossings = turned;
+    shape = turned_shape head f;
+    slot = record { cpu = 1; state = 10; inst = 0; dir = Up; place = Forward; first = true; fails = true };
+    is_next = record { front = []; rest = []; slots_are = refl; filled = tt };
+    fits = (refl, refl, refl, refl, refl);
+    how_is = rw (f.first_sub, f.up, f.rules) refl;
+  };
   caller_is = refl;
 }
 
@@ -224,10 +238,67 @@ s8 head f = record {
 
 s9 : (head : Head) → OpEnds head j8 0 (Fault 5)
 unfolding walking operation answers
-s9 head = record { of = held; held = refl; seat_is = refl; no_walk = refl; gives = refl }
+s9 head = inl (record { of = held; held = refl; seat_is = refl; no_walk = refl; gives = refl })
+
+-- how much a journal has of events and promises, which is far below the limit
+record Small (head : Head) (xs : List Event) (n : ℕ) : Type 0 where
+  held : Held head xs
+  owners : Owners xs
+  few : length xs + promised head xs ≤ n
+
+small_first : (head : Head) → IsHead head → Small head [] 0
+small_first head h = let none = promised_none head in record { held = held_none head h; owners = owners_none; few = omega arith }
+
+record Grown (head : Head) (xs : List Event) (e : Event) (m : ℕ) : Type 0 where
+  stands : Stands head xs e
+  small : Small head (xs ++ e ∷ []) m
+
+grown : (head : Head) (xs : List Event) (e : Event) (n m : ℕ) → Comes head xs e → Small head xs n → n + taken (need head xs e) ≤ m →
+    m ≤ MAX_EVENTS → Grown head xs e m
+grown head xs e n m h s more few = record {
+  stands = (h, room (need head xs e) more);
+  small = record {
+    held = held_step head xs e h s.held;
+    owners = owners_step head xs e h s.owners;
+    few =
+        let u = uses head xs e h s.owners s.held.operations s.held.kept in
+        let l = length-append xs (e ∷ []) in
+        let f = s.few in
+        omega arith;
+  };
+}
+  where
+    room : (k : Option ℕ) → n + taken k ≤ m → is_room head xs k ≡ true
+    room None more = refl
+    room (Some k) more = let f = s.few in le-leb (length xs + promised head xs + k) MAX_EVENTS (omega arith)
+
+two_present : (head : Head) → Fitting head → length (present head) ≤ 2
+two_present head f =
+    let a = length-filter_le (λ c. is_present head c) (numbers head.possible) in
+    let b = length-numbers head.possible in
+    let c = f.possible in
+    omega arith
+
+one_key : (head : Head) → Fitting head → keys_on (keys head j5) 0 10 ≡ 1
+one_key head f =
+    let t = total_sum (keys head j5) (plan (keys head j5) 0 10) in
+    let p = ap (total (keys head j5)) (plan_is head f) in
+    let l = ap length (keys_are head f) in
+    omega arith
 
 pub lawful : (head : Head) → Fitting head → IsLawful head (j8 ++ OpEnd 0 (Fault 5) ∷ [])
-lawful head f = (
-  f.is_head,
-  (s1 head, (s2 head f, (inr (s3 head f), (s4 head f, (s5 head f, (s6 head, (inl (s7 head f), (s8 head f, (s9 head, tt))))))))),
-)
+lawful head f =
+    let two = two_present head f in
+    let one = one_key head f in
+    let g1 = grown head [] (Admit 0 Client) 0 2 (s1 head) (small_first head f.is_head) (omega arith) (omega arith) in
+    let g2 = grown head j1 (RegBegin 0 10 setup) 2 8 (s2 head f) g1.small (omega arith) (omega arith) in
+    let g3 = grown head j2 (Call 0 0 10 0 Up RanOk) 8 8 (inr (s3 head f)) g2.small (omega arith) (omega arith) in
+    let g4 = grown head j3 (RegEnd 0 (Ok (pos 0))) 8 8 (s4 head f) g3.small (omega arith) (omega arith) in
+    let g5 = grown head j4 (Enter 0 (Target 1 (pos 10))) 8 10 (s5 head f) g4.small (omega arith) (omega arith) in
+    let g6 = grown head j5 (WalkBegin 0 1 0 10) 10 17 (s6 head) g5.small (omega arith) (omega arith) in
+    let g7 = grown head j6 (Call 0 1 10 0 Up (RanFault 5)) 17 17 (inl (s7 head f)) g6.small (omega arith) (omega arith) in
+    let g8 = grown head j7 (WalkEnd 0 1 (Fault 5)) 17 17 (s8 head f) g7.small (omega arith) (omega arith) in
+    let g9 = grown head j8 (OpEnd 0 (Fault 5)) 17 17 (s9 head) g8.small (omega arith) (omega arith) in (
+      f.is_head,
+      (g1.stands, (g2.stands, (g3.stands, (g4.stands, (g5.stands, (g6.stands, (g7.stands, (g8.stands, (g9.stands, tt))))))))),
+    )

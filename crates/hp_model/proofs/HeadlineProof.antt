@@ -2,9 +2,9 @@
 use Rattle.std.proofs.Common.{◌≡◌, ℕ, ◌+◌, ◌<◌, ◌≤◌, Bool, true, false, cond, eqb, leb, ◌&&◌, Option, Some, None, List, [], ◌∷◌, ◌++◌, refl, ap, sym, ◌∙◌, arith}
 use Rattle.std.specs.Prelude.{◌↔◌, pos}
 use Rattle.std.proofs.lemmas.Bool.{eqb-true, eq-eqb, leb-true, leb-false, and_right}
-use Rattle.hp_states.specs.declared.section.Dir.TheVariants.{Up, Down}
-use Rattle.hp_event.specs.declared.event.Answer.{Answer}
-use Rattle.hp_event.specs.declared.event.Answer.TheVariants.{Ok, Fault, Stuck}
+use Rattle.hp_states.specs.declared.dir.Dir.TheVariants.{Up, Down}
+use Rattle.hp_event.specs.declared.answer.Answer.{Answer}
+use Rattle.hp_event.specs.declared.answer.Answer.TheVariants.{Ok, Fault, Stuck}
 use Rattle.hp_event.specs.declared.head.Head.{Head}
 use Rattle.hp_event.specs.declared.event.Event.{Event}
 use Rattle.hp_event.specs.declared.event.Event.TheVariants.{WalkEnd, RegEnd}
@@ -21,7 +21,7 @@ use Rattle.hp_model.specs.Processors.{processors}
 use Rattle.hp_model.specs.RegistrationShape.{key_of, is_adding, Registering, made, undone, IsRegistrationShape, IsRegistrationAnswer, IsWholeRegistration, ok_value}
 use Rattle.hp_model.specs.StandsOperations.{WalkEnds}
 use Rattle.hp_model.specs.StandsRegistrations.{RegEnds}
-use Rattle.hp_model.specs.Lawful.{Stands, IsLawful}
+use Rattle.hp_model.specs.Lawful.{Comes, Stands, IsLawful}
 use Rattle.hp_model.specs.Headline.{Agree, Unchanged, WalkAgrees, WalkUndone, WalkStuck, RegistrationUndone, Headline}
 use Rattle.hp_model.proofs.Counts.{at_or_below, done_entries_push}
 use Rattle.hp_model.proofs.Path.{path_nets, plan_path, shape_path, end_of}
@@ -213,8 +213,8 @@ registration_undone head before seat code r k whole = record {
 
 -- the last event of a lawful journal stands after the others, which are lawful
 pub last : (head : Head) (before : List Event) (e : Event) → IsLawful head (before ++ e ∷ []) →
-    IsLawful head before × Stands head before e
-last head before e h = let r = EachAfter_push (Stands head) [] before e h.1 in ((h.0, r.0), r.1)
+    IsLawful head before × Comes head before e
+last head before e h = let r = EachAfter_push (Stands head) [] before e h.1 in ((h.0, r.0), r.1.0)
 
 pub same_some : {A : Type 0} (a b : A) → Some a ≡ Some b → a ≡ b
 same_some a b e = cc

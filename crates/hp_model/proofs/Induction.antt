@@ -2,7 +2,7 @@
 use Rattle.std.proofs.Common.{◌≡◌, ℕ, Bool, true, false, cond, eqb, leb, List, [], ◌∷◌, ◌++◌, refl, sym, ◌∙◌, arith, inl, inr, ◌⊎◌, append_assoc}
 use Rattle.std.proofs.lemmas.List.{append-nil}
 use Rattle.std.proofs.lemmas.Bool.{true≢false, eqb-true}
-use Rattle.hp_states.specs.declared.section.Dir.TheVariants.{Up, Down}
+use Rattle.hp_states.specs.declared.dir.Dir.TheVariants.{Up, Down}
 use Rattle.hp_event.specs.declared.head.Head.{Head}
 use Rattle.hp_event.specs.declared.event.Event.{Event}
 use Rattle.hp_event.specs.declared.event.Event.TheVariants.{WalkBegin, Call, WalkEnd, RegBegin, RegEnd}
@@ -13,7 +13,7 @@ use Rattle.hp_model.specs.Registered.{registered}
 use Rattle.hp_model.specs.Settled.{settled}
 use Rattle.hp_model.specs.Processors.{is_present}
 use Rattle.hp_model.specs.StandsCalls.{InWalk, InRegistration}
-use Rattle.hp_model.specs.Lawful.{Stands, IsLawful}
+use Rattle.hp_model.specs.Lawful.{Comes, Stands, IsLawful}
 use Rattle.hp_model.specs.Heads.{IsHead}
 use Rattle.hp_model.proofs.Counts.{done_entries-none, cond_same}
 use Rattle.hp_model.proofs.Kept.{Balanced, Kept}
@@ -48,7 +48,7 @@ kept_none head h = record {
   none_at_0 = refl;
 }
 
-pub kept_step : (head : Head) (xs : List Event) (e : Event) → Stands head xs e → Operations head xs → Kept head xs → Kept head (xs ++ e ∷ [])
+pub kept_step : (head : Head) (xs : List Event) (e : Event) → Comes head xs e → Operations head xs → Kept head xs → Kept head (xs ++ e ∷ [])
 kept_step head xs (WalkBegin seat cpu from to) h o k =
     begin_step head xs seat cpu from to h (walk_present head xs seat cpu from to h o k) k
 kept_step head xs (Call seat cpu state inst dir how) h o k = go h
@@ -81,7 +81,7 @@ pub record Held (head : Head) (events : List Event) : Type 0 where
 pub held_none : (head : Head) → IsHead head → Held head []
 held_none head h = record { kept = kept_none head h; operations = operations_none head }
 
-pub held_step : (head : Head) (xs : List Event) (e : Event) → Stands head xs e → Held head xs → Held head (xs ++ e ∷ [])
+pub held_step : (head : Head) (xs : List Event) (e : Event) → Comes head xs e → Held head xs → Held head (xs ++ e ∷ [])
 held_step head xs e h k = record {
   kept = kept_step head xs e h k.operations k.kept;
   operations = operations_step head xs e h k.kept k.operations;
@@ -91,7 +91,7 @@ pub held_from : (head : Head) (before es : List Event) → Held head before → 
     Held head (before ++ es)
 held_from head before [] k h = rw append-nil k
 held_from head before (e ∷ es) k h =
-    let r = held_from head (before ++ e ∷ []) es (held_step head before e h.0 k) h.1 in
+    let r = held_from head (before ++ e ∷ []) es (held_step head before e h.0.0 k) h.1 in
     rw (append_assoc before (e ∷ []) es) at r
 
 pub kept : (head : Head) (events : List Event) → IsLawful head events → Kept head events

@@ -1,7 +1,7 @@
 -- What every lawful journal keeps, and that one event more keeps it.
 use Rattle.std.proofs.Common.{◌≡◌, ℕ, ◌+◌, ◌<◌, ◌≤◌, true, false, Option, Some, None, List, refl, ◌∙◌}
-use Rattle.hp_states.specs.declared.section.Dir.{Dir}
-use Rattle.hp_states.specs.declared.section.Dir.TheVariants.{Up, Down}
+use Rattle.hp_states.specs.declared.dir.Dir.{Dir}
+use Rattle.hp_states.specs.declared.dir.Dir.TheVariants.{Up, Down}
 use Rattle.hp_event.specs.declared.head.Head.{Head}
 use Rattle.hp_event.specs.declared.event.Event.{Event}
 use Rattle.hp_model.specs.InForce.{done_entries, ups, downs}

@@ -9,9 +9,12 @@ use Rattle.hp_model.specs.Registrations.{registration_step, registration, regist
 use Rattle.hp_model.specs.Registered.{registered_step, registered}
 use Rattle.hp_model.specs.Readers.{reading_since_step, reading_since, readers, readers_step}
 use Rattle.hp_model.specs.MapLock.{operation_step, operation}
-use Rattle.hp_model.specs.Suspend.{frozen_step, frozen}
+use Rattle.hp_model.specs.Armed.{armed_step, armed}
+use Rattle.hp_model.specs.Calls.{sites_step, sites}
+use Rattle.hp_model.specs.Sequence.{begun_step, begun, answers_step, answers}
+use Rattle.hp_model.specs.Suspend.{frozen_step, frozen, disabled_step, disabled, wakeup_step, wakeup_pending}
 use Rattle.hp_model.specs.Settled.{settled_step, settled}
-use Rattle.hp_model.specs.Seats.{admits, admits_step, role_of, role_step, ap_seat, ap_step}
+use Rattle.hp_model.specs.Seats.{admits, admits_step, role_of, role_step, ap_seat, ap_step, seats, seats_step}
 
 pub over_from_push : {S : Type 0} (step : S → List Event → Event → S) (value : S) (before xs : List Event) (e : Event) →
     over_from step value before (xs ++ e ∷ []) ≡ step (over_from step value before xs) (before ++ xs) e
@@ -105,3 +108,31 @@ role_push k xs e = over_from_push (role_step k) None [] xs e
 pub ap_push : (c : ℕ) (xs : List Event) (e : Event) → ap_seat c (xs ++ e ∷ []) ≡ ap_step c (ap_seat c xs) xs e
 unfolding ap_seat
 ap_push c xs e = over_from_push (ap_step c) None [] xs e
+
+pub seats_push : (xs : List Event) (e : Event) → seats (xs ++ e ∷ []) ≡ seats_step (seats xs) xs e
+unfolding seats
+seats_push xs e = over_from_push seats_step [] [] xs e
+
+pub armed_push : (c : ℕ) (xs : List Event) (e : Event) → armed c (xs ++ e ∷ []) ≡ armed_step c (armed c xs) xs e
+unfolding armed
+armed_push c xs e = over_from_push (armed_step c) None [] xs e
+
+pub sites_push : (s : ℕ) (xs : List Event) (e : Event) → sites s (xs ++ e ∷ []) ≡ sites_step s (sites s xs) xs e
+unfolding sites
+sites_push s xs e = over_from_push (sites_step s) [] [] xs e
+
+pub disabled_push : (xs : List Event) (e : Event) → disabled (xs ++ e ∷ []) ≡ disabled_step (disabled xs) xs e
+unfolding disabled
+disabled_push xs e = over_from_push disabled_step 0 [] xs e
+
+pub wakeup_push : (xs : List Event) (e : Event) → wakeup_pending (xs ++ e ∷ []) ≡ wakeup_step (wakeup_pending xs) xs e
+unfolding wakeup_pending
+wakeup_push xs e = over_from_push wakeup_step false [] xs e
+
+pub begun_push : (xs : List Event) (e : Event) → begun (xs ++ e ∷ []) ≡ begun_step (begun xs) xs e
+unfolding begun
+begun_push xs e = over_from_push begun_step [] [] xs e
+
+pub answers_push : (xs : List Event) (e : Event) → answers (xs ++ e ∷ []) ≡ answers_step (answers xs) xs e
+unfolding answers
+answers_push xs e = over_from_push answers_step [] [] xs e

@@ -1,9 +1,9 @@
 -- A walk over n keys has at most three entries a key: what its promise of room rests on.
 use Rattle.std.proofs.Common.{◌≡◌, ℕ, ◌+◌, ◌*◌, ◌≤◌, Bool, true, false, List, [], ◌∷◌, ◌++◌, reverse, length, refl, ap, ◌∙◌, arith, length-append}
 use Rattle.std.proofs.lemmas.List.{reverse-append}
-use Rattle.hp_states.specs.declared.section.Dir.{Dir}
-use Rattle.hp_states.specs.declared.section.Place.{Place}
-use Rattle.hp_states.specs.declared.section.Place.TheVariants.{Forward, Back, Part}
+use Rattle.hp_states.specs.declared.dir.Dir.{Dir}
+use Rattle.hp_states.specs.declared.place.Place.{Place}
+use Rattle.hp_states.specs.declared.place.Place.TheVariants.{Forward, Back, Part}
 use Rattle.hp_states.specs.Sections.{opposite}
 use Rattle.hp_model.specs.Crossing.{Slot, visit, Crossing, done, failed, slots_of, slots}
 use Rattle.hp_model.specs.Lists.{is_empty}

@@ -9,6 +9,7 @@ pub mod ListLemmas
 pub mod Registrations
 pub mod RegistrationBounds
 pub mod InFlight
+pub mod WaitLemmas
 pub mod Owners
 pub mod Passing
 pub mod Kept
@@ -21,12 +22,25 @@ pub mod Bounds
 pub mod Once
 pub mod ReadersKept
 pub mod HeadlineProof
+pub mod RoomKept
+pub mod Remains
+pub mod Members
+pub mod WalkGives
+pub mod RegistrationGives
 pub mod KeyLaw
 mod Example
+mod FullExample
+mod RunExamples
+mod ScheduleExamples
+mod DynamicExample
 pub mod NextSlot
 pub mod TreeShapes
 pub mod Cursor
 pub mod Lengths
+pub mod EntryBounds
+pub mod SumLemmas
+pub mod SeatLemmas
+pub mod Promises
 pub mod OneAnswer
 pub mod WalkEnd
 pub mod PlanLemmas
@@ -35,10 +49,38 @@ pub mod NextRegistration
 pub mod OneEntry
 pub mod OneRegistration
 pub mod RegistrationCursor
+pub mod TreeSteps
+pub mod HowLemmas
+pub mod NextOfWalk
+pub mod NextOfRegistration
+pub mod FirstEvents
+pub mod HoldersDontRead
+pub mod SomeMoves
+pub mod TurnFinds
+pub mod FindsOne
 pub mod Stages
 pub mod OneNext
+pub mod OneFate
 pub mod Slow
 pub mod RunLemmas
 pub mod Rounds
 pub mod OneActor
+pub mod DueGives
+pub mod NextStands
+pub mod NextGives
+pub mod ScriptRuns
+pub mod Roster
+pub mod FlightSteps
+pub mod LockSteps
+pub mod AnswerCounts
+pub mod Going
+pub mod OneWalkProof
+pub mod TurnsMake
+pub mod AnswersShown
+pub mod DrawLemmas
+pub mod MovesOn
+pub mod RoundsEnd
+pub mod OverStays
+pub mod RoundsMakeRun
 pub mod ClientKept
+pub mod Fronts

@@ -1,29 +1,14 @@
 -- After some entries of a registration the next slot is determined, but for whether it fails.
 use Rattle.std.proofs.Common.{◌≡◌, ℕ, Bool, true, false, Option, Some, None, List, [], ◌∷◌, ◌++◌, refl, append_assoc}
 use Rattle.std.proofs.lemmas.List.{append-nil}
-use Rattle.hp_states.specs.declared.section.Dir.TheVariants.{Up, Down}
-use Rattle.hp_states.specs.declared.section.Place.{Place}
+use Rattle.hp_states.specs.declared.dir.Dir.TheVariants.{Up, Down}
+use Rattle.hp_states.specs.declared.place.Place.{Place}
 use Rattle.hp_event.specs.declared.event.Event.{Event}
 use Rattle.hp_model.specs.Crossing.{Slot}
 use Rattle.hp_model.specs.RegistrationShape.{each, Registering, made, undone, IsRegistrationShape}
 use Rattle.hp_model.specs.StandsCalls.{IsNext}
-use Rattle.hp_model.proofs.NextSlot.{with_fails, Tree, stop, dead, step, Follow, next_same}
-
-abbrev pub down_tree : Place → (state inst : ℕ) → (cpus : List ℕ) → Tree
-down_tree p s i [] = stop
-down_tree p s i (c ∷ cs) =
-    step (record { cpu = c; state = s; inst = i; dir = Down; place = p; first = false; fails = false }) (down_tree p s i cs) dead
-
-abbrev pub add_tree : (state inst : ℕ) → (seen cpus : List ℕ) → Tree
-add_tree s i seen [] = stop
-add_tree s i seen (c ∷ cs) =
-    step (record { cpu = c; state = s; inst = i; dir = Up; place = Place.Add; first = false; fails = false })
-    (add_tree s i (seen ++ c ∷ []) cs) (down_tree Place.Undo s i seen)
-
-abbrev pub registration_tree : (adding : Bool) → (state : ℕ) → Option ℕ → (cpus : List ℕ) → Tree
-registration_tree adding s None cs = stop
-registration_tree true s (Some i) cs = add_tree s i [] cs
-registration_tree false s (Some i) cs = down_tree Place.Remove s i cs
+use Rattle.hp_model.proofs.NextSlot.{with_fails, Follow, next_same}
+pub use Rattle.hp_model.specs.Trees.{down_tree, add_tree, registration_tree}
 
 pub down_follows : (p : Place) (s i : ℕ) (cs : List ℕ) → Follow (down_tree p s i cs) (each p Down s i cs)
 down_follows p s i [] = tt

@@ -3,9 +3,9 @@
 use Rattle.std.proofs.Common.{◌≡◌, ℕ, Bool, true, false, cond, not, List, [], ◌∷◌, ◌++◌, reverse, refl, ap, sym, ◌∙◌, append_assoc}
 use Rattle.std.proofs.lemmas.List.{append-nil, reverse-append}
 use Rattle.std.proofs.lemmas.Bool.{true≢false, false≢true}
-use Rattle.hp_states.specs.declared.section.Dir.{Dir}
-use Rattle.hp_states.specs.declared.section.Place.{Place}
-use Rattle.hp_states.specs.declared.section.Place.TheVariants.{Forward, Back, Part}
+use Rattle.hp_states.specs.declared.dir.Dir.{Dir}
+use Rattle.hp_states.specs.declared.place.Place.{Place}
+use Rattle.hp_states.specs.declared.place.Place.TheVariants.{Forward, Back, Part}
 use Rattle.hp_states.specs.Sections.{opposite}
 use Rattle.hp_event.specs.declared.event.Event.{Event}
 use Rattle.hp_event.specs.declared.event.Event.TheVariants.{Call}
@@ -13,16 +13,8 @@ use Rattle.hp_model.specs.Crossing.{Slot, Fits, Fill, visit, Crossing, done, fai
 use Rattle.hp_model.specs.Lists.{is_empty}
 use Rattle.hp_model.specs.WalkShape.{Outcome, went, returned, stopped, crossed, IsWalkShape}
 use Rattle.hp_model.specs.StandsCalls.{IsNext}
-
-abbrev pub with_fails : Slot → Bool → Slot
-with_fails x b =
-    record { cpu = x.cpu; state = x.state; inst = x.inst; dir = x.dir; place = x.place; first = x.first; fails = b }
-
--- what can follow: nothing, no shape at all, or one slot and what follows where it is done and where it fails
-pub data Tree : Type 0 where
-  stop : Tree
-  dead : Tree
-  step : Slot → Tree → Tree → Tree
+pub use Rattle.hp_model.specs.Trees.{Tree, stop, dead, step, visit_tree, part_tree, back_tree, walk_tree}
+pub use Rattle.hp_model.specs.Runs.{with_fails}
 
 abbrev pub Follow : Tree → List Slot → Type 0
 Follow stop [] = Unit {0}
@@ -30,33 +22,6 @@ Follow stop (x ∷ xs) = ⊥
 Follow dead xs = ⊥
 Follow (step s a b) [] = ⊥
 Follow (step s a b) (x ∷ xs) = (x ≡ with_fails s x.fails) × Follow (cond x.fails b a) xs
-
--- the keys of a state in list order; a fault goes on by the keys before it
-abbrev pub visit_tree : (cpu : ℕ) → Place → Dir → (state : ℕ) → (first : Bool) → (earlier : List ℕ) → List ℕ → Tree →
-    (List ℕ → Tree) → Tree
-visit_tree c p d s b earlier [] then else = then
-visit_tree c p d s b earlier (i ∷ is) then else =
-    step (record { cpu = c; state = s; inst = i; dir = d; place = p; first = b; fails = false })
-    (visit_tree c p d s false (earlier ++ i ∷ []) is then else) (else earlier)
-
--- undoing part of a state never fails
-abbrev pub part_tree : (cpu : ℕ) → Dir → (state : ℕ) → List ℕ → Tree → Tree
-part_tree c d s [] then = then
-part_tree c d s (i ∷ is) then =
-    step (record { cpu = c; state = s; inst = i; dir = d; place = Part; first = false; fails = false })
-    (part_tree c d s is then) dead
-
-abbrev pub back_tree : (cpu : ℕ) → (keys : ℕ → List ℕ) → Dir → List ℕ → Tree
-back_tree c keys d [] = stop
-back_tree c keys d (t ∷ ts) =
-    visit_tree c Back d t true [] (keys t) (back_tree c keys d ts) (λ earlier. part_tree c (opposite d) t earlier stop)
-
--- the walk of a plan, with the states that are crossed already, last first
-abbrev pub walk_tree : (cpu : ℕ) → (keys : ℕ → List ℕ) → Dir → (crossed : List ℕ) → (plan : List ℕ) → Tree
-walk_tree c keys d stack [] = stop
-walk_tree c keys d stack (s ∷ ss) =
-    visit_tree c Forward d s true [] (keys s) (walk_tree c keys d (s ∷ stack) ss)
-    (λ earlier. part_tree c (opposite d) s earlier (back_tree c keys (opposite d) stack))
 
 pub visit_done : (c : ℕ) (p : Place) (d : Dir) (s : ℕ) (b : Bool) (earlier is : List ℕ) (t : Tree) (f : List ℕ → Tree) (xs : List Slot) →
     Follow t xs → Follow (visit_tree c p d s b earlier is t f) (visit c p d s b is ++ xs)

@@ -1,7 +1,7 @@
 -- Each key is in force once or not at all, at every moment.
 use Rattle.std.proofs.Common.{◌≡◌, ℕ, ◌+◌, ◌≤◌, Bool, true, false, cond, eqb, leb, ◌&&◌, Option, Some, None, List, refl, sym, ◌∙◌, arith}
 use Rattle.std.proofs.lemmas.Bool.{eqb-true}
-use Rattle.hp_states.specs.declared.section.Dir.TheVariants.{Up, Down}
+use Rattle.hp_states.specs.declared.dir.Dir.TheVariants.{Up, Down}
 use Rattle.hp_event.specs.declared.head.Head.{Head}
 use Rattle.hp_event.specs.declared.event.Event.{Event}
 use Rattle.hp_model.specs.InForce.{ups, downs}

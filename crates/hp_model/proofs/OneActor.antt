@@ -2,7 +2,7 @@
 use Rattle.std.proofs.Common.{◌≡◌, ℕ, zero, suc, ◌+◌, ◌-◌, ◌≤◌, Bool, true, false, cond, ltb, Option, Some, None, List, [], ◌∷◌, length, refl, ap, sym, ◌∙◌, inl, inr, ◌⊎◌, arith}
 use Rattle.std.specs.Prelude.{slice_get}
 use Rattle.std.proofs.lemmas.Bool.{true≢false, ltb-false}
-use Rattle.hp_event.specs.declared.event.Op.{Op}
+use Rattle.hp_event.specs.declared.op.Op.{Op}
 use Rattle.hp_event.specs.declared.head.Head.{Head}
 use Rattle.hp_event.specs.declared.event.Event.{Event}
 use Rattle.hp_event.specs.declared.event.Event.TheVariants.{Call, WalkEnd, RegEnd}
@@ -27,9 +27,9 @@ walk_seat : (head : Head) (xs : List Event) (k j c : ℕ) (e f : Event) → Walk
 walk_seat head xs k j c (Call seat cpu state inst dir how) (Call seat' cpu' state' inst' dir' how') h w =
     ap seat_of (one_entry head xs k j c state state' inst inst' dir dir' how how' h.2 w.2)
 walk_seat head xs k j c (Call seat cpu state inst dir how) (WalkEnd seat' cpu' answer) h w =
-    absurd (walk_ended head xs k j c state inst dir how answer h.2 w.2)
+    absurd (walk_ended head xs j c state inst dir how answer h.2.entry w.2)
 walk_seat head xs k j c (WalkEnd seat' cpu' answer) (Call seat cpu state inst dir how) h w =
-    absurd (walk_ended head xs j k c state inst dir how answer w.2 h.2)
+    absurd (walk_ended head xs k c state inst dir how answer w.2.entry h.2)
 walk_seat head xs k j c (WalkEnd seat cpu a) (WalkEnd seat' cpu' b) h w =
     let a : WalkEnds head xs k c a = h.2 in
     let b : WalkEnds head xs j c b = w.2 in
@@ -44,9 +44,9 @@ registration_event_seat : (head : Head) (xs : List Event) (k j : ℕ) (e f : Eve
 registration_event_seat head xs k j (Call seat cpu state inst dir how) (Call seat' cpu' state' inst' dir' how') h w =
     ap seat_of (one_registration_entry head xs k j cpu cpu' state state' inst inst' dir dir' how how' h.1 w.1)
 registration_event_seat head xs k j (Call seat cpu state inst dir how) (RegEnd seat' answer) h w =
-    absurd (registration_ended head xs k j cpu state inst dir how answer h.1 w.1)
+    absurd (registration_ended head xs j cpu state inst dir how answer h.1.entry w.1)
 registration_event_seat head xs k j (RegEnd seat' answer) (Call seat cpu state inst dir how) h w =
-    absurd (registration_ended head xs j k cpu state inst dir how answer w.1 h.1)
+    absurd (registration_ended head xs k cpu state inst dir how answer w.1.entry h.1)
 registration_event_seat head xs k j (RegEnd seat a) (RegEnd seat' b) h w =
     let a : RegEnds head xs k a = h.1 in
     let b : RegEnds head xs j b = w.1 in

@@ -1,10 +1,10 @@
 -- A walk that can end has one answer.
 use Rattle.std.proofs.Common.{◌≡◌, ℕ, Bool, true, false, cond, List, [], ◌∷◌, ◌++◌, reverse, refl, ap, sym, ◌∙◌}
-use Rattle.hp_states.specs.declared.section.Dir.{Dir}
-use Rattle.hp_states.specs.declared.section.Place.{Place}
-use Rattle.hp_states.specs.declared.section.Place.TheVariants.{Forward, Back, Part}
+use Rattle.hp_states.specs.declared.dir.Dir.{Dir}
+use Rattle.hp_states.specs.declared.place.Place.{Place}
+use Rattle.hp_states.specs.declared.place.Place.TheVariants.{Forward, Back, Part}
 use Rattle.hp_states.specs.Sections.{opposite}
-use Rattle.hp_event.specs.declared.event.Answer.{Answer}
+use Rattle.hp_event.specs.declared.answer.Answer.{Answer}
 use Rattle.hp_event.specs.declared.event.Event.{Event}
 use Rattle.hp_model.specs.Crossing.{Slot, Fill, visit, Crossing, done, failed, far, slots_of, slots}
 use Rattle.hp_model.specs.Lists.{is_empty}

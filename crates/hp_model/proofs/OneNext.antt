@@ -1,10 +1,10 @@
 -- After a lawful journal at most one event of a given seat and operation can stand next.
 use Rattle.std.proofs.Common.{◌≡◌, ℕ, List, [], ◌∷◌, ◌++◌, refl, sym, ◌∙◌, inl, inr, append_assoc}
 use Rattle.std.proofs.lemmas.List.{append-nil}
-use Rattle.hp_states.specs.declared.section.Dir.{Dir}
-use Rattle.hp_event.specs.declared.event.Op.{Op}
-use Rattle.hp_event.specs.declared.event.How.{How}
-use Rattle.hp_event.specs.declared.event.Answer.{Answer}
+use Rattle.hp_states.specs.declared.dir.Dir.{Dir}
+use Rattle.hp_event.specs.declared.op.Op.{Op}
+use Rattle.hp_event.specs.declared.how.How.{How}
+use Rattle.hp_event.specs.declared.answer.Answer.{Answer}
 use Rattle.hp_event.specs.declared.head.Head.{Head}
 use Rattle.hp_event.specs.declared.event.Event.{Event}
 use Rattle.hp_event.specs.declared.event.Event.TheVariants.{Call, WalkEnd, RegEnd}
@@ -14,7 +14,7 @@ use Rattle.hp_model.specs.Walks.{walk_entries}
 use Rattle.hp_model.specs.Registered.{keys}
 use Rattle.hp_model.specs.Plan.{direction, plan}
 use Rattle.hp_model.specs.Crossing.{slots}
-use Rattle.hp_model.specs.StandsCalls.{InWalk}
+use Rattle.hp_model.specs.StandsCalls.{WalkEntry}
 use Rattle.hp_model.specs.StandsOperations.{WalkEnds}
 use Rattle.hp_model.specs.Lawful.{Stands, IsLawful}
 use Rattle.hp_model.proofs.Kept.{Kept}
@@ -27,9 +27,9 @@ use Rattle.hp_model.proofs.Owners.{Owners, owners_none, owners_step, same_some}
 use Rattle.hp_model.proofs.Stages.{Between, OnWalk, WalkEvent, RegistrationEvent, Stage, stage_of, before_between, before_walk, before_registration, between_walk, between_registration, walk_registration}
 
 -- a walk that can end can't go on, by whatever seat
-pub walk_ended : (head : Head) (xs : List Event) (k j c state inst : ℕ) (dir : Dir) (how : How) (answer : Answer) →
-    InWalk head xs k c state inst dir how → WalkEnds head xs j c answer → ⊥
-walk_ended head xs k j c state inst dir how answer h w =
+pub walk_ended : (head : Head) (xs : List Event) (j c state inst : ℕ) (dir : Dir) (how : How) (answer : Answer) →
+    WalkEntry head xs c state inst dir how → WalkEnds head xs j c answer → ⊥
+walk_ended head xs j c state inst dir how answer h w =
     let same : h.of ≡ w.of = same_some h.of w.of (sym h.in_flight ∙ w.in_flight) in
     let K = keys head w.of.before in
     let d = direction w.of.from w.of.to in
@@ -51,9 +51,9 @@ one_on_walk : (head : Head) (xs : List Event) (k c : ℕ) (e f : Event) → Walk
 one_on_walk head xs k c (Call seat cpu state inst dir how) (Call seat' cpu' state' inst' dir' how') h w =
     rw (h.0, h.1, w.0, w.1) (one_entry head xs k k c state state' inst inst' dir dir' how how' h.2 w.2)
 one_on_walk head xs k c (Call seat cpu state inst dir how) (WalkEnd seat' cpu' answer) h w =
-    absurd (walk_ended head xs k k c state inst dir how answer h.2 w.2)
+    absurd (walk_ended head xs k c state inst dir how answer h.2.entry w.2)
 one_on_walk head xs k c (WalkEnd seat' cpu' answer) (Call seat cpu state inst dir how) h w =
-    absurd (walk_ended head xs k k c state inst dir how answer w.2 h.2)
+    absurd (walk_ended head xs k c state inst dir how answer w.2.entry h.2)
 one_on_walk head xs k c (WalkEnd seat cpu a) (WalkEnd seat' cpu' b) h w =
     rw (h.0, h.1, w.0, w.1, walk_answer head xs k c a b h.2 w.2) refl
 one_on_walk head xs k c (Call seat cpu state inst dir how) f h w = elim w [ ]
@@ -65,9 +65,9 @@ one_on_registration : (head : Head) (xs : List Event) (k : ℕ) (e f : Event) �
 one_on_registration head xs k (Call seat cpu state inst dir how) (Call seat' cpu' state' inst' dir' how') h w =
     rw (h.0, w.0) (one_registration_entry head xs k k cpu cpu' state state' inst inst' dir dir' how how' h.1 w.1)
 one_on_registration head xs k (Call seat cpu state inst dir how) (RegEnd seat' answer) h w =
-    absurd (registration_ended head xs k k cpu state inst dir how answer h.1 w.1)
+    absurd (registration_ended head xs k cpu state inst dir how answer h.1.entry w.1)
 one_on_registration head xs k (RegEnd seat' answer) (Call seat cpu state inst dir how) h w =
-    absurd (registration_ended head xs k k cpu state inst dir how answer w.1 h.1)
+    absurd (registration_ended head xs k cpu state inst dir how answer w.1.entry h.1)
 one_on_registration head xs k (RegEnd seat a) (RegEnd seat' b) h w =
     rw (h.0, w.0, one_registration_answer head xs k k a b h.1 w.1) refl
 one_on_registration head xs k (Call seat cpu state inst dir how) f h w = elim w [ ]
@@ -107,7 +107,7 @@ owners_from : (head : Head) (before es : List Event) → Owners before → EachA
     Owners (before ++ es)
 owners_from head before [] o h = rw append-nil o
 owners_from head before (e ∷ es) o h =
-    let r = owners_from head (before ++ e ∷ []) es (owners_step head before e h.0 o) h.1 in
+    let r = owners_from head (before ++ e ∷ []) es (owners_step head before e h.0.0 o) h.1 in
     rw (append_assoc before (e ∷ []) es) at r
 
 pub owners : (head : Head) (xs : List Event) → IsLawful head xs → Owners xs

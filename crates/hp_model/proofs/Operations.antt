@@ -3,10 +3,10 @@ use Rattle.std.proofs.Common.{◌≡◌, ℕ, ◌+◌, ◌<◌, Bool, true, fals
 use Rattle.std.specs.Prelude.{pos}
 use Rattle.std.specs.List.{filter}
 use Rattle.std.proofs.lemmas.Bool.{true≢false, eqb-true, and_parts, ltb-true, lt-ltb, eqb-false, eq-eqb}
-use Rattle.hp_event.specs.declared.event.Op.{Op}
-use Rattle.hp_event.specs.declared.event.Op.TheVariants.{Up, Down, Target, Boot, Disable, Enable, Freeze, Thaw}
-use Rattle.hp_event.specs.declared.event.Answer.{Answer}
-use Rattle.hp_event.specs.declared.event.Answer.TheVariants.{Ok}
+use Rattle.hp_event.specs.declared.op.Op.{Op}
+use Rattle.hp_event.specs.declared.op.Op.TheVariants.{Up, Down, Target, Boot, Disable, Enable, Freeze, Thaw}
+use Rattle.hp_event.specs.declared.answer.Answer.{Answer}
+use Rattle.hp_event.specs.declared.answer.Answer.TheVariants.{Ok}
 use Rattle.hp_event.specs.declared.head.Head.{Head}
 use Rattle.hp_event.specs.declared.event.Event.{Event}
 use Rattle.hp_event.specs.declared.event.Event.TheVariants.{Enter, WalkEnd, OpEnd}
@@ -19,7 +19,7 @@ use Rattle.hp_model.specs.Sequence.{answers, begun, failures, primary_of, walks,
 use Rattle.hp_model.specs.RefusalsAtOnce.{first_that_holds}
 use Rattle.hp_model.specs.Refusals.{refusals_after_waits}
 use Rattle.hp_model.specs.StandsOperations.{Enters, WalkBegins}
-use Rattle.hp_model.specs.Lawful.{Stands}
+use Rattle.hp_model.specs.Lawful.{Comes}
 use Rattle.hp_model.proofs.Counts.{occurs-append}
 use Rattle.hp_model.proofs.ListLemmas.{occurs-filter}
 use Rattle.hp_model.proofs.Laws.{operation_push, frozen_push}
@@ -42,7 +42,7 @@ pub operations_none : (head : Head) → Operations head []
 unfolding operation frozen
 operations_none head = record { entered = tt; frozen_present = λ c h. absurd (omega arith) }
 
-pub operations_step : (head : Head) (xs : List Event) (e : Event) → Stands head xs e → Kept head xs → Operations head xs →
+pub operations_step : (head : Head) (xs : List Event) (e : Event) → Comes head xs e → Kept head xs → Operations head xs →
     Operations head (xs ++ e ∷ [])
 operations_step head xs (Enter seat op) h k o = record {
   entered = rw (operation_push xs (Enter seat op)) (record { enters = h; away = λ c a. (k.at c).away a });

@@ -1,21 +1,24 @@
 -- Whose everything in flight is: an operation and a registration are of clients that are in, an AP seat is of its
 -- processor, and a walk is of the operation that holds the map lock, alone.
-use Rattle.std.proofs.Common.{◌≡◌, ℕ, ◌+◌, ◌<◌, Bool, true, false, cond, eqb, Option, Some, None, List, [], ◌∷◌, ◌++◌, refl, ap, sym, ◌∙◌, arith}
+use Rattle.std.proofs.Common.{◌≡◌, ℕ, ◌+◌, ◌<◌, Bool, true, false, cond, eqb, is_some, Option, Some, None, List, [], ◌∷◌, ◌++◌, refl, ap, sym, ◌∙◌, inl, inr, arith}
 use Rattle.std.proofs.lemmas.Bool.{true≢false, eqb-true, eq-eqb, or_parts}
 use Rattle.std.proofs.lemmas.Bool.Decides.{nat_tests}
-use Rattle.hp_event.specs.declared.event.Op.{Op}
+use Rattle.hp_event.specs.declared.op.Op.{Op}
+use Rattle.hp_event.specs.declared.answer.Answer.{Answer}
 use Rattle.hp_event.specs.declared.event.Role.{Role}
 use Rattle.hp_event.specs.declared.event.Role.TheVariants.{Client, Ap}
 use Rattle.hp_event.specs.declared.head.Head.{Head}
 use Rattle.hp_event.specs.declared.event.Event.{Event}
 use Rattle.hp_event.specs.declared.event.Event.TheVariants.{Admit, Leave, Enter, WalkBegin, WalkEnd, OpEnd, RegBegin, RegEnd}
-use Rattle.hp_model.specs.Walks.{Walk, walk}
+use Rattle.hp_model.specs.Walks.{Walk, walk, is_walking}
 use Rattle.hp_model.specs.Registrations.{Registration, registration}
-use Rattle.hp_model.specs.MapLock.{Operation, operation, is_map_op, is_map_held}
+use Rattle.hp_model.specs.MapLock.{Operation, operation, is_map_op}
 use Rattle.hp_model.specs.Seats.{admits, role_of, ap_seat, unseated, holds_map, registers, is_busy}
-use Rattle.hp_model.specs.Waits.{is_waiting}
+use Rattle.hp_model.specs.Waits.{is_waiting, wait_for_map, wait_for_registration}
+use Rattle.hp_model.proofs.WaitLemmas.{map_waits, first_waits}
 use Rattle.hp_model.specs.StandsSeats.{Admits}
-use Rattle.hp_model.specs.Lawful.{Stands}
+use Rattle.hp_model.specs.StandsOperations.{OpEnds}
+use Rattle.hp_model.specs.Lawful.{Comes}
 use Rattle.hp_model.proofs.Laws.{walk_push, registration_push, operation_push, role_push, admits_push, ap_push}
 use Rattle.hp_model.proofs.InFlight.{none_of, walk_none}
 
@@ -34,7 +37,7 @@ same_some x y h = cc
 pub none_some : {A : Type 0} (x : A) → None ≡ Some x → ⊥
 none_some x h = cc
 
-flip : (a b : ℕ) → eqb a b ≡ false → eqb b a ≡ false
+pub flip : (a b : ℕ) → eqb a b ≡ false → eqb b a ≡ false
 flip a b h = grind (arith, nat_tests)
 
 -- a seat that isn't busy holds nothing
@@ -50,16 +53,21 @@ idle_reg xs k r h e =
 pub not_self : (a k : ℕ) → eqb a k ≡ false → a ≡ k → ⊥
 not_self a k h e = true≢false (sym (eq-eqb a k e) ∙ h)
 
+free_map : (xs : List Event) → is_some (wait_for_map (operation xs)) ≡ false → operation xs ≡ None
+free_map xs h = none_of (operation xs) (sym (map_waits (operation xs)) ∙ h)
+
 -- an operation of the map lock that waits for nothing finds it free
 pub map_free : (xs : List Event) (op : Op) → is_map_op op ≡ true → is_waiting xs op ≡ false → operation xs ≡ None
-map_free xs (Op.Up c) m h = none_of (operation xs) h
-map_free xs (Op.Down c) m h = none_of (operation xs) h
-map_free xs (Op.Target c v) m h = none_of (operation xs) (or_parts (is_map_held xs) _ h).0
-map_free xs (Op.Boot n) m h = none_of (operation xs) h
-map_free xs Op.Disable m h = none_of (operation xs) h
-map_free xs Op.Enable m h = none_of (operation xs) h
-map_free xs (Op.Freeze p) m h = none_of (operation xs) h
-map_free xs Op.Thaw m h = none_of (operation xs) h
+map_free xs (Op.Up c) m h = free_map xs h
+map_free xs (Op.Down c) m h = free_map xs h
+map_free xs (Op.Target c v) m h =
+    free_map xs (or_parts (is_some (wait_for_map (operation xs))) (is_some (wait_for_registration (registration xs)))
+    (sym (first_waits (wait_for_map (operation xs)) (wait_for_registration (registration xs))) ∙ h)).0
+map_free xs (Op.Boot n) m h = free_map xs h
+map_free xs Op.Disable m h = free_map xs h
+map_free xs Op.Enable m h = free_map xs h
+map_free xs (Op.Freeze p) m h = free_map xs h
+map_free xs Op.Thaw m h = free_map xs h
 map_free xs op m h = absurd (true≢false (sym m))
 
 -- the roles of those that were in stay
@@ -75,7 +83,7 @@ left : (xs : List Event) (seat k : ℕ) (r : Role) → eqb seat k ≡ false → 
     role_of k (xs ++ Leave seat ∷ []) ≡ Some r
 left xs seat k r e q = rw (role_push k xs (Leave seat), e) q
 
-seats_below_step : (head : Head) (xs : List Event) (e : Event) → Stands head xs e → Owners xs →
+seats_below_step : (head : Head) (xs : List Event) (e : Event) → Comes head xs e → Owners xs →
     (k : ℕ) (role : Role) → role_of k (xs ++ e ∷ []) ≡ Some role → k < admits (xs ++ e ∷ [])
 seats_below_step head xs (Admit seat role) h o =
     λ k r q. rw (admits_push xs (Admit seat role)) (go k r (eqb seat k) refl (rw (role_push k xs (Admit seat role)) at q))
@@ -100,7 +108,7 @@ unseated_some seat (Some j) k h = go (eqb j seat) refl h
     go true e h = absurd (none_some k h)
     go false e h = (h, rw (same_some j k h) at e)
 
-ap_role_step : (head : Head) (xs : List Event) (e : Event) → Stands head xs e → Owners xs →
+ap_role_step : (head : Head) (xs : List Event) (e : Event) → Comes head xs e → Owners xs →
     (c k : ℕ) → ap_seat c (xs ++ e ∷ []) ≡ Some k → role_of k (xs ++ e ∷ []) ≡ Some (Ap c)
 ap_role_step head xs (Admit seat Client) h o =
     λ c k q.
@@ -123,7 +131,7 @@ ap_role_step head xs (Leave seat) h o =
 ap_role_step head xs e h o =
     λ c k q. rw (role_push k xs e) (o.ap_role c k (rw (ap_push c xs e) at q))
 
-op_client_step : (head : Head) (xs : List Event) (e : Event) → Stands head xs e → Owners xs →
+op_client_step : (head : Head) (xs : List Event) (e : Event) → Comes head xs e → Owners xs →
     (a : Operation) → operation (xs ++ e ∷ []) ≡ Some a → role_of a.seat (xs ++ e ∷ []) ≡ Some Client
 op_client_step head xs (Admit seat role) h o =
     λ a q.
@@ -143,7 +151,7 @@ op_client_step head xs (OpEnd seat answer) h o =
 op_client_step head xs e h o =
     λ a q. rw (role_push a.seat xs e) (o.op_client a (rw (operation_push xs e) at q))
 
-reg_client_step : (head : Head) (xs : List Event) (e : Event) → Stands head xs e → Owners xs →
+reg_client_step : (head : Head) (xs : List Event) (e : Event) → Comes head xs e → Owners xs →
     (r : Registration) → registration (xs ++ e ∷ []) ≡ Some r → role_of r.seat (xs ++ e ∷ []) ≡ Some Client
 reg_client_step head xs (Admit seat role) h o =
     λ a q.
@@ -163,7 +171,7 @@ reg_client_step head xs (RegEnd seat answer) h o =
 reg_client_step head xs e h o =
     λ a q. rw (role_push a.seat xs e) (o.reg_client a (rw (registration_push xs e) at q))
 
-apart_step : (head : Head) (xs : List Event) (e : Event) → Stands head xs e → Owners xs →
+apart_step : (head : Head) (xs : List Event) (e : Event) → Comes head xs e → Owners xs →
     (a : Operation) (r : Registration) → operation (xs ++ e ∷ []) ≡ Some a → registration (xs ++ e ∷ []) ≡ Some r →
     a.seat ≡ r.seat → ⊥
 apart_step head xs (Enter seat op) h o =
@@ -185,7 +193,12 @@ apart_step head xs (RegEnd seat answer) h o =
 apart_step head xs e h o =
     λ a r q p s. o.apart a r (rw (operation_push xs e) at q) (rw (registration_push xs e) at p) s
 
-walk_op_step : (head : Head) (xs : List Event) (e : Event) → Stands head xs e → Owners xs →
+-- an operation ends where no walk is in flight
+pub over_at_rest : (head : Head) (xs : List Event) (seat : ℕ) (answer : Answer) → OpEnds head xs seat answer → is_walking xs ≡ false
+over_at_rest head xs seat answer (inl h) = h.no_walk
+over_at_rest head xs seat answer (inr h) = h.begins.no_walk
+
+walk_op_step : (head : Head) (xs : List Event) (e : Event) → Comes head xs e → Owners xs →
     (c : ℕ) (w : Walk) → walk c (xs ++ e ∷ []) ≡ Some w →
     (a : Operation) × (operation (xs ++ e ∷ []) ≡ Some a) × (a.seat ≡ w.seat)
 walk_op_step head xs (Enter seat op) h o =
@@ -193,7 +206,7 @@ walk_op_step head xs (Enter seat op) h o =
     let p = o.walk_op c w (rw (walk_push c xs (Enter seat op)) at q) in
     absurd (none_some p.0 (sym (map_free xs op h.takes_map h.passes.not_waiting) ∙ p.1))
 walk_op_step head xs (OpEnd seat answer) h o =
-    λ c w q. absurd (none_some w (sym (walk_none xs h.no_walk c) ∙ (rw (walk_push c xs (OpEnd seat answer)) at q)))
+    λ c w q. absurd (none_some w (sym (walk_none xs (over_at_rest head xs seat answer h) c) ∙ (rw (walk_push c xs (OpEnd seat answer)) at q)))
 walk_op_step head xs (WalkBegin seat cpu from to) h o =
     λ c w q. go c w (eqb cpu c) (rw (walk_push c xs (WalkBegin seat cpu from to)) at q)
   where
@@ -217,7 +230,7 @@ walk_op_step head xs e h o =
     λ c w q.
     let p = o.walk_op c w (rw (walk_push c xs e) at q) in (p.0, operation_push xs e ∙ p.1, p.2)
 
-one_walk_step : (head : Head) (xs : List Event) (e : Event) → Stands head xs e → Owners xs →
+one_walk_step : (head : Head) (xs : List Event) (e : Event) → Comes head xs e → Owners xs →
     (c d : ℕ) (w v : Walk) → walk c (xs ++ e ∷ []) ≡ Some w → walk d (xs ++ e ∷ []) ≡ Some v → c ≡ d
 one_walk_step head xs (WalkBegin seat cpu from to) h o =
     λ c d w v q p.
@@ -242,7 +255,7 @@ one_walk_step head xs (WalkEnd seat cpu answer) h o =
 one_walk_step head xs e h o =
     λ c d w v q p. o.one_walk c d w v (rw (walk_push c xs e) at q) (rw (walk_push d xs e) at p)
 
-pub owners_step : (head : Head) (xs : List Event) (e : Event) → Stands head xs e → Owners xs → Owners (xs ++ e ∷ [])
+pub owners_step : (head : Head) (xs : List Event) (e : Event) → Comes head xs e → Owners xs → Owners (xs ++ e ∷ [])
 owners_step head xs e h o = record {
   seats_below = seats_below_step head xs e h o;
   ap_role = ap_role_step head xs e h o;

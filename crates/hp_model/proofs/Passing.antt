@@ -4,8 +4,8 @@ use Rattle.std.specs.Prelude.{find}
 use Rattle.std.proofs.lemmas.Bool.{true≢false, or_parts}
 use Rattle.std.proofs.lemmas.Bool.Decides.{nat_tests}
 use Rattle.hp_states.specs.Sections.{is_dynamic, end_of_range, name_of_builtin}
-use Rattle.hp_event.specs.declared.event.Op.{Op}
-use Rattle.hp_event.specs.declared.event.Op.TheVariants.{Setup, Remove, Add, Del}
+use Rattle.hp_event.specs.declared.op.Op.{Op}
+use Rattle.hp_event.specs.declared.op.Op.TheVariants.{Setup, Remove, Add, Del}
 use Rattle.hp_event.specs.declared.head.Head.{Head}
 use Rattle.hp_event.specs.declared.event.Event.{Event}
 use Rattle.hp_model.specs.Lists.{occurs, among, is_empty, rising}
@@ -15,6 +15,7 @@ use Rattle.hp_model.specs.Resolved.{lowest_free, resolved}
 use Rattle.hp_model.specs.Walks.{is_walking}
 use Rattle.hp_model.specs.Seats.{is_busy}
 use Rattle.hp_model.specs.Waits.{is_waiting}
+use Rattle.hp_model.proofs.WaitLemmas.{register_waits}
 use Rattle.hp_model.specs.RefusalsAtOnce.{Check, first_that_holds, refusals_at_once}
 use Rattle.hp_model.specs.Refusals.{refusals_after_waits, refusal, is_multi_state}
 use Rattle.hp_model.proofs.CanBegin.{CanBegin}
@@ -168,8 +169,12 @@ begins_above head xs op state none r h = absurd (some_none state (sym r))
 -- a registration that waits for nothing finds no walk and no registration in flight
 pub begins_alone : (head : Head) (xs : List Event) (op : Op) (state : ℕ) → resolved head xs op ≡ Some state →
     is_waiting xs op ≡ false → (is_walking xs ≡ false) × (is_registering xs ≡ false)
-begins_alone head xs (Setup s sub form) state r h = or_parts (is_walking xs) (is_registering xs) h
-begins_alone head xs (Remove s form) state r h = or_parts (is_walking xs) (is_registering xs) h
-begins_alone head xs (Add s i form) state r h = or_parts (is_walking xs) (is_registering xs) h
-begins_alone head xs (Del s i form) state r h = or_parts (is_walking xs) (is_registering xs) h
+begins_alone head xs (Setup s sub form) state r h =
+    or_parts (is_walking xs) (is_registering xs) (sym (register_waits xs) ∙ h)
+begins_alone head xs (Remove s form) state r h =
+    or_parts (is_walking xs) (is_registering xs) (sym (register_waits xs) ∙ h)
+begins_alone head xs (Add s i form) state r h =
+    or_parts (is_walking xs) (is_registering xs) (sym (register_waits xs) ∙ h)
+begins_alone head xs (Del s i form) state r h =
+    or_parts (is_walking xs) (is_registering xs) (sym (register_waits xs) ∙ h)
 begins_alone head xs op state r h = absurd (some_none state (sym r))

@@ -1,12 +1,12 @@
 -- The states of a walk's plan, and where it gets stuck, are no higher than its ends.
-use Rattle.std.proofs.Common.{◌≡◌, ◌≢◌, ℕ, zero, suc, ◌+◌, ◌-◌, ◌<◌, ◌≤◌, Bool, true, false, not, cond, ltb, pos, List, [], ◌∷◌, ◌++◌, reverse, refl, sym, ◌∙◌, arith}
+use Rattle.std.proofs.Common.{◌≡◌, ℕ, zero, suc, ◌+◌, ◌-◌, ◌<◌, ◌≤◌, Bool, true, false, not, cond, ltb, pos, List, [], ◌∷◌, ◌++◌, reverse, refl, arith}
 use Rattle.std.proofs.lemmas.List.{reverse-append}
 use Rattle.std.proofs.lemmas.Bool.{ltb-true, ltb-false}
-use Rattle.hp_states.specs.declared.section.Dir.{Dir}
-use Rattle.hp_states.specs.declared.section.Dir.TheVariants.{Up, Down}
-use Rattle.hp_event.specs.declared.event.Answer.TheVariants.{Ok, Fault, Stuck}
+use Rattle.hp_states.specs.declared.dir.Dir.{Dir}
+use Rattle.hp_states.specs.declared.dir.Dir.TheVariants.{Up, Down}
+use Rattle.hp_event.specs.declared.answer.Answer.TheVariants.{Ok, Fault, Stuck}
 use Rattle.hp_event.specs.declared.event.Event.{Event}
-use Rattle.hp_model.specs.Crossing.{Crossing, far}
+use Rattle.hp_model.specs.Crossing.{far}
 use Rattle.hp_model.specs.Lists.{is_empty, rising}
 use Rattle.hp_model.specs.Plan.{keyed, direction, plan}
 use Rattle.hp_model.specs.WalkShape.{Outcome, went, returned, stopped, IsWalkShape, IsAnswer, IsWholeWalk}

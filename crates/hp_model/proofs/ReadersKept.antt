@@ -8,9 +8,10 @@ use Rattle.hp_model.specs.Journal.{EachAfter}
 use Rattle.hp_model.specs.Walks.{Walk, walk}
 use Rattle.hp_model.specs.Readers.{reading_since}
 use Rattle.hp_model.specs.Settled.{settled}
-use Rattle.hp_model.specs.Lawful.{Stands, IsLawful}
+use Rattle.hp_model.specs.Lawful.{Comes, Stands, IsLawful}
 use Rattle.hp_model.proofs.Laws.{walk_push, settled_push, reading_since_push}
 use Rattle.hp_model.proofs.InFlight.{walk_none, reader_none}
+use Rattle.hp_model.proofs.WaitLemmas.{writer_waits, walks_alone}
 
 abbrev pub ReaderBy : List Event → Option (List Event) → Type 0
 ReaderBy events None = Unit {0}
@@ -36,10 +37,10 @@ not_reading xs c w (Some before) e r = absurd (some_none w (sym e ∙ (r c).0))
     some_none : (w : Walk) → Some w ≡ None → ⊥
     some_none w h = cc
 
-pub readers_step : (head : Head) (xs : List Event) (e : Event) → Stands head xs e → Readers xs → Readers (xs ++ e ∷ [])
+pub readers_step : (head : Head) (xs : List Event) (e : Event) → Comes head xs e → Readers xs → Readers (xs ++ e ∷ [])
 readers_step head xs (WalkBegin seat cpu from to) h r =
     readers_none xs (xs ++ WalkBegin seat cpu from to ∷ [])
-    (λ k. reading_since_push k xs (WalkBegin seat cpu from to) ∙ reader_none xs h.no_reader k)
+    (λ k. reading_since_push k xs (WalkBegin seat cpu from to) ∙ reader_none xs (walks_alone xs h.no_wait).0 k)
 readers_step head xs (WalkEnd seat cpu answer) h r =
     readers_none xs (xs ++ WalkEnd seat cpu answer ∷ [])
     (λ k. reading_since_push k xs (WalkEnd seat cpu answer)
@@ -48,7 +49,7 @@ readers_step head xs (ReadLock seat) h r =
     record { at = λ k. rw (reading_since_push k xs (ReadLock seat)) (go k (eqb seat k)) }
   where
     go : (k : ℕ) (same : Bool) → ReaderBy (xs ++ ReadLock seat ∷ []) (cond same (Some xs) (reading_since k xs))
-    go k true = λ c. (walk_push c xs (ReadLock seat) ∙ walk_none xs h.passes.not_waiting c, settled_push c xs (ReadLock seat))
+    go k true = λ c. (walk_push c xs (ReadLock seat) ∙ walk_none xs (sym (writer_waits xs) ∙ h.passes.not_waiting) c, settled_push c xs (ReadLock seat))
     go k false =
         readers_on xs (xs ++ ReadLock seat ∷ []) (reading_since k xs) (λ c. walk_push c xs (ReadLock seat))
         (λ c. settled_push c xs (ReadLock seat)) (r.at k)
@@ -70,7 +71,7 @@ pub readers_from : (head : Head) (before es : List Event) → Readers before →
     Readers (before ++ es)
 readers_from head before [] r h = rw append-nil r
 readers_from head before (e ∷ es) r h =
-    let q = readers_from head (before ++ e ∷ []) es (readers_step head before e h.0 r) h.1 in
+    let q = readers_from head (before ++ e ∷ []) es (readers_step head before e h.0.0 r) h.1 in
     rw (append_assoc before (e ∷ []) es) at q
 
 pub none_reads_at_first : (k : ℕ) → reading_since k [] ≡ None

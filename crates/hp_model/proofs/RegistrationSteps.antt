@@ -3,14 +3,14 @@ use Rattle.std.proofs.Common.{◌≡◌, ℕ, ◌+◌, ◌<◌, ◌≤◌, Bool,
 use Rattle.std.specs.Prelude.{pos}
 use Rattle.std.proofs.lemmas.Bool.Decides.{nat_tests}
 use Rattle.std.proofs.lemmas.Bool.{eqb-true}
-use Rattle.hp_states.specs.declared.section.Dir.{Dir}
-use Rattle.hp_states.specs.declared.section.Dir.TheVariants.{Up, Down}
-use Rattle.hp_states.specs.declared.section.Place.{Place}
-use Rattle.hp_event.specs.declared.event.How.{How}
-use Rattle.hp_event.specs.declared.event.Op.{Op}
-use Rattle.hp_event.specs.declared.event.Op.TheVariants.{Setup, Remove, Add, Del}
-use Rattle.hp_event.specs.declared.event.Answer.{Answer}
-use Rattle.hp_event.specs.declared.event.Answer.TheVariants.{Ok, Fault}
+use Rattle.hp_states.specs.declared.dir.Dir.{Dir}
+use Rattle.hp_states.specs.declared.dir.Dir.TheVariants.{Up, Down}
+use Rattle.hp_states.specs.declared.place.Place.{Place}
+use Rattle.hp_event.specs.declared.how.How.{How}
+use Rattle.hp_event.specs.declared.op.Op.{Op}
+use Rattle.hp_event.specs.declared.op.Op.TheVariants.{Setup, Remove, Add, Del}
+use Rattle.hp_event.specs.declared.answer.Answer.{Answer}
+use Rattle.hp_event.specs.declared.answer.Answer.TheVariants.{Ok, Fault}
 use Rattle.hp_event.specs.declared.head.Head.{Head}
 use Rattle.hp_event.specs.declared.event.Event.{Event}
 use Rattle.hp_event.specs.declared.event.Event.TheVariants.{Call, RegBegin, RegEnd}
@@ -92,9 +92,9 @@ pub registration_call_step : (head : Head) (xs : List Event) (seat cpu state ins
     Kept head xs → Kept head (xs ++ Call seat cpu state inst dir how ∷ [])
 registration_call_step head xs seat cpu state inst dir how b k =
     let e : Event = Call seat cpu state inst dir how in
-    let r : Registration = b.of in
-    let h : RegistrationKept head r xs = rw b.in_flight at k.registration_kept in
-    let at_registration : registration (xs ++ e ∷ []) ≡ Some r = registration_push xs e ∙ b.in_flight in
+    let r : Registration = b.entry.of in
+    let h : RegistrationKept head r xs = rw b.entry.in_flight at k.registration_kept in
+    let at_registration : registration (xs ++ e ∷ []) ≡ Some r = registration_push xs e ∙ b.entry.in_flight in
     let entries : registration_entries (xs ++ e ∷ []) ≡ registration_entries xs ++ e ∷ [] = registration_entries_push xs e in
     let kept : RegistrationKept head r (xs ++ e ∷ []) = record {
       no_walk = λ c. walk_push c xs e ∙ h.no_walk c;
@@ -107,12 +107,12 @@ registration_call_step head xs seat cpu state inst dir how b k =
           let n = h.counts c s i d in
           rw (done_entries_push c s i d xs e, entries, done_entries_push c s i d (registration_entries xs) e) (omega arith);
       so_far = record {
-        outcome = b.outcome;
-        slots = b.slots;
-        shape = b.shape;
+        outcome = b.entry.outcome;
+        slots = b.entry.slots;
+        shape = b.entry.shape;
         begun =
-            rw (entries, b.is_next.slots_are)
-            (Begin_next b.is_next.front b.slot b.is_next.rest (registration_entries xs) e b.is_next.filled b.fits);
+            rw (entries, b.entry.is_next.slots_are)
+            (Begin_next b.entry.is_next.front b.entry.slot b.entry.is_next.rest (registration_entries xs) e b.entry.is_next.filled b.entry.fits);
       };
     } in
     record {

@@ -3,7 +3,7 @@ use Rattle.std.proofs.Common.{◌≡◌, ℕ, zero, suc, ◌+◌, ◌<◌, ◌�
 use Rattle.std.proofs.lemmas.List.{append-nil}
 use Rattle.std.proofs.lemmas.Bool.{eqb-true, eq-eqb, true≢false}
 use Rattle.std.proofs.lemmas.Bool.Decides.{nat_tests}
-use Rattle.hp_event.specs.declared.event.Op.{Op}
+use Rattle.hp_event.specs.declared.op.Op.{Op}
 use Rattle.hp_event.specs.declared.head.Head.{Head}
 use Rattle.hp_event.specs.declared.event.Event.{Event}
 use Rattle.hp_model.specs.Journal.{EachAfter}
@@ -119,7 +119,7 @@ play head actors (k ∷ ks) before (e ∷ es) h still =
     (play head actors ks (before ++ e ∷ []) es h.1 (rw (append_assoc before (e ∷ []) es) still))
     (play head actors ks before (e ∷ es) h still)
 
-has_turn : (j k n : ℕ) → j < n → k ≡ j → 0 < occurs k (numbers n)
+pub has_turn : (j k n : ℕ) → j < n → k ≡ j → 0 < occurs k (numbers n)
 has_turn j k n h e = rw (occurs-numbers k n) (go n h)
   where
     go : (n : ℕ) → j < n → 0 < cond (ltb k n) 1 0

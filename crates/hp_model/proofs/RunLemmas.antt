@@ -1,9 +1,10 @@
 -- A run is a lawful journal, where its head is one that a machine can be started with and its seats aren't too many.
-use Rattle.std.proofs.Common.{◌≡◌, ℕ, zero, suc, ◌+◌, ◌<◌, ◌≤◌, Bool, true, false, cond, eqb, ltb, Some, None, List, [], ◌∷◌, ◌++◌, length, refl, sym, ◌∙◌, append_assoc, inl, inr, arith}
+use Rattle.std.proofs.Common.{◌≡◌, ℕ, zero, suc, ◌+◌, ◌<◌, ◌≤◌, Bool, true, false, cond, eqb, ltb, Some, None, List, [], ◌∷◌, ◌++◌, ◌*◌, length, refl, sym, ◌∙◌, append_assoc, inl, inr, arith, length-append}
 use Rattle.std.proofs.lemmas.List.{append-nil}
-use Rattle.std.proofs.lemmas.Bool.{eq-eqb}
-use Rattle.hp_states.specs.declared.limits.TheConstants.{MAX_SEATS}
-use Rattle.hp_event.specs.declared.event.Op.{Op}
+use Rattle.std.proofs.lemmas.Bool.{eq-eqb, le-leb}
+use Rattle.hp_states.specs.declared.limits.TheConstants.{MAX_SEATS, MAX_EVENTS}
+use Rattle.hp_event.specs.declared.op.Op.{Op}
+use Rattle.hp_event.specs.declared.event.Role.{Role}
 use Rattle.hp_event.specs.declared.event.Role.TheVariants.{Client, Ap}
 use Rattle.hp_event.specs.declared.head.Head.{Head}
 use Rattle.hp_event.specs.declared.event.Event.{Event}
@@ -13,9 +14,12 @@ use Rattle.hp_model.specs.Lists.{occurs, numbers}
 use Rattle.hp_model.specs.Processors.{is_present, present}
 use Rattle.hp_model.specs.Seats.{admits, ap_seat}
 use Rattle.hp_model.specs.Heads.{IsHead}
+use Rattle.hp_model.specs.Promised.{promised}
+use Rattle.hp_model.specs.Room.{has_room}
 use Rattle.hp_model.specs.Lawful.{Stands, IsLawful}
 use Rattle.hp_model.specs.Run.{ap_admits, client_admits, admissions, Turn, Turns, Rounds, IsRun}
 use Rattle.hp_model.proofs.Laws.{admits_push, ap_push}
+use Rattle.hp_model.proofs.Promises.{admit_at_most, promised_none}
 use Rattle.hp_model.proofs.ListLemmas.{occurs-filter, occurs-numbers}
 use Rattle.hp_model.proofs.HeadlineProof.{lawful_more}
 
@@ -46,32 +50,51 @@ admitted_one head before k c cs h = record {
     go d i true e = let o = rw e at (h.once d) in absurd (omega arith)
     go d i false e = h.free d (omega (arith, i))
 
+-- a seat that comes in leaves at most two more to a journal: its admission and its leave
+room_one : (head : Head) (before : List Event) (k : ℕ) (role : Role) → k < MAX_SEATS →
+    length before + promised head before ≤ 2 * k →
+    (has_room head before (Admit k role) ≡ true)
+    × (length (before ++ Admit k role ∷ []) + promised head (before ++ Admit k role ∷ []) ≤ 2 * (k + 1))
+room_one head before k role below few =
+    let u = admit_at_most head before k role in
+    let l = length-append before (Admit k role ∷ []) in
+    (le-leb (length before + promised head before + 2) MAX_EVENTS (omega arith), omega arith)
+
 aps_stand : (head : Head) (before : List Event) (k : ℕ) (cs : List ℕ) → admits before ≡ k → k + length cs ≤ MAX_SEATS →
-    CanBeAdmitted head before cs →
+    length before + promised head before ≤ 2 * k → CanBeAdmitted head before cs →
     EachAfter (Stands head) before (ap_admits k cs) × (admits (before ++ ap_admits k cs) ≡ k + length cs)
-aps_stand head before k [] e few h = (tt, rw append-nil (omega (arith, e)))
-aps_stand head before k (c ∷ cs) e few h =
+    × (length (before ++ ap_admits k cs) + promised head (before ++ ap_admits k cs) ≤ 2 * (k + length cs))
+aps_stand head before k [] e few room h = (tt, rw append-nil (omega (arith, e)), rw append-nil (omega (arith, room)))
+aps_stand head before k (c ∷ cs) e few room h =
     let next : admits (before ++ Admit k (Ap c) ∷ []) ≡ k + 1 = admits_push before (Admit k (Ap c)) ∙ omega (arith, e) in
-    let r = aps_stand head (before ++ Admit k (Ap c) ∷ []) (k + 1) cs next (omega arith) (admitted_one head before k c cs h) in
-    let n = rw (append_assoc before (Admit k (Ap c) ∷ []) (ap_admits (k + 1) cs)) at r.1 in (
+    let one = room_one head before k (Ap c) (omega arith) room in
+    let r = aps_stand head (before ++ Admit k (Ap c) ∷ []) (k + 1) cs next (omega arith) one.1 (admitted_one head before k c cs h) in
+    let n = rw (append_assoc before (Admit k (Ap c) ∷ []) (ap_admits (k + 1) cs)) at r.1 in
+    let m = rw (append_assoc before (Admit k (Ap c) ∷ []) (ap_admits (k + 1) cs)) at r.2 in (
       (
-        record {
-          seat_is = sym e;
-          below = omega arith;
-          can_sit = (h.there c (first_in c cs), h.free c (first_in c cs));
-        },
+        (
+          record {
+            seat_is = sym e;
+            below = omega arith;
+            can_sit = (h.there c (first_in c cs), h.free c (first_in c cs));
+          },
+          one.0,
+        ),
         r.0,
       ),
       n ∙ omega arith,
+      omega (arith, m),
     )
 
 clients_stand : (head : Head) (before : List Event) (k : ℕ) (actors : List (List Op)) → admits before ≡ k →
-    k + length actors ≤ MAX_SEATS → EachAfter (Stands head) before (client_admits k actors)
-clients_stand head before k [] e few = tt
-clients_stand head before k (ops ∷ more) e few =
-    let next : admits (before ++ Admit k Client ∷ []) ≡ k + 1 = admits_push before (Admit k Client) ∙ omega (arith, e) in (
-      record { seat_is = sym e; below = omega arith; can_sit = tt },
-      clients_stand head (before ++ Admit k Client ∷ []) (k + 1) more next (omega arith),
+    k + length actors ≤ MAX_SEATS → length before + promised head before ≤ 2 * k →
+    EachAfter (Stands head) before (client_admits k actors)
+clients_stand head before k [] e few room = tt
+clients_stand head before k (ops ∷ more) e few room =
+    let next : admits (before ++ Admit k Client ∷ []) ≡ k + 1 = admits_push before (Admit k Client) ∙ omega (arith, e) in
+    let one = room_one head before k Client (omega arith) room in (
+      (record { seat_is = sym e; below = omega arith; can_sit = tt }, one.0),
+      clients_stand head (before ++ Admit k Client ∷ []) (k + 1) more next (omega arith) one.1,
     )
 
 none_admitted : admits [] ≡ 0
@@ -103,11 +126,12 @@ present_once head = record {
 pub admissions_lawful : (head : Head) (actors : List (List Op)) → IsHead head →
     length (present head) + length actors ≤ MAX_SEATS → IsLawful head (admissions head actors)
 admissions_lawful head actors h few =
-    let a = aps_stand head [] 0 (present head) none_admitted (omega (arith, few)) (present_once head) in
+    let none = promised_none head in
+    let a = aps_stand head [] 0 (present head) none_admitted (omega (arith, few)) (omega arith) (present_once head) in
     let n : admits (ap_admits 0 (present head)) ≡ length (present head) = a.1 ∙ omega arith in (
       h,
       EachAfter-append (Stands head) [] (ap_admits 0 (present head)) (client_admits (length (present head)) actors) a.0
-          (clients_stand head (ap_admits 0 (present head)) (length (present head)) actors n few),
+          (clients_stand head (ap_admits 0 (present head)) (length (present head)) actors n few (omega (arith, a.2))),
     )
 
 turn_lawful : (head : Head) (actors : List (List Op)) (k : ℕ) (before after : List Event) → IsLawful head before →

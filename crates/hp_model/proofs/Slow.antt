@@ -9,10 +9,10 @@ use Rattle.hp_event.specs.declared.head.Head.{Head}
 use Rattle.hp_model.specs.Lists.{numbers}
 use Rattle.hp_model.specs.Registrations.{Registration, registration, registration_step}
 use Rattle.hp_model.specs.Registered.{Registered, registered, registered_step, after_answer}
-use Rattle.hp_states.specs.declared.section.Dir.{Dir}
-use Rattle.hp_event.specs.declared.event.Key.{Key}
-use Rattle.hp_event.specs.declared.event.Op.{Op}
-use Rattle.hp_event.specs.declared.event.Answer.{Answer}
+use Rattle.hp_states.specs.declared.dir.Dir.{Dir}
+use Rattle.hp_event.specs.declared.key.Key.{Key}
+use Rattle.hp_event.specs.declared.op.Op.{Op}
+use Rattle.hp_event.specs.declared.answer.Answer.{Answer}
 use Rattle.hp_event.specs.declared.event.Event.{Event}
 use Rattle.hp_event.specs.declared.event.Event.TheVariants.{RegBegin, RegEnd}
 use Rattle.hp_model.specs.InForce.{is_done_entry, done_entries}

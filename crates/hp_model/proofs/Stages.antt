@@ -1,14 +1,16 @@
 -- At what stage a seat is when an event of its operation can stand: before it, between its walks, on a walk, or on
 -- a registration. No two of them are possible at once.
-use Rattle.std.proofs.Common.{◌≡◌, ℕ, Bool, true, false, cond, Option, Some, None, List, refl, sym, ◌∙◌, subst, inl, inr, ◌⊎◌}
+use Rattle.std.proofs.Common.{◌≡◌, ℕ, ℤ, Bool, true, false, cond, Option, Some, None, List, refl, sym, ◌∙◌, subst, inl, inr, ◌⊎◌}
 use Rattle.std.proofs.lemmas.Bool.{true≢false}
-use Rattle.hp_event.specs.declared.event.Op.{Op}
-use Rattle.hp_event.specs.declared.event.Op.TheVariants.{Lock, Unlock}
+use Rattle.hp_event.specs.declared.op.Op.{Op}
+use Rattle.hp_event.specs.declared.op.Op.TheVariants.{Lock, Unlock, Arm, ShowState, ShowTarget, ShowFail, ShowStates}
+use Rattle.hp_event.specs.declared.event.File.{File}
+use Rattle.hp_event.specs.declared.event.File.TheVariants.{State, Target, Fail, States}
 use Rattle.hp_event.specs.declared.event.Role.TheVariants.{Client, Ap}
 use Rattle.hp_event.specs.declared.head.Head.{Head}
 use Rattle.hp_event.specs.declared.event.Event.{Event}
 use Rattle.hp_event.specs.declared.event.Event.TheVariants.{Enter, Refused, WalkBegin, Call, WalkEnd, OpEnd, RegBegin, RegEnd, ReadLock, ReadUnlock, Armed, Shown, Wakeup}
-use Rattle.hp_model.specs.Events.{seat_of, BelongsTo}
+use Rattle.hp_model.specs.Events.{seat_of, showing, BelongsTo}
 use Rattle.hp_model.specs.Walks.{Walk, walk, is_walking}
 use Rattle.hp_model.specs.Registrations.{Registration, registration}
 use Rattle.hp_model.specs.MapLock.{Operation, operation, is_map_op}
@@ -17,9 +19,12 @@ use Rattle.hp_model.specs.Settled.{settled}
 use Rattle.hp_model.specs.Sequence.{Next, walks, ends, nothing, next}
 use Rattle.hp_model.specs.Resolved.{resolved}
 use Rattle.hp_model.specs.Refusals.{refusal}
+use Rattle.hp_model.specs.Files.{file_value}
+use Rattle.hp_model.specs.NextEvent.{walk_begin}
 use Rattle.hp_model.specs.Caller.{is_made_by_ap}
 use Rattle.hp_model.specs.StandsCalls.{InWalk, InRegistration}
-use Rattle.hp_model.specs.StandsOperations.{Enters, WalkEnds}
+use Rattle.hp_model.specs.StandsOperations.{Enters, WalkEnds, IsOver, IsCut}
+use Rattle.hp_model.specs.StandsFiles.{Shows}
 use Rattle.hp_model.specs.StandsRegistrations.{RegEnds}
 use Rattle.hp_model.specs.Lawful.{Stands}
 use Rattle.hp_model.proofs.Kept.{Kept, WalkKept}
@@ -27,24 +32,29 @@ use Rattle.hp_model.proofs.InFlight.{walk_none}
 use Rattle.hp_model.proofs.Owners.{Owners, same_some, none_some, idle_op, idle_reg, not_self}
 
 -- the first event of an operation: its refusal, or its begin
-abbrev pub begin_of : (seat : ℕ) → Op → (takes_map : Bool) → Event
-begin_of k op true = Enter k op
-begin_of k Lock false = ReadLock k
-begin_of k Unlock false = ReadUnlock k
-begin_of k op false = Wakeup k
+abbrev pub begin_of : Head → List Event → (seat : ℕ) → Op → (takes_map : Bool) → Event
+begin_of head xs k op true = Enter k op
+begin_of head xs k Lock false = ReadLock k
+begin_of head xs k Unlock false = ReadUnlock k
+begin_of head xs k (Arm c v) false = Armed k c v
+begin_of head xs k (ShowState c) false = Shown k State c (file_value head xs State c)
+begin_of head xs k (ShowTarget c) false = Shown k Target c (file_value head xs Target c)
+begin_of head xs k (ShowFail c) false = Shown k Fail c (file_value head xs Fail c)
+begin_of head xs k ShowStates false = Shown k States 0 (file_value head xs States 0)
+begin_of head xs k op false = Wakeup k
 
-abbrev pub first_by : (seat : ℕ) → Op → (refused resolved : Option ℕ) → Event
-first_by k op (Some errno) s = Refused k errno op
-first_by k op None (Some s) = RegBegin k s op
-first_by k op None None = begin_of k op (is_map_op op)
+abbrev pub first_by : Head → List Event → (seat : ℕ) → Op → (refused resolved : Option ℕ) → Event
+first_by head xs k op (Some errno) s = Refused k errno op
+first_by head xs k op None (Some s) = RegBegin k s op
+first_by head xs k op None None = begin_of head xs k op (is_map_op op)
 
 abbrev pub first_event : Head → List Event → (seat : ℕ) → Op → Event
-first_event head xs k op = first_by k op (refusal head xs k op) (resolved head xs op)
+first_event head xs k op = first_by head xs k op (refusal head xs k op) (resolved head xs op)
 
-abbrev pub event_next : List Event → (seat : ℕ) → Next → Event
-event_next xs k (walks c to) = WalkBegin k c (settled c xs) to
-event_next xs k (ends answer) = OpEnd k answer
-event_next xs k nothing = Wakeup k
+abbrev pub event_next : Head → List Event → (seat : ℕ) → Next → Event
+event_next head xs k (walks c to) = walk_begin head xs k c (settled c xs) to
+event_next head xs k (ends answer) = OpEnd k answer
+event_next head xs k nothing = Wakeup k
 
 -- the seat has no operation in flight
 pub record Before (head : Head) (xs : List Event) (k : ℕ) (op : Op) (e : Event) : Type 0 where
@@ -58,7 +68,7 @@ pub record Between (head : Head) (xs : List Event) (k : ℕ) (e : Event) : Type 
   pub held : operation xs ≡ Some of
   pub seat_is : of.seat ≡ k
   pub no_walk : is_walking xs ≡ false
-  pub event_is : e ≡ event_next xs k (next head xs of.before of.op)
+  pub event_is : e ≡ event_next head xs k (next head xs of.before of.op)
 
 abbrev pub WalkEvent : Head → List Event → (seat cpu : ℕ) → Event → Type 0
 WalkEvent head xs k c (Call seat cpu state inst dir how) = (seat ≡ k) × (cpu ≡ c) × InWalk head xs k c state inst dir how
@@ -88,14 +98,14 @@ pub record OnRegistration (head : Head) (xs : List Event) (k : ℕ) (e : Event) 
 abbrev pub Stage : Head → List Event → (seat : ℕ) → Op → Event → Type 0
 Stage head xs k op e = Before head xs k op e ⊎ (Between head xs k e ⊎ (OnWalk head xs k e ⊎ OnRegistration head xs k e))
 
-called_by : (b : Bool) (a : Option ℕ) (client k : ℕ) → cond b a (Some client) ≡ Some k → (client ≡ k) ⊎ (a ≡ Some k)
+pub called_by : (b : Bool) (a : Option ℕ) (client k : ℕ) → cond b a (Some client) ≡ Some k → (client ≡ k) ⊎ (a ≡ Some k)
 called_by true a client k h = inr h
 called_by false a client k h = inl (same_some client k h)
 
-entered : (head : Head) (xs : List Event) (k : ℕ) (op : Op) → Enters head xs k op → Enter k op ≡ first_event head xs k op
+pub entered : (head : Head) (xs : List Event) (k : ℕ) (op : Op) → Enters head xs k op → Enter k op ≡ first_event head xs k op
 entered head xs k op h = rw h.passes.not_refused (go op h.takes_map)
   where
-    go : (op : Op) → is_map_op op ≡ true → Enter k op ≡ first_by k op None (resolved head xs op)
+    go : (op : Op) → is_map_op op ≡ true → Enter k op ≡ first_by head xs k op None (resolved head xs op)
     go (Op.Up c) m = refl
     go (Op.Down c) m = refl
     go (Op.Target c v) m = refl
@@ -106,73 +116,97 @@ entered head xs k op h = rw h.passes.not_refused (go op h.takes_map)
     go Op.Thaw m = refl
     go op m = absurd (true≢false (sym m))
 
+pub shown_first : (head : Head) (xs : List Event) (seat : ℕ) (file : File) (cpu : ℕ) (value : ℤ) → Shows head xs seat file cpu value →
+    Shown seat file cpu value ≡ first_event head xs seat (showing file cpu)
+shown_first head xs seat State cpu value h = rw (h.passes.not_refused, h.value_is) refl
+shown_first head xs seat Target cpu value h = rw (h.passes.not_refused, h.value_is) refl
+shown_first head xs seat Fail cpu value h = rw (h.passes.not_refused, h.value_is) refl
+shown_first head xs seat States cpu value h = rw (h.passes.not_refused, h.value_is, h.has_file) refl
+
 -- the stage of an event that stands and belongs to an operation
 pub stage_of : (head : Head) (xs : List Event) (op : Op) (e : Event) → BelongsTo op e → Stands head xs e →
     Stage head xs (seat_of e) op e
 stage_of head xs op (Enter seat asked) b h =
     let P : Op → Type 0 = λ z. Enter seat asked ≡ first_event head xs seat z in
-    inl (record { client = h.free.client; idle = h.free.idle; event_is = subst P b (entered head xs seat asked h) })
+    inl (record { client = h.0.free.client; idle = h.0.free.idle; event_is = subst P b (entered head xs seat asked h.0) })
 stage_of head xs op (Refused seat errno asked) b h =
-    inl (record { client = h.free.client; idle = h.free.idle; event_is = rw (← b, h.refused) refl })
+    inl (record { client = h.0.free.client; idle = h.0.free.idle; event_is = rw (← b, h.0.refused) refl })
 stage_of head xs op (RegBegin seat state asked) b h =
-    inl (record { client = h.free.client; idle = h.free.idle; event_is = rw (← b, h.passes.not_refused, h.state_is) refl })
+    inl (record { client = h.0.free.client; idle = h.0.free.idle; event_is = rw (← b, h.0.passes.not_refused, h.0.state_is) refl })
 stage_of head xs op (ReadLock seat) b h =
-    inl (record { client = h.free.client; idle = h.free.idle; event_is = rw (b, h.passes.not_refused) refl })
+    inl (record { client = h.0.free.client; idle = h.0.free.idle; event_is = rw (b, h.0.passes.not_refused) refl })
 stage_of head xs op (ReadUnlock seat) b h =
-    inl (record { client = h.free.client; idle = h.free.idle; event_is = rw (b, h.passes.not_refused) refl })
+    inl (record { client = h.0.free.client; idle = h.0.free.idle; event_is = rw (b, h.0.passes.not_refused) refl })
 stage_of head xs op (WalkBegin seat cpu from to) b h =
+    let w = h.0 in
     inr (inl (record {
-      of = h.of;
-      held = h.held;
-      seat_is = h.seat_is;
-      no_walk = h.no_walk;
-      event_is = rw (h.gives, h.from_is) refl;
+      of = w.of;
+      held = w.held;
+      seat_is = w.seat_is;
+      no_walk = w.no_walk;
+      event_is = rw (w.gives, ← w.from_is, h.1) refl;
     }))
-stage_of head xs op (OpEnd seat answer) b h =
-    inr (inl (record {
-      of = h.of;
-      held = h.held;
-      seat_is = h.seat_is;
-      no_walk = h.no_walk;
-      event_is = rw h.gives refl;
-    }))
+stage_of head xs op (OpEnd seat answer) b h = go h.0
+  where
+    go : IsOver head xs seat answer ⊎ IsCut head xs seat answer → Stage head xs seat op (OpEnd seat answer)
+    go (inl o) =
+        inr (inl (record {
+          of = o.of;
+          held = o.held;
+          seat_is = o.seat_is;
+          no_walk = o.no_walk;
+          event_is = rw o.gives refl;
+        }))
+    go (inr c) =
+        let w = c.begins in
+        inr (inl (record {
+          of = w.of;
+          held = w.held;
+          seat_is = w.seat_is;
+          no_walk = w.no_walk;
+          event_is = rw (w.gives, ← w.from_is, c.no_room, c.answer_is) refl;
+        }))
 stage_of head xs op (WalkEnd seat cpu answer) b h =
     inr (inr (inl (record {
       cpu = cpu;
-      of = h.of;
-      in_flight = h.in_flight;
-      by = inl h.seat_is;
-      event_is = (refl, refl, h);
+      of = h.0.of;
+      in_flight = h.0.in_flight;
+      by = inl h.0.seat_is;
+      event_is = (refl, refl, h.0);
     })))
 stage_of head xs op (RegEnd seat answer) b h =
-    inr (inr (inr (record { cpu = 0; of = h.of; in_flight = h.in_flight; by = inl h.seat_is; event_is = (refl, h) })))
-stage_of head xs op (Call seat cpu state inst dir how) b h = go h
+    inr (inr (inr (record { cpu = 0; of = h.0.of; in_flight = h.0.in_flight; by = inl h.0.seat_is; event_is = (refl, h.0) })))
+stage_of head xs op (Call seat cpu state inst dir how) b h = go h.0
   where
     go : InWalk head xs seat cpu state inst dir how ⊎ InRegistration head xs seat cpu state inst dir how →
         Stage head xs seat op (Call seat cpu state inst dir how)
     go (inl w) =
         inr (inr (inl (record {
           cpu = cpu;
-          of = w.of;
-          in_flight = w.in_flight;
-          by = called_by (is_made_by_ap state how) (ap_seat cpu xs) w.of.seat seat w.caller_is;
+          of = w.entry.of;
+          in_flight = w.entry.in_flight;
+          by = called_by (is_made_by_ap state how) (ap_seat cpu xs) w.entry.of.seat seat w.caller_is;
           event_is = (refl, refl, w);
         })))
     go (inr r) =
         inr (inr (inr (record {
           cpu = cpu;
-          of = r.of;
-          in_flight = r.in_flight;
-          by = called_by (is_made_by_ap state how) (ap_seat cpu xs) r.of.seat seat r.caller_is;
+          of = r.entry.of;
+          in_flight = r.entry.in_flight;
+          by = called_by (is_made_by_ap state how) (ap_seat cpu xs) r.entry.of.seat seat r.caller_is;
           event_is = (refl, r);
         })))
-stage_of head xs op (Armed seat cpu value) b h = elim h [ ]
-stage_of head xs op (Shown seat file cpu value) b h = elim h [ ]
-stage_of head xs op (Wakeup seat) b h = elim h [ ]
+stage_of head xs op (Armed seat cpu value) b h =
+    inl (record { client = h.0.free.client; idle = h.0.free.idle; event_is = rw (b, h.0.passes.not_refused) refl })
+stage_of head xs op (Shown seat file cpu value) b h =
+    let P : Op → Type 0 = λ z. Shown seat file cpu value ≡ first_event head xs seat z in
+    inl (record { client = h.0.free.client; idle = h.0.free.idle; event_is = subst P (sym b) (shown_first head xs seat file cpu value h.0) })
+stage_of head xs op (Wakeup seat) b h =
+    inl (record { client = h.0.free.client; idle = h.0.free.idle; event_is = rw (b, h.0.passes.not_refused) refl })
 stage_of head xs op e b h = elim b [ ]
 
 -- no two stages at once
-ap_no_client : (xs : List Event) (c k : ℕ) → Owners xs → ap_seat c xs ≡ Some k → role_of k xs ≡ Some Client → ⊥
+pub ap_no_client : (xs : List Event) (c k : ℕ) → Owners xs → ap_seat c xs ≡ Some k → role_of k xs ≡ Some Client → ⊥
 ap_no_client xs c k o a r = not_both c (sym (o.ap_role c k a) ∙ r)
   where
     not_both : (c : ℕ) → Some (Ap c) ≡ Some Client → ⊥

@@ -2,9 +2,9 @@
 -- tree, one entry at a time, makes a walk shape.
 use Rattle.std.proofs.Common.{◌≡◌, ℕ, Bool, true, false, cond, List, [], ◌∷◌, ◌++◌, reverse, refl, ap, sym, ◌∙◌, inl, inr, ◌⊎◌, append_assoc}
 use Rattle.std.proofs.lemmas.List.{append-nil, reverse-append, reverse-reverse}
-use Rattle.hp_states.specs.declared.section.Dir.{Dir}
-use Rattle.hp_states.specs.declared.section.Place.{Place}
-use Rattle.hp_states.specs.declared.section.Place.TheVariants.{Forward, Back, Part}
+use Rattle.hp_states.specs.declared.dir.Dir.{Dir}
+use Rattle.hp_states.specs.declared.place.Place.{Place}
+use Rattle.hp_states.specs.declared.place.Place.TheVariants.{Forward, Back, Part}
 use Rattle.hp_states.specs.Sections.{opposite}
 use Rattle.hp_model.specs.Crossing.{Slot, visit, Crossing, done, failed, far, slots_of, slots}
 use Rattle.hp_model.specs.Lists.{is_empty}

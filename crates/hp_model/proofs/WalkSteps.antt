@@ -1,11 +1,11 @@
 -- One event more of a walk, or one that moves nothing.
 use Rattle.std.proofs.Common.{◌≡◌, ℕ, Bool, true, false, eqb, Option, Some, None, List, [], ◌∷◌, ◌++◌, refl, sym, ◌∙◌, subst, arith}
 use Rattle.std.proofs.lemmas.Bool.{true≢false, eqb-true, eq-eqb}
-use Rattle.hp_states.specs.declared.section.Dir.{Dir}
-use Rattle.hp_states.specs.declared.section.Dir.TheVariants.{Up, Down}
-use Rattle.hp_states.specs.declared.section.Place.TheVariants.{Forward}
-use Rattle.hp_event.specs.declared.event.How.{How}
-use Rattle.hp_event.specs.declared.event.Answer.{Answer}
+use Rattle.hp_states.specs.declared.dir.Dir.{Dir}
+use Rattle.hp_states.specs.declared.dir.Dir.TheVariants.{Up, Down}
+use Rattle.hp_states.specs.declared.place.Place.TheVariants.{Forward}
+use Rattle.hp_event.specs.declared.how.How.{How}
+use Rattle.hp_event.specs.declared.answer.Answer.{Answer}
 use Rattle.hp_event.specs.declared.head.Head.{Head}
 use Rattle.hp_event.specs.declared.event.Event.{Event}
 use Rattle.hp_event.specs.declared.event.Event.TheVariants.{WalkBegin, Call, WalkEnd}
@@ -24,6 +24,7 @@ use Rattle.hp_model.proofs.Counts.{done_entries-none, done_entries_push}
 use Rattle.hp_model.proofs.Path.{path_nets, plan_path, shape_path, end_of}
 use Rattle.hp_model.proofs.Laws.{walk_push, walk_entries_push, registration_push, registration_entries_push, registered_push, settled_push}
 use Rattle.hp_model.proofs.Kept.{Balanced, WalkKept, KeptAt, Kept, Unmoved, unmoved, quiet}
+use Rattle.hp_model.proofs.WaitLemmas.{walks_alone}
 use Rattle.hp_model.proofs.InFlight.{none_of, walk_none}
 
 pub unmoved_event : (head : Head) (c : ℕ) (xs : List Event) (e : Event) →
@@ -83,15 +84,15 @@ Begin_next (y ∷ front) slot rest (x ∷ es) e h f = (h.0, Begin_next front slo
 
 pub walk_so_far : (head : Head) (xs : List Event) (seat cpu state inst : ℕ) (dir : Dir) (how : How) →
     (b : InWalk head xs seat cpu state inst dir how) →
-    IsOfWalk head cpu b.of (walk_entries cpu xs ++ Call seat cpu state inst dir how ∷ [])
+    IsOfWalk head cpu b.entry.of (walk_entries cpu xs ++ Call seat cpu state inst dir how ∷ [])
 walk_so_far head xs seat cpu state inst dir how b = record {
-  outcome = b.outcome;
-  crossings = b.crossings;
-  shape = b.shape;
+  outcome = b.entry.outcome;
+  crossings = b.entry.crossings;
+  shape = b.entry.shape;
   begun =
-      rw b.is_next.slots_are
-      (Begin_next b.is_next.front b.slot b.is_next.rest (walk_entries cpu xs) (Call seat cpu state inst dir how)
-      b.is_next.filled b.fits);
+      rw b.entry.is_next.slots_are
+      (Begin_next b.entry.is_next.front b.entry.slot b.entry.is_next.rest (walk_entries cpu xs) (Call seat cpu state inst dir how)
+      b.entry.is_next.filled b.entry.fits);
 }
 
 pub begin_at : (head : Head) (xs : List Event) (seat cpu from to : ℕ) → WalkBegins head xs seat cpu from to →
@@ -102,10 +103,10 @@ begin_at head xs seat cpu from to b present k =
     let w : Walk = record { seat = seat; from = from; to = to; before = xs } in
     let at_walk : walk cpu (xs ++ e ∷ []) ≡ Some w = walk_push cpu xs e ∙ rw self refl in
     let no_entries : walk_entries cpu (xs ++ e ∷ []) ≡ [] = walk_entries_push cpu xs e ∙ rw self refl in
-    let balanced : Balanced head cpu xs = rw (walk_none xs b.no_walk cpu, none_of (registration xs) b.no_registration) at k.kept in
+    let balanced : Balanced head cpu xs = rw (walk_none xs b.no_walk cpu, none_of (registration xs) (walks_alone xs b.no_wait).1) at k.kept in
     let kept : WalkKept head cpu w (xs ++ e ∷ []) = record {
       present = present;
-      no_registration = registration_push xs e ∙ none_of (registration xs) b.no_registration;
+      no_registration = registration_push xs e ∙ none_of (registration xs) (walks_alone xs b.no_wait).1;
       from_is = b.from_is;
       settled_same = settled_push cpu xs e;
       registered_same = λ s. registered_push head s xs e;
@@ -124,7 +125,7 @@ pub begin_step : (head : Head) (xs : List Event) (seat cpu from to : ℕ) → Wa
     is_present head cpu ≡ true → Kept head xs → Kept head (xs ++ WalkBegin seat cpu from to ∷ [])
 begin_step head xs seat cpu from to b present k = record {
   at = λ c. go c (eqb cpu c) refl;
-  registration_kept = rw (registration_push xs (WalkBegin seat cpu from to), none_of (registration xs) b.no_registration) tt;
+  registration_kept = rw (registration_push xs (WalkBegin seat cpu from to), none_of (registration xs) (walks_alone xs b.no_wait).1) tt;
   once = λ s i. rw (registered_push head s xs (WalkBegin seat cpu from to)) (k.once s i);
   none_at_0 = registered_push head 0 xs (WalkBegin seat cpu from to) ∙ k.none_at_0;
 }
@@ -152,9 +153,9 @@ pub call_at : (head : Head) (xs : List Event) (seat cpu state inst : ℕ) (dir :
 call_at head xs seat cpu state inst dir how b k =
     let self : eqb cpu cpu ≡ true = eq-eqb cpu cpu refl in
     let e : Event = Call seat cpu state inst dir how in
-    let w : Walk = b.of in
-    let h : WalkKept head cpu w xs = rw b.in_flight at k.kept in
-    let at_walk : walk cpu (xs ++ e ∷ []) ≡ Some w = walk_push cpu xs e ∙ b.in_flight in
+    let w : Walk = b.entry.of in
+    let h : WalkKept head cpu w xs = rw b.entry.in_flight at k.kept in
+    let at_walk : walk cpu (xs ++ e ∷ []) ≡ Some w = walk_push cpu xs e ∙ b.entry.in_flight in
     let entries : walk_entries cpu (xs ++ e ∷ []) ≡ walk_entries cpu xs ++ e ∷ [] = walk_entries_push cpu xs e ∙ rw self refl in
     let kept : WalkKept head cpu w (xs ++ e ∷ []) = record {
       present = h.present;
@@ -174,7 +175,7 @@ pub call_step : (head : Head) (xs : List Event) (seat cpu state inst : ℕ) (dir
     InWalk head xs seat cpu state inst dir how →
     Kept head xs → Kept head (xs ++ Call seat cpu state inst dir how ∷ [])
 call_step head xs seat cpu state inst dir how b k =
-    let h : WalkKept head cpu b.of xs = rw b.in_flight at (k.at cpu).kept in
+    let h : WalkKept head cpu b.entry.of xs = rw b.entry.in_flight at (k.at cpu).kept in
     record {
       at = λ c. go c (eqb cpu c) refl;
       registration_kept = rw (registration_push xs (Call seat cpu state inst dir how), h.no_registration) tt;

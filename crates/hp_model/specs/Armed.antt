@@ -1,8 +1,8 @@
--- The state at which a processor is armed: there its next crossing fails once. After `cpuhp_store_fail`
+-- The state at which a processor is armed: there its next crossing fails once. After `fail_store`
 -- and `st->fail` of `kernel/cpu.c`.
 use Rattle.std.specs.Prelude.{ℕ, ℤ, pos, negsuc, Bool, false, ◌==◌, if◌then◌else◌, Option, Some, None, List}
-use Rattle.hp_event.specs.declared.event.How.{How}
-use Rattle.hp_event.specs.declared.event.How.TheVariants.{RanOk, RanFault, Injected, Empty, Presumed, Overruled}
+use Rattle.hp_event.specs.declared.how.How.{How}
+use Rattle.hp_event.specs.declared.how.How.TheVariants.{RanOk, RanFault, Injected, Empty, Presumed, Overruled}
 use Rattle.hp_event.specs.declared.event.Event.{Event}
 use Rattle.hp_event.specs.declared.event.Event.TheVariants.{Call, Armed}
 use Rattle.hp_model.specs.Journal.{over}

@@ -1,10 +1,9 @@
 -- The callbacks of a state: which subsystem stands there, and what was called of it. This project's own.
-use Rattle.std.specs.Prelude.{ℕ, Bool, true, false, ◌&&◌, ◌==◌, if◌then◌else◌, Option, Some, None, List, [], ◌∷◌, ◌++◌}
+use Rattle.std.specs.Prelude.{ℕ, ◌&&◌, ◌==◌, if◌then◌else◌, Option, Some, None, List, [], ◌∷◌, ◌++◌}
 use Rattle.hp_states.specs.Rules.{Site}
-use Rattle.hp_event.specs.declared.event.How.{How}
-use Rattle.hp_event.specs.declared.event.How.TheVariants.{RanOk, RanFault, Injected, Empty, Presumed, Overruled}
-use Rattle.hp_event.specs.declared.event.Op.{Op}
-use Rattle.hp_event.specs.declared.event.Op.TheVariants.{Setup}
+pub use Rattle.hp_event.specs.Hows.{is_called}
+use Rattle.hp_event.specs.declared.op.Op.{Op}
+use Rattle.hp_event.specs.declared.op.Op.TheVariants.{Setup}
 use Rattle.hp_event.specs.declared.head.Sub.{Sub}
 use Rattle.hp_event.specs.declared.head.Head.{Head}
 use Rattle.hp_event.specs.declared.event.Event.{Event}
@@ -13,15 +12,6 @@ use Rattle.hp_model.specs.Journal.{over}
 use Rattle.hp_model.specs.Registrations.{Registration, registration}
 use Rattle.hp_model.specs.Subsystems.{sub_numbered}
 use Rattle.hp_model.specs.Registered.{Registered, registered}
-
--- whether a callback was called
-abbrev pub is_called : How → Bool
-is_called RanOk = true
-is_called (RanFault code) = true
-is_called Injected = false
-is_called Empty = false
-is_called Presumed = false
-is_called (Overruled code) = true
 
 abbrev pub forgotten_by : (state : ℕ) → (at : ℕ) → Op → List Site → List Site
 forgotten_by s at (Setup asked sub form) found = if at == s then [] else found

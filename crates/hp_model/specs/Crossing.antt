@@ -1,12 +1,13 @@
 -- Crossings of a state: done, or failed at one of its keys. After `cpuhp_invoke_callback` of `kernel/cpu.c`;
 -- that the instances of a state go in list order both ways is this project's own.
-use Rattle.std.specs.Prelude.{◌≡◌, ℕ, ◌-◌, Bool, false, true, not, List, [], ◌∷◌, ◌++◌}
+use Rattle.std.specs.Prelude.{◌≡◌, ℕ, Bool, false, true, not, List, [], ◌∷◌, ◌++◌}
 use Rattle.std.specs.List.{AllZip}
-use Rattle.hp_states.specs.declared.section.Dir.{Dir}
-use Rattle.hp_states.specs.declared.section.Dir.TheVariants.{Up, Down}
-use Rattle.hp_states.specs.declared.section.Place.{Place}
-use Rattle.hp_states.specs.declared.section.Place.TheVariants.{Part}
+use Rattle.hp_states.specs.declared.dir.Dir.{Dir}
+use Rattle.hp_states.specs.declared.place.Place.{Place}
+use Rattle.hp_states.specs.declared.place.Place.TheVariants.{Part}
 use Rattle.hp_states.specs.Sections.{opposite}
+use Rattle.hp_event.specs.declared.how.How.{How}
+pub use Rattle.hp_states.specs.Crossings.{state_before as near, state_after as far}
 use Rattle.hp_event.specs.declared.event.Event.{Event}
 use Rattle.hp_event.specs.declared.event.Event.TheVariants.{Call}
 use Rattle.hp_model.specs.Lists.{is_empty}
@@ -23,9 +24,12 @@ pub record Slot : Type 0 where
   pub fails : Bool
 
 -- an entry of that processor, key and direction, a fault where one is wanted and else done
-abbrev pub Fits : Slot → Event → Type 0
-Fits slot (Call seat cpu state inst dir how) =
+abbrev pub FitsAt : Slot → (cpu state inst : ℕ) → Dir → How → Type 0
+FitsAt slot cpu state inst dir how =
     (cpu ≡ slot.cpu) × (state ≡ slot.state) × (inst ≡ slot.inst) × (dir ≡ slot.dir) × (is_done how ≡ not slot.fails)
+
+abbrev pub Fits : Slot → Event → Type 0
+Fits slot (Call seat cpu state inst dir how) = FitsAt slot cpu state inst dir how
 Fits slot _ = ⊥
 
 -- the entries are those of the slots, one for each
@@ -64,15 +68,6 @@ slots_of c keys (failed p d s earlier i) =
 abbrev pub slots : (cpu : ℕ) → (keys : ℕ → List ℕ) → List Crossing → List Slot
 slots c keys [] = []
 slots c keys (x ∷ xs) = slots_of c keys x ++ slots c keys xs
-
--- the state that stands before a done crossing, and after it
-abbrev pub near : Dir → ℕ → ℕ
-near Up s = s - 1
-near Down s = s
-
-abbrev pub far : Dir → ℕ → ℕ
-far Up s = s
-far Down s = s - 1
 
 -- the state after some crossings: that of the last done crossing, less 1 if it went down
 abbrev pub level : ℕ → List Crossing → ℕ

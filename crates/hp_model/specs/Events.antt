@@ -1,9 +1,9 @@
 -- Whose an event is, which operation of a client it belongs to, and what it answers. This project's own.
 use Rattle.std.specs.Prelude.{◌≡◌, ℕ, Bool, true, false, ◌&&◌, ◌==◌, pos, is_some, Option, Some, None, List, count_by}
-use Rattle.hp_event.specs.declared.event.Op.{Op}
-use Rattle.hp_event.specs.declared.event.Op.TheVariants.{Arm, ShowState, ShowTarget, ShowFail, ShowStates, Setup, Remove, Add, Del}
-use Rattle.hp_event.specs.declared.event.Answer.{Answer}
-use Rattle.hp_event.specs.declared.event.Answer.TheVariants as answer
+use Rattle.hp_event.specs.declared.op.Op.{Op}
+use Rattle.hp_event.specs.declared.op.Op.TheVariants.{Arm, ShowState, ShowTarget, ShowFail, ShowStates, Setup, Remove, Add, Del}
+use Rattle.hp_event.specs.declared.answer.Answer.{Answer}
+use Rattle.hp_event.specs.declared.answer.Answer.TheVariants as answer
 use Rattle.hp_event.specs.declared.event.File.{File}
 use Rattle.hp_event.specs.declared.event.File.TheVariants.{State, Target, Fail, States}
 use Rattle.hp_event.specs.declared.event.Event.{Event}
@@ -62,7 +62,7 @@ BelongsTo op (Shown seat file cpu value) = op ≡ showing file cpu
 BelongsTo op (Wakeup seat) = op ≡ Op.Wakeup
 BelongsTo op _ = ⊥
 
--- the answer of an operation that an event gives, where it gives one
+-- the answer of an operation that an event gives, where it gives one; of a file that is shown it is the value
 abbrev pub answer_by : Event → Option Answer
 answer_by (Refused seat errno op) = Some (answer.Refused errno)
 answer_by (OpEnd seat given) = Some given
@@ -70,7 +70,7 @@ answer_by (RegEnd seat given) = Some given
 answer_by (ReadLock seat) = Some (answer.Ok (pos 0))
 answer_by (ReadUnlock seat) = Some (answer.Ok (pos 0))
 answer_by (Armed seat cpu value) = Some (answer.Ok (pos 0))
-answer_by (Shown seat file cpu value) = Some (answer.Ok (pos 0))
+answer_by (Shown seat file cpu value) = Some (answer.Ok value)
 answer_by (Wakeup seat) = Some (answer.Ok (pos 0))
 answer_by _ = None
 

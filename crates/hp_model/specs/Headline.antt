@@ -1,6 +1,6 @@
 -- The headline: what holds of every lawful journal, at rest, in flight and at a fault. This project's own.
 use Rattle.std.specs.Prelude.{◌≡◌, ℕ, ◌+◌, ◌<◌, ◌≤◌, ◌↔◌, false, Some, None, List, [], ◌∷◌, ◌++◌}
-use Rattle.hp_event.specs.declared.event.Answer.TheVariants.{Fault, Stuck}
+use Rattle.hp_event.specs.declared.answer.Answer.TheVariants.{Fault, Stuck}
 use Rattle.hp_event.specs.declared.head.Head.{Head}
 use Rattle.hp_event.specs.declared.event.Event.{Event}
 use Rattle.hp_event.specs.declared.event.Event.TheVariants.{WalkEnd, RegEnd}

@@ -1,26 +1,13 @@
 -- Which heads a machine can be started with: processors, the first of them there, and subsystems whose names
 -- and rules have their forms. This project's own.
-use Rattle.std.specs.Prelude.{◌≡◌, ◌≢◌, ℕ, ◌<◌, ◌≤◌, Bool, true, ◌&&◌, ◌||◌, ◌==◌, nat_le, IfSome, List, length, All, codes}
-use Rattle.std.specs.List.{AllPass}
+use Rattle.std.specs.Prelude.{◌≡◌, ◌<◌, ◌≤◌, true, IfSome, length, All}
 use Rattle.std.specs.List.Sorted.{IsStrictlyIncreasing}
 use Rattle.hp_states.specs.declared.plan.Rule.{Rule}
-use Rattle.hp_states.specs.declared.limits.TheConstants.{MAX_CPUS, MAX_SUBS, MAX_RULES, MAX_RULE_CPU, MAX_NAME_LEN, MAX_CODE, MAX_INSTANCE, MAX_EVENTS}
+pub use Rattle.hp_states.specs.Names.{is_name_byte, IsName}
+use Rattle.hp_states.specs.declared.limits.TheConstants.{MAX_CPUS, MAX_SUBS, MAX_RULES, MAX_RULE_CPU, MAX_CODE, MAX_INSTANCE, MAX_EVENTS}
 use Rattle.hp_event.specs.declared.head.Sub.{Sub}
 use Rattle.hp_event.specs.declared.head.Head.{Head}
 use Rattle.hp_model.specs.Processors.{is_present}
-
--- a letter, a digit, or one of `:` `_` `/` `.` `-`
-abbrev pub is_name_byte : ℕ → Bool
-is_name_byte b =
-    (nat_le 97 b && nat_le b 122)
-    || ((nat_le 65 b && nat_le b 90)
-    || ((nat_le 48 b && nat_le b 57) || (b == 58 || (b == 95 || (b == 47 || (b == 46 || b == 45))))))
-
--- an empty name is no name, and `-` is how that is spelled
-pub record IsName (name : List ℕ) : Type 0 where
-  pub short : length name ≤ MAX_NAME_LEN
-  pub bytes : AllPass is_name_byte name
-  pub not_dash : name ≢ codes "-"
 
 pub record IsRule (rule : Rule) : Type 0 where
   pub cpu_fits : IfSome rule.cpu (λ c. c ≤ MAX_RULE_CPU)

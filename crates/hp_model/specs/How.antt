@@ -1,25 +1,21 @@
 -- How an entry is made: called, or not and why. After `cpuhp_invoke_callback` of `kernel/cpu.c`, which
 -- skips an absent callback and takes an armed fault; which faults are overruled is this project's own.
-use Rattle.std.specs.Prelude.{ℕ, zero, suc, Bool, false, ◌&&◌, ◌||◌, if◌then◌else◌, List}
-use Rattle.hp_states.specs.declared.section.Dir.{Dir}
-use Rattle.hp_states.specs.declared.section.Place.{Place}
+use Rattle.std.specs.Prelude.{ℕ, Bool, false, ◌&&◌, ◌||◌, if◌then◌else◌, List}
+use Rattle.hp_states.specs.declared.dir.Dir.{Dir}
+use Rattle.hp_states.specs.declared.place.Place.{Place}
 use Rattle.hp_states.specs.Sections.{can_fail}
 use Rattle.hp_states.specs.Rules.{answer_of}
-use Rattle.hp_event.specs.declared.event.How.{How}
-use Rattle.hp_event.specs.declared.event.How.TheVariants.{RanOk, RanFault, Injected, Empty, Presumed, Overruled}
-use Rattle.hp_event.specs.declared.event.Op.{Op}
-use Rattle.hp_event.specs.declared.event.Op.TheVariants.{Setup, Remove, Add, Del}
+use Rattle.hp_event.specs.declared.how.How.{How}
+use Rattle.hp_event.specs.declared.how.How.TheVariants.{Injected, Empty, Presumed}
+pub use Rattle.hp_event.specs.Hows.{how_answered}
+use Rattle.hp_event.specs.declared.op.Op.{Op}
+use Rattle.hp_event.specs.declared.op.Op.TheVariants.{Setup, Remove, Add, Del}
 use Rattle.hp_event.specs.declared.head.Head.{Head}
 use Rattle.hp_event.specs.declared.event.Event.{Event}
 use Rattle.hp_model.specs.Entries.{is_done}
 use Rattle.hp_model.specs.Subsystems.{has_callback, plan_of}
 use Rattle.hp_model.specs.Armed.{armed, is_armed_at}
 use Rattle.hp_model.specs.Calls.{sites, sub_at}
-
--- a callback that answers 0 ran; a code is a fault where the entry may fail, and else overruled
-abbrev pub how_answered : (may_fail : Bool) → (code : ℕ) → How
-how_answered may_fail zero = RanOk
-how_answered may_fail (suc n) = if may_fail then RanFault (suc n) else Overruled (suc n)
 
 -- whether an entry can be made so in its place: done, or a fault where that may come
 abbrev pub fits : How → Dir → (state : ℕ) → Place → Bool

@@ -1,7 +1,7 @@
 -- The keys in force on a processor, as a list: of every journal by counting, and at rest by what is registered.
 -- This project's own.
 use Rattle.std.specs.Prelude.{◌≡◌, ℕ, true, ◌↔◌, List, AllPairs, Contains}
-use Rattle.hp_event.specs.declared.event.Key.{Key}
+use Rattle.hp_event.specs.declared.key.Key.{Key}
 use Rattle.hp_event.specs.declared.head.Head.{Head}
 use Rattle.hp_event.specs.declared.event.Event.{Event}
 use Rattle.hp_model.specs.InForce.{IsInForce}

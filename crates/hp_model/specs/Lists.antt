@@ -1,17 +1,10 @@
 -- Small words on lists of numbers. This project's own.
-use Rattle.std.specs.Prelude.{ℕ, zero, suc, ◌+◌, Bool, true, false, not, ◌==◌, nat_lt, if◌then◌else◌, List, [], ◌∷◌, ◌++◌, filter}
+use Rattle.std.specs.Prelude.{ℕ, zero, suc, Bool, true, false, not, ◌==◌, List, [], ◌∷◌, ◌++◌, filter}
+pub use Rattle.hp_event.specs.Heads.{occurs, among}
 
 abbrev pub is_empty : {X : Type 0} → List X → Bool
 is_empty [] = true
 is_empty (x ∷ xs) = false
-
--- how often a number is in a list
-abbrev pub occurs : ℕ → List ℕ → ℕ
-occurs i [] = 0
-occurs i (x ∷ xs) = (if x == i then 1 else 0) + occurs i xs
-
-abbrev pub among : ℕ → List ℕ → Bool
-among i xs = nat_lt 0 (occurs i xs)
 
 -- the list without a number
 abbrev pub without : ℕ → List ℕ → List ℕ

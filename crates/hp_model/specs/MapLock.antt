@@ -1,23 +1,11 @@
 -- The operation that holds the map lock, from its Enter to its OpEnd. After `cpu_maps_update_begin` and
 -- `cpu_maps_update_done` of `kernel/cpu.c`.
-use Rattle.std.specs.Prelude.{ℕ, Bool, true, false, is_some, Option, Some, None, List}
-use Rattle.hp_event.specs.declared.event.Op.{Op}
-use Rattle.hp_event.specs.declared.event.Op.TheVariants.{Up, Down, Target, Boot, Disable, Enable, Freeze, Thaw}
+use Rattle.std.specs.Prelude.{ℕ, Bool, is_some, Option, Some, None, List}
+use Rattle.hp_event.specs.declared.op.Op.{Op}
+pub use Rattle.hp_event.specs.Ops.{is_map_op}
 use Rattle.hp_event.specs.declared.event.Event.{Event}
 use Rattle.hp_event.specs.declared.event.Event.TheVariants.{Enter, OpEnd}
 use Rattle.hp_model.specs.Journal.{over}
-
--- whether an operation is one that takes the map lock
-abbrev pub is_map_op : Op → Bool
-is_map_op (Up cpu) = true
-is_map_op (Down cpu) = true
-is_map_op (Target cpu to) = true
-is_map_op (Boot n) = true
-is_map_op Disable = true
-is_map_op Enable = true
-is_map_op (Freeze primary) = true
-is_map_op Thaw = true
-is_map_op _ = false
 
 -- an operation that holds it: whose, which, and the events before its Enter
 pub record Operation : Type 0 where

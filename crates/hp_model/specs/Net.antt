@@ -2,7 +2,7 @@
 -- they are shown: rising states, and in one state rising instances or list order. This project's own.
 use Rattle.std.specs.Prelude.{ℕ, ◌+◌, Bool, ◌&&◌, ◌||◌, ◌==◌, nat_lt, if◌then◌else◌, List, [], ◌∷◌, filter, map, flat_map, fold}
 use Rattle.hp_states.specs.declared.limits.TheConstants.{ONLINE}
-use Rattle.hp_event.specs.declared.event.Key.{Key}
+use Rattle.hp_event.specs.declared.key.Key.{Key}
 use Rattle.hp_event.specs.declared.head.Head.{Head}
 use Rattle.hp_event.specs.declared.event.Event.{Event}
 use Rattle.hp_event.specs.declared.event.Event.TheVariants.{Call}

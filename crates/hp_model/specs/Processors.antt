@@ -1,16 +1,14 @@
 -- The present processors of a machine, those online, and those at or above a state. After `cpu_possible_mask`,
 -- `cpu_present_mask` and `cpu_online_mask` of `kernel/cpu.c`.
-use Rattle.std.specs.Prelude.{ℕ, Bool, not, ◌&&◌, nat_lt, nat_le, List, filter}
+use Rattle.std.specs.Prelude.{ℕ, Bool, ◌&&◌, nat_lt, nat_le, List, filter}
 use Rattle.hp_event.specs.declared.head.Head.{Head}
 use Rattle.hp_event.specs.declared.event.Event.{Event}
-use Rattle.hp_model.specs.Lists.{among, numbers}
+pub use Rattle.hp_event.specs.Heads.{is_present}
+use Rattle.hp_model.specs.Lists.{numbers}
 use Rattle.hp_model.specs.Settled.{settled, is_online}
 
 abbrev pub is_possible : Head → (cpu : ℕ) → Bool
 is_possible head c = nat_lt c head.possible
-
-abbrev pub is_present : Head → (cpu : ℕ) → Bool
-is_present head c = nat_lt c head.possible && not (among c head.absent)
 
 -- each list is in rising number
 abbrev pub present : Head → List ℕ

@@ -2,11 +2,11 @@
 -- `target_store`, `fail_store` and the registration calls of `kernel/cpu.c`; each condition, its number and
 -- its place are this project's own.
 use Rattle.std.specs.Prelude.{◌≡◌, ℕ, zero, suc, ℤ, pos, negsuc, Bool, true, false, not, ◌&&◌, ◌||◌, ◌==◌, nat_le, nat_lt, if◌then◌else◌, is_none, Option, Some, None, List, [], ◌∷◌, ◌++◌, length}
-use Rattle.hp_states.specs.declared.section.Dir.TheVariants.{Up, Down}
+use Rattle.hp_states.specs.declared.dir.Dir.TheVariants.{Up, Down}
 use Rattle.hp_states.specs.declared.limits.TheConstants.{BRINGUP_CPU, ONLINE, EBUSY, EINVAL, ENOSPC, MAX_INSTANCES, MAX_TABLE_INSTANCES}
 use Rattle.hp_states.specs.Sections.{is_stop, is_atomic_state, is_dynamic}
-use Rattle.hp_event.specs.declared.event.Op.{Op}
-use Rattle.hp_event.specs.declared.event.Op.TheVariants.{Target, Arm, Setup, Remove, Add, Del, Boot, Enable}
+use Rattle.hp_event.specs.declared.op.Op.{Op}
+use Rattle.hp_event.specs.declared.op.Op.TheVariants.{Target, Arm, Setup, Remove, Add, Del, Boot, Enable}
 use Rattle.hp_event.specs.declared.head.Head.{Head}
 use Rattle.hp_event.specs.declared.event.Event.{Event}
 use Rattle.hp_model.specs.Lists.{is_empty, among}

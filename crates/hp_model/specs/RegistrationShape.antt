@@ -1,15 +1,16 @@
 -- Registrations: whole, or turned back at a fault. After `__cpuhp_setup_state_cpuslocked` of
 -- `kernel/cpu.c`; that a removal never fails is this project's own.
 use Rattle.std.specs.Prelude.{◌≡◌, ℕ, Bool, true, false, if◌then◌else◌, pos, Option, Some, None, List, [], ◌∷◌, ◌++◌}
-use Rattle.hp_states.specs.declared.section.Dir.{Dir}
-use Rattle.hp_states.specs.declared.section.Dir.TheVariants.{Up, Down}
+use Rattle.hp_states.specs.declared.dir.Dir.{Dir}
+use Rattle.hp_states.specs.declared.dir.Dir.TheVariants.{Up, Down}
 use Rattle.hp_states.specs.Sections.{is_dynamic}
-use Rattle.hp_states.specs.declared.section.Place.{Place}
-use Rattle.hp_states.specs.declared.section.Place.TheVariants.{Undo}
-use Rattle.hp_event.specs.declared.event.Op.{Op}
-use Rattle.hp_event.specs.declared.event.Op.TheVariants.{Setup, Remove, Add, Del}
-use Rattle.hp_event.specs.declared.event.Answer.{Answer}
-use Rattle.hp_event.specs.declared.event.Answer.TheVariants.{Ok, Fault}
+use Rattle.hp_states.specs.declared.place.Place.{Place}
+use Rattle.hp_states.specs.declared.place.Place.TheVariants.{Undo}
+use Rattle.hp_event.specs.declared.op.Op.{Op}
+use Rattle.hp_event.specs.declared.op.Op.TheVariants.{Setup, Remove, Add, Del}
+pub use Rattle.hp_event.specs.Ops.{is_adding}
+use Rattle.hp_event.specs.declared.answer.Answer.{Answer}
+use Rattle.hp_event.specs.declared.answer.Answer.TheVariants.{Ok, Fault}
 use Rattle.hp_event.specs.declared.head.Head.{Head}
 use Rattle.hp_event.specs.declared.event.Event.{Event}
 use Rattle.hp_model.specs.Entries.{codes_of_faults}
@@ -36,11 +37,6 @@ key_of_op head _ found = None
 
 abbrev pub key_of : Head → Registration → Option ℕ
 key_of head r = key_of_op head r.op (registered head r.state r.before)
-
-abbrev pub is_adding : Op → Bool
-is_adding (Setup state sub form) = true
-is_adding (Add state inst form) = true
-is_adding _ = false
 
 -- done entries of a key on some processors
 abbrev pub each : Place → Dir → (state inst : ℕ) → (cpus : List ℕ) → List Slot

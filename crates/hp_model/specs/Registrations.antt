@@ -1,7 +1,7 @@
 -- The registration in flight, one at most, and its entries. After `__cpuhp_setup_state_cpuslocked` and its
 -- kin of `kernel/cpu.c`, under `cpuhp_state_mutex`.
 use Rattle.std.specs.Prelude.{ℕ, Bool, is_some, Option, Some, None, List, [], ◌∷◌, ◌++◌}
-use Rattle.hp_event.specs.declared.event.Op.{Op}
+use Rattle.hp_event.specs.declared.op.Op.{Op}
 use Rattle.hp_event.specs.declared.event.Event.{Event}
 use Rattle.hp_event.specs.declared.event.Event.TheVariants.{RegBegin, RegEnd, Call}
 use Rattle.hp_model.specs.Journal.{over}

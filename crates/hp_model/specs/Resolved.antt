@@ -2,8 +2,8 @@
 -- for. After `cpuhp_reserve_state` of `kernel/cpu.c`.
 use Rattle.std.specs.Prelude.{ℕ, ◌-◌, not, if◌then◌else◌, Option, Some, None, List, ◌∷◌, find}
 use Rattle.hp_states.specs.Sections.{is_dynamic, end_of_range}
-use Rattle.hp_event.specs.declared.event.Op.{Op}
-use Rattle.hp_event.specs.declared.event.Op.TheVariants.{Setup, Remove, Add, Del}
+use Rattle.hp_event.specs.declared.op.Op.{Op}
+use Rattle.hp_event.specs.declared.op.Op.TheVariants.{Setup, Remove, Add, Del}
 use Rattle.hp_event.specs.declared.head.Head.{Head}
 use Rattle.hp_event.specs.declared.event.Event.{Event}
 use Rattle.hp_model.specs.Lists.{rising}

@@ -1,7 +1,7 @@
--- The run of a script's actors, by rounds: each round gives one turn to each seat, and rounds go on until every
--- operation is answered. This project's own.
+-- The run of a script's actors by rounds alone, as a relation: each round gives one turn to each seat, and rounds go on
+-- until every operation is answered. `ScriptRun.antt` has the run for any schedule, by functions. This project's own.
 use Rattle.std.specs.Prelude.{◌≡◌, ℕ, zero, suc, ◌+◌, ◌-◌, Bool, true, false, ◌&&◌, nat_le, nat_lt, if◌then◌else◌, Option, Some, None, List, [], ◌∷◌, ◌++◌, ◌⊎◌, length, slice_get}
-use Rattle.hp_event.specs.declared.event.Op.{Op}
+use Rattle.hp_event.specs.declared.op.Op.{Op}
 use Rattle.hp_event.specs.declared.event.Role.TheVariants.{Client, Ap}
 use Rattle.hp_event.specs.declared.head.Head.{Head}
 use Rattle.hp_event.specs.declared.event.Event.{Event}

@@ -1,10 +1,11 @@
 -- Seats: who is in, with which role, and which of them have an operation in flight. This project's own.
-use Rattle.std.specs.Prelude.{ℕ, ◌+◌, ◌≡◌, Bool, false, ◌==◌, ◌||◌, if◌then◌else◌, Option, Some, None, List}
+use Rattle.std.specs.Prelude.{ℕ, ◌+◌, ◌≡◌, Bool, false, ◌==◌, ◌||◌, if◌then◌else◌, Option, Some, None, List, [], ◌∷◌, ◌++◌}
 use Rattle.hp_event.specs.declared.event.Role.{Role}
 use Rattle.hp_event.specs.declared.event.Role.TheVariants.{Client, Ap}
 use Rattle.hp_event.specs.declared.event.Event.{Event}
 use Rattle.hp_event.specs.declared.event.Event.TheVariants.{Admit, Leave}
 use Rattle.hp_model.specs.Journal.{over}
+use Rattle.hp_model.specs.Lists.{without}
 use Rattle.hp_model.specs.MapLock.{Operation, operation}
 use Rattle.hp_model.specs.Registrations.{Registration, registration}
 
@@ -24,6 +25,15 @@ role_step k found before _ = found
 -- the role of a seat that is in
 unfoldable pub role_of : (seat : ℕ) → List Event → Option Role
 role_of k events = over (role_step k) None events
+
+abbrev pub seats_step : List ℕ → List Event → Event → List ℕ
+seats_step found before (Admit seat role) = without seat found ++ seat ∷ []
+seats_step found before (Leave seat) = without seat found
+seats_step found before _ = found
+
+-- the seats that are in
+unfoldable pub seats : List Event → List ℕ
+seats events = over seats_step [] events
 
 abbrev pub seated : (cpu seat : ℕ) → Role → Option ℕ → Option ℕ
 seated c seat Client found = found

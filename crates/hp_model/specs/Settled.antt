@@ -1,10 +1,9 @@
 -- The settled state of a processor: where its last walk left it. After `st->state` of `kernel/cpu.c`;
 -- what a stuck walk leaves is this project's own.
 use Rattle.std.specs.Prelude.{ℕ, Bool, ◌==◌, if◌then◌else◌, Option, Some, None, List}
-use Rattle.hp_states.specs.declared.limits.TheConstants.{OFFLINE, ONLINE}
-use Rattle.hp_states.specs.Sections.{is_online_state}
-use Rattle.hp_event.specs.declared.event.Answer.{Answer}
-use Rattle.hp_event.specs.declared.event.Answer.TheVariants.{Ok, Refused, Fault, Stuck, LogFull}
+use Rattle.hp_states.specs.Sections.{is_online_state, first_state}
+use Rattle.hp_event.specs.declared.answer.Answer.{Answer}
+use Rattle.hp_event.specs.Leaves.{leaves_at}
 use Rattle.hp_event.specs.declared.event.Event.{Event}
 use Rattle.hp_event.specs.declared.event.Event.TheVariants.{WalkEnd}
 use Rattle.hp_model.specs.Journal.{over}
@@ -15,11 +14,7 @@ went_to None at = at
 went_to (Some w) at = w.to
 
 abbrev pub left_at : Answer → Option Walk → ℕ → ℕ
-left_at (Ok value) w at = went_to w at
-left_at (Refused errno) w at = at
-left_at (Fault code) w at = at
-left_at (Stuck first second stuck_at) w at = stuck_at
-left_at LogFull w at = at
+left_at answer w at = leaves_at answer (went_to w at) at
 
 abbrev pub settled_step : (cpu : ℕ) → ℕ → List Event → Event → ℕ
 settled_step c at before (WalkEnd seat cpu answer) = if cpu == c then left_at answer (walk c before) at else at
@@ -27,7 +22,7 @@ settled_step c at before _ = at
 
 -- processor 0 begins at the highest state, the others at the lowest
 unfoldable pub settled : (cpu : ℕ) → List Event → ℕ
-settled c events = over (settled_step c) (if c == 0 then ONLINE else OFFLINE) events
+settled c events = over (settled_step c) (first_state c) events
 
 abbrev pub is_online : (cpu : ℕ) → List Event → Bool
 is_online c events = is_online_state (settled c events)

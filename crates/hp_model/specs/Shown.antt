@@ -1,6 +1,6 @@
 -- The state that the `state` file shows: at rest the settled state, during a walk that of the last done crossing, less 1
--- if it went down. And where a walk is going, which the `target` file shows. After `show_cpuhp_state` and
--- `show_cpuhp_target` of `kernel/cpu.c`; what they show in flight is this project's own.
+-- if it went down. And where a walk is going, which the `target` file shows. After `state_show` and
+-- `target_show` of `kernel/cpu.c`; what they show in flight is this project's own.
 use Rattle.std.specs.Prelude.{ℕ, Bool, false, ◌&&◌, ◌==◌, if◌then◌else◌, Option, Some, None, List, [], ◌∷◌, fold}
 use Rattle.hp_event.specs.declared.head.Head.{Head}
 use Rattle.hp_event.specs.declared.event.Event.{Event}
@@ -34,3 +34,11 @@ shown head c events = shown_in head (walk c events) (walk_entries c events) (set
 -- where a walk is going: to its end, and from its first fault on back to its start
 abbrev pub heading : (from to : ℕ) → (entries : List Event) → ℕ
 heading from to entries = if is_empty (codes_of_faults entries) then to else from
+
+abbrev pub target_in : Option Walk → (entries : List Event) → (settled : ℕ) → ℕ
+target_in None entries at = at
+target_in (Some w) entries at = heading w.from w.to entries
+
+-- what the `target` file shows: at rest the settled state
+abbrev pub shown_target : (cpu : ℕ) → List Event → ℕ
+shown_target c events = target_in (walk c events) (walk_entries c events) (settled c events)

@@ -1,18 +1,17 @@
 -- Where an entry stands: it goes on with the walk of its processor or with the registration in flight, is made
 -- as its place wants, and by the seat that makes it. This project's own.
 use Rattle.std.specs.Prelude.{◌≡◌, ℕ, Some, List, ◌∷◌, ◌++◌, ◌⊎◌}
-use Rattle.hp_states.specs.declared.section.Dir.{Dir}
-use Rattle.hp_event.specs.declared.event.How.{How}
+use Rattle.hp_states.specs.declared.dir.Dir.{Dir}
+use Rattle.hp_event.specs.declared.how.How.{How}
 use Rattle.hp_event.specs.declared.head.Head.{Head}
 use Rattle.hp_event.specs.declared.event.Event.{Event}
-use Rattle.hp_event.specs.declared.event.Event.TheVariants.{Call}
 use Rattle.hp_model.specs.Walks.{Walk, walk, walk_entries}
 use Rattle.hp_model.specs.Registrations.{Registration, registration, registration_entries}
 use Rattle.hp_model.specs.Registered.{keys}
 use Rattle.hp_model.specs.Processors.{processors}
 use Rattle.hp_model.specs.How.{how_in_walk, how_in_registration}
 use Rattle.hp_model.specs.Caller.{caller}
-use Rattle.hp_model.specs.Crossing.{Crossing, Slot, slots, Fill, Fits}
+use Rattle.hp_model.specs.Crossing.{Crossing, Slot, slots, Fill, FitsAt}
 use Rattle.hp_model.specs.Plan.{direction, plan}
 use Rattle.hp_model.specs.WalkShape.{Outcome, IsWalkShape, IsWalkSoFar}
 use Rattle.hp_model.specs.RegistrationShape.{key_of, is_adding, Registering, IsRegistrationShape}
@@ -36,8 +35,8 @@ pub record IsNextInWalk (cpu : ℕ) (keys : ℕ → List ℕ) (d : Dir) (plan : 
   pub shape : IsWalkShape keys d plan crossings outcome
   pub is_next : IsNext (slots cpu keys crossings) entries slot
 
--- an entry of the walk of its processor that is in flight
-pub record InWalk (head : Head) (before : List Event) (seat cpu state inst : ℕ) (dir : Dir) (how : How) : Type 0 where
+-- the entry that comes next in the walk of a processor, whoever makes it
+pub record WalkEntry (head : Head) (before : List Event) (cpu state inst : ℕ) (dir : Dir) (how : How) : Type 0 where
   pub of : Walk
   pub in_flight : walk cpu before ≡ Some of
   pub outcome : Outcome
@@ -47,12 +46,11 @@ pub record InWalk (head : Head) (before : List Event) (seat cpu state inst : ℕ
       outcome
   pub slot : Slot
   pub is_next : IsNext (slots cpu (keys head of.before) crossings) (walk_entries cpu before) slot
-  pub fits : Fits slot (Call seat cpu state inst dir how)
+  pub fits : FitsAt slot cpu state inst dir how
   pub how_is : how ≡ how_in_walk head before cpu state inst dir slot.place slot.first
-  pub caller_is : caller before cpu state how of.seat ≡ Some seat
 
--- an entry of the registration in flight
-pub record InRegistration (head : Head) (before : List Event) (seat cpu state inst : ℕ) (dir : Dir) (how : How) : Type 0 where
+-- the entry that comes next in the registration in flight, whoever makes it
+pub record RegistrationEntry (head : Head) (before : List Event) (cpu state inst : ℕ) (dir : Dir) (how : How) : Type 0 where
   pub of : Registration
   pub in_flight : registration before ≡ Some of
   pub outcome : Registering
@@ -61,10 +59,22 @@ pub record InRegistration (head : Head) (before : List Event) (seat cpu state in
       IsRegistrationShape (is_adding of.op) of.state (key_of head of) (processors head of.state of.before) slots outcome
   pub slot : Slot
   pub is_next : IsNext slots (registration_entries before) slot
-  pub fits : Fits slot (Call seat cpu state inst dir how)
+  pub fits : FitsAt slot cpu state inst dir how
   pub how_is : how ≡ how_in_registration head before of.op cpu state inst dir slot.place
-  pub caller_is : caller before cpu state how of.seat ≡ Some seat
+
+-- such an entry, by the seat that makes it
+pub record InWalk (head : Head) (before : List Event) (seat cpu state inst : ℕ) (dir : Dir) (how : How) : Type 0 where
+  pub entry : WalkEntry head before cpu state inst dir how
+  pub caller_is : caller before cpu state how entry.of.seat ≡ Some seat
+
+pub record InRegistration (head : Head) (before : List Event) (seat cpu state inst : ℕ) (dir : Dir) (how : How) : Type 0 where
+  pub entry : RegistrationEntry head before cpu state inst dir how
+  pub caller_is : caller before cpu state how entry.of.seat ≡ Some seat
 
 abbrev pub Calls : Head → (before : List Event) → (seat cpu state inst : ℕ) → Dir → How → Type 0
 Calls head before seat cpu state inst dir how =
     InWalk head before seat cpu state inst dir how ⊎ InRegistration head before seat cpu state inst dir how
+
+-- no entry is due from a seat: no Call of it can come, and so none can stand, since an entry needs no room of its own
+abbrev pub IsIdle : Head → List Event → (seat : ℕ) → Type 0
+IsIdle head events k = (cpu state inst : ℕ) (dir : Dir) (how : How) → Calls head events k cpu state inst dir how → ⊥

@@ -1,8 +1,8 @@
 -- Where a registration begins and ends. After `__cpuhp_setup_state_cpuslocked`, `__cpuhp_remove_state_cpuslocked`
 -- and `__cpuhp_state_add_instance_cpuslocked` of `kernel/cpu.c`.
 use Rattle.std.specs.Prelude.{◌≡◌, ℕ, true, Some, List}
-use Rattle.hp_event.specs.declared.event.Op.{Op}
-use Rattle.hp_event.specs.declared.event.Answer.{Answer}
+use Rattle.hp_event.specs.declared.op.Op.{Op}
+use Rattle.hp_event.specs.declared.answer.Answer.{Answer}
 use Rattle.hp_event.specs.declared.head.Head.{Head}
 use Rattle.hp_event.specs.declared.event.Event.{Event}
 use Rattle.hp_model.specs.Registrations.{Registration, registration, registration_entries}

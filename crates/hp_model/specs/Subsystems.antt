@@ -1,18 +1,14 @@
 -- The subsystems of a head: their numbers from 1, their callbacks and their plans. This project's own.
-use Rattle.std.specs.Prelude.{ℕ, zero, suc, Bool, true, false, is_some, Option, Some, None, List, [], slice_get}
-use Rattle.hp_states.specs.declared.section.Dir.{Dir}
-use Rattle.hp_states.specs.declared.section.Dir.TheVariants.{Up, Down}
+use Rattle.std.specs.Prelude.{ℕ, Bool, true, false, is_some, Option, Some, None, List, []}
+use Rattle.hp_states.specs.declared.dir.Dir.{Dir}
+use Rattle.hp_states.specs.declared.dir.Dir.TheVariants.{Up, Down}
 use Rattle.hp_states.specs.declared.plan.Rule.{Rule}
-use Rattle.hp_event.specs.declared.event.Op.{Op}
-use Rattle.hp_event.specs.declared.event.Op.TheVariants.{Setup}
+use Rattle.hp_event.specs.declared.op.Op.{Op}
+use Rattle.hp_event.specs.declared.op.Op.TheVariants.{Setup}
 use Rattle.hp_event.specs.declared.head.Sub.{Sub}
 use Rattle.hp_event.specs.declared.head.Head.{Head}
+pub use Rattle.hp_event.specs.Heads.{sub_numbered}
 use Rattle.hp_model.specs.Lists.{is_empty}
-
--- the subsystem of a number
-abbrev pub sub_numbered : Head → (number : ℕ) → Option Sub
-sub_numbered head zero = None
-sub_numbered head (suc n) = slice_get head.subs n
 
 -- an operation speaks of subsystems of the head alone
 abbrev pub names_sub : Head → Op → Bool

@@ -4,13 +4,13 @@
 use Rattle.std.specs.Prelude.{ℕ, ◌+◌, Bool, true, false, ◌&&◌, ◌==◌, if◌then◌else◌, Option, Some, None, List, [], ◌∷◌, ◌++◌, map, filter, length, count_by, codes, decimal}
 use Rattle.std.specs.List.{flat_map}
 use Rattle.hp_states.specs.declared.limits.TheConstants.{ONLINE}
-use Rattle.hp_event.specs.declared.event.Key.{Key}
-use Rattle.hp_event.specs.declared.event.How.{How}
-use Rattle.hp_event.specs.declared.event.How.TheVariants.{RanOk, RanFault, Injected, Empty, Presumed, Overruled}
-use Rattle.hp_event.specs.declared.event.Op.{Op}
-use Rattle.hp_event.specs.declared.event.Op.TheVariants.{Setup}
-use Rattle.hp_event.specs.declared.event.Answer.{Answer}
-use Rattle.hp_event.specs.declared.event.Answer.TheVariants as answer
+use Rattle.hp_event.specs.declared.key.Key.{Key}
+use Rattle.hp_event.specs.declared.how.How.{How}
+use Rattle.hp_event.specs.declared.how.How.TheVariants.{RanOk, RanFault, Injected, Empty, Presumed, Overruled}
+use Rattle.hp_event.specs.declared.op.Op.{Op}
+use Rattle.hp_event.specs.declared.op.Op.TheVariants.{Setup}
+use Rattle.hp_event.specs.declared.answer.Answer.{Answer}
+use Rattle.hp_event.specs.declared.answer.Answer.TheVariants as answer
 use Rattle.hp_event.specs.declared.head.Sub.{Sub}
 use Rattle.hp_event.specs.declared.head.Head.{Head}
 use Rattle.hp_event.specs.declared.event.Event.{Event}

@@ -2,10 +2,10 @@
 -- pending. After `cpu_hotplug_disabled`, `frozen_cpus` and `pm_wakeup_pending` of `kernel/cpu.c`; when each
 -- changes is this project's own.
 use Rattle.std.specs.Prelude.{ℕ, ◌+◌, ◌-◌, Bool, true, false, ◌&&◌, nat_lt, if◌then◌else◌, Option, Some, None, List, [], ◌∷◌, ◌++◌}
-use Rattle.hp_event.specs.declared.event.Op.{Op}
-use Rattle.hp_event.specs.declared.event.Op.TheVariants.{Disable, Enable, Freeze, Thaw}
-use Rattle.hp_event.specs.declared.event.Answer.{Answer}
-use Rattle.hp_event.specs.declared.event.Answer.TheVariants.{Ok, Refused, Fault, Stuck, LogFull}
+use Rattle.hp_event.specs.declared.op.Op.{Op}
+use Rattle.hp_event.specs.declared.op.Op.TheVariants.{Disable, Enable, Freeze, Thaw}
+use Rattle.hp_event.specs.declared.answer.Answer.{Answer}
+use Rattle.hp_event.specs.declared.answer.Answer.TheVariants.{Ok, Refused, Fault, Stuck, LogFull}
 use Rattle.hp_event.specs.declared.event.Event.{Event}
 use Rattle.hp_event.specs.declared.event.Event.TheVariants.{Enter, WalkEnd, OpEnd, Wakeup}
 use Rattle.hp_model.specs.Journal.{over}

@@ -1,8 +1,8 @@
 -- Lines of words, as the texts of a journal and its summary have them: one space between two words, and a
 -- newline at the end. This project's own.
 use Rattle.std.specs.Prelude.{ℕ, Option, Some, None, Bool, if◌then◌else◌, List, [], ◌∷◌, ◌++◌, codes, decimal}
-use Rattle.hp_states.specs.declared.section.Dir.{Dir}
-use Rattle.hp_states.specs.declared.section.Dir.TheVariants.{Up, Down}
+use Rattle.hp_states.specs.declared.dir.Dir.{Dir}
+use Rattle.hp_states.specs.declared.dir.Dir.TheVariants.{Up, Down}
 
 -- words that follow another: each behind one space
 abbrev pub spaced : List (List ℕ) → List ℕ

@@ -2,33 +2,66 @@
 //!
 //! A journal is a head and a list of events, oldest first. Each notion of the machine (what is
 //! registered, where a processor stands, what is in force, who reads, what waits) is a fold over
-//! that list, in a file of `specs/` that is named after it. `specs/Lawful.antt` says which journals
-//! are lawful: each event stands after those before it. `specs/Headline.antt` says what holds of
-//! every lawful journal, `specs/Keys.antt` what that makes of the lists of keys that are shown, and
-//! `specs/Run.antt` which journal a script's actors make.
+//! that list, or a relation on lists of entries, in a file of `specs/` that is named after it. To
+//! read them, take them in this order:
+//!
+//! 1. `Journal` and `Events`: folds over events; whose an event is, and what it answers.
+//! 2. `Registered`, `Settled`, `InForce`: what is registered, where a processor stands, what is in
+//!    force. `Walks`, `Registrations`, `MapLock`, `Readers`, `Seats`: what is in flight, and who is in.
+//! 3. `Crossing`, `Plan`, `WalkShape`, `RegistrationShape`: what a walk and a registration make.
+//! 4. `Armed`, `Calls`, `How`, `Caller`: how an entry is made, and by whom.
+//! 5. `Waits`, `RefusalsAtOnce`, `Refusals`, `Resolved`, `Sequence`, `Suspend`, `Files`: the rules of
+//!    operations. `Needs`, `Promised`, `Room`: the room that they take.
+//! 6. `StandsCalls`, `StandsSeats`, `StandsOperations`, `StandsRegistrations`, `StandsFiles`, and
+//!    `Lawful`: which event stands after which events.
+//! 7. `Headline`, `OneWalk`, `Keys`, `Front`: what holds of every lawful journal.
+//! 8. `Pending`, `SeatWaits`, `ApTurn`, `Full`, `Turns`, `Moves`: what a turn finds, and that some seat
+//!    can move. `Trees`, `Remaining`, `UnderWay`, `FirstEvent`, `NextEvent`: what comes next, found by
+//!    functions.
+//! 9. `Scripts`, `ScriptTurns`, `ScriptRun`, `Draws`, `Schedule`, `TurnMakes`, `WithoutEvent`,
+//!    `Distance`: the run of a script by its schedule. `Run`, `Steps`, `OneClient`: a run by rounds as
+//!    a relation, with one actor.
+//! 10. `EventLine`, `JournalText`, `Summary`: the texts.
 //!
 //! The functions of this file have empty bodies: their contracts are the laws, which callers cite.
 //! `net_of` and its kin compute a notion from the events alone, slowly, for tests.
 #![tactic(auto)]
 
-ghost use Rattle.std.specs.Prelude.{◌≡◌, ℕ, ◌+◌, ◌≤◌, None, true, List, [], ◌∷◌, ◌++◌, length};
-ghost use Rattle.hp_event.specs.declared.event.Op.{Op as AnOp};
+ghost use Rattle.std.specs.Prelude.{◌≡◌, ◌≢◌, ◌↔◌, ◌⊎◌, ℕ, ◌+◌, ◌<◌, ◌≤◌, None, Some, true, false, List, [], ◌∷◌, ◌++◌, length, get_or, sum_by, All};
+ghost use Rattle.hp_event.specs.declared.op.Op.{Op as AnOp};
 ghost use Rattle.hp_event.specs.declared.event.Event.{Event as AnEvent};
+ghost use Rattle.hp_event.specs.declared.event.Event.TheVariants.{Leave};
 ghost use Rattle.hp_model.specs.Journal.{EachAfter};
 ghost use Rattle.hp_model.specs.Processors.{present};
 ghost use Rattle.hp_model.specs.Heads.{IsHead};
-ghost use Rattle.hp_model.specs.Lawful.{Stands, IsLawful};
+ghost use Rattle.hp_model.specs.Needs.{need, taken};
+ghost use Rattle.hp_model.specs.Promised.{promised, given_back};
+ghost use Rattle.hp_model.specs.StandsCalls.{IsIdle};
+ghost use Rattle.hp_model.specs.Lawful.{Comes, Stands, IsLawful};
+ghost use Rattle.hp_model.specs.Pending.{Pending, IsAllowed};
+ghost use Rattle.hp_model.specs.Turns.{IsKeptWaiting, NeedsThread, TurnFinds, FindsOne};
+ghost use Rattle.hp_model.specs.Full.{IsFull};
+ghost use Rattle.hp_model.specs.NextEvent.{due_entry as due_entry_of, next_event as next_event_of, is_full as is_full_of};
+ghost use Rattle.hp_model.specs.Moves.{ArePending, CanMove};
 ghost use Rattle.hp_model.specs.Walks.{walk};
 ghost use Rattle.hp_model.specs.Registrations.{registration};
 ghost use Rattle.hp_model.specs.Net.{keys_in_force as keys_in_force_of};
 ghost use Rattle.hp_model.specs.Headline.{Headline};
+ghost use Rattle.hp_model.specs.OneWalk.{IsOnlyWalk, LeavesOthers};
 ghost use Rattle.hp_model.specs.Keys.{AreKeysInForce, AreKeysAtRest};
-ghost use Rattle.hp_model.specs.Events.{seat_of, BelongsTo};
+ghost use Rattle.hp_model.specs.Events.{seat_of, is_call, answered, BelongsTo};
 ghost use Rattle.hp_model.specs.Run.{admissions, CanTake, all_answered, IsRun};
+ghost use Rattle.hp_model.specs.Scripts.{IsScript};
+ghost use Rattle.hp_model.specs.ScriptTurns.{unanswered, turn, after_turns};
+ghost use Rattle.hp_model.specs.ScriptRun.{start, is_over, after_round, IsRun as IsScriptRun};
+ghost use Rattle.hp_model.specs.Draws.{draws};
+ghost use Rattle.hp_model.specs.TurnMakes.{TurnMakes};
+ghost use Rattle.hp_model.specs.WithoutEvent.{answered_without_event};
+ghost use Rattle.hp_model.specs.Distance.{distance};
 ghost use Rattle.hp_model.specs.OneClient.{OneClient};
 ghost use Rattle.hp_model.specs.Steps.{IsStep};
+ghost use Rattle.hp_model.specs.Seats.{admits};
 
-mod entries;
 mod lists;
 mod net;
 mod registered;
@@ -37,14 +70,13 @@ mod subsystems;
 #[cfg(test)]
 mod tests;
 
-pub use entries::is_done;
 use hp_event::{Event, Head, Op};
-use hp_states::MAX_SEATS;
+use hp_states::{MAX_EVENTS, MAX_SEATS};
 pub use lists::without;
 pub use net::net_of;
 pub use registered::{Found, instances_of_keys, registered_at, registered_of};
 pub use settled::{settled_after, settled_of};
-pub use subsystems::{is_multi, sub_numbered};
+pub use subsystems::is_multi;
 
 /// Every lawful journal has the headline.
 #[tactic(auto, using(crate::proofs::HeadlineProof::headline))]
@@ -52,7 +84,7 @@ pub fn headline(head: &Head, events: &[Event])
     ensures { IsLawful head.now events.now → Headline head.now events.now }
 {}
 
-/// So does every front of one.
+/// Every front of a lawful journal has the headline.
 #[tactic(auto, using(crate::proofs::HeadlineProof::headline_of_front))]
 pub fn headline_of_front(head: &Head, front: &[Event], rest: &[Event])
     ensures { IsLawful head.now (front.now ++ rest.now) → Headline head.now front.now }
@@ -64,7 +96,8 @@ pub fn keys_in_force(events: &[Event], cpu: u32)
     ensures { AreKeysInForce cpu events.now (keys_in_force_of cpu events.now) }
 {}
 
-/// At rest these are the keys that are registered at or below the state where the processor stands.
+/// After a lawful journal, where the processor doesn't walk and no registration is in flight, the keys in
+/// force on it are, as a list, those that are registered at or below the state where it stands.
 #[tactic(auto, using(crate::proofs::KeyLaw::keys_at_rest))]
 pub fn keys_at_rest(head: &Head, events: &[Event], cpu: u32)
     ensures { IsLawful head.now events.now →
@@ -95,6 +128,89 @@ pub fn one_next(head: &Head, before: &[Event], op: &Op, one: &Event, other: &Eve
         one.now ≡ other.now }
 {}
 
+/// After a lawful journal at most one processor walks. So a walk leaves every other processor as it was when
+/// the walk began, whatever answer it ends with.
+pub fn one_walk(head: &Head, events: &[Event])
+    ensures one { IsLawful head.now events.now → IsOnlyWalk events.now }
+    ensures others { IsLawful head.now events.now → LeavesOthers events.now }
+{}
+
+/// What is promised to a lawful journal fits into it: with all its promises it is within the limit.
+#[tactic(auto, using(crate::proofs::RoomKept::promises_fit))]
+pub fn promises_fit(head: &Head, events: &[Event])
+    ensures { IsLawful head.now events.now → length events.now + promised head.now events.now ≤ MAX_EVENTS }
+{}
+
+/// An event that comes next takes what it needs, uses one of the promises, and gives back what is
+/// left to the walk or the registration that it ends.
+#[tactic(auto, using(crate::proofs::RoomKept::promises_after))]
+pub fn promises_after(head: &Head, before: &[Event], event: &Event)
+    ensures { IsLawful head.now before.now → Comes head.now before.now event.now →
+        promised head.now (before.now ++ event.now ∷ []) + 1 + given_back head.now before.now event.now
+        ≡ promised head.now before.now + taken (need head.now before.now event.now) }
+{}
+
+/// What is promised is never short. An event that can stand after a lawful journal keeps it within the
+/// limit, and one that takes no room of its own finds one of the promises.
+pub fn never_short(head: &Head, before: &[Event], event: &Event)
+    ensures fits { IsLawful head.now before.now → Stands head.now before.now event.now →
+        length before.now + 1 ≤ MAX_EVENTS }
+    ensures promised { IsLawful head.now before.now → Comes head.now before.now event.now →
+        need head.now before.now event.now ≡ None → 1 ≤ promised head.now before.now }
+{}
+
+/// What a turn of a client's seat finds after a lawful journal, for an operation that it may be for: an
+/// event of it stands, or there is no room for its first event, or it waits, or the thread of a
+/// processor has to make the next entry; and no two of these.
+pub fn turn_finds(head: &Head, events: &[Event])
+    ensures some { (p : Pending) → IsLawful head.now events.now → IsAllowed head.now events.now p →
+        TurnFinds head.now events.now p }
+    ensures one { (p : Pending) → IsLawful head.now events.now → IsAllowed head.now events.now p →
+        FindsOne head.now events.now p }
+{}
+
+/// The entry that is due from a seat stands, after any journal, and after a lawful one it is the one
+/// Call of that seat that does. None is due exactly where the seat is idle: no Call of it can come; and none
+/// is due of a seat that leaves.
+pub fn due_entry(head: &Head, events: &[Event], entry: &Event)
+    ensures stands { (seat : ℕ) → due_entry_of head.now events.now seat ≡ Some entry.now →
+        Stands head.now events.now entry.now }
+    ensures exactly { (seat : ℕ) → IsLawful head.now events.now →
+        (due_entry_of head.now events.now seat ≡ Some entry.now)
+        ↔ (Stands head.now events.now entry.now × (is_call entry.now ≡ true) × (seat_of entry.now ≡ seat)) }
+    ensures none { (seat : ℕ) → (due_entry_of head.now events.now seat ≡ None) ↔ IsIdle head.now events.now seat }
+    ensures leaves { (seat : ℕ) → Stands head.now events.now (Leave seat) → due_entry_of head.now events.now seat ≡ None }
+{}
+
+/// What comes next of a seat and its operation stands, after any journal, and after a lawful one, of a
+/// client's seat and an operation that it may ask for, it is the one event of both that does. Nothing
+/// comes next where the operation has no room, or waits, or a thread has to make the next entry.
+pub fn next_event(head: &Head, events: &[Event], event: &Event)
+    ensures stands { (seat : ℕ) (op : AnOp) → next_event_of head.now events.now seat op ≡ Some event.now →
+        Stands head.now events.now event.now × (seat_of event.now ≡ seat) }
+    ensures exactly { (p : Pending) → IsLawful head.now events.now → IsAllowed head.now events.now p →
+        (next_event_of head.now events.now p.seat p.op ≡ Some event.now)
+        ↔ (Stands head.now events.now event.now × (seat_of event.now ≡ p.seat) × BelongsTo p.op event.now) }
+    ensures none { (p : Pending) → IsLawful head.now events.now → IsAllowed head.now events.now p →
+        (next_event_of head.now events.now p.seat p.op ≡ None)
+        ↔ (IsFull head.now events.now p.seat p.op
+        ⊎ (IsKeptWaiting head.now events.now p ⊎ NeedsThread head.now events.now p)) }
+{}
+
+/// Whether an operation is answered LogFull without an event is found by its first event alone.
+pub fn is_full(head: &Head, events: &[Event])
+    ensures { (p : Pending) → IsLawful head.now events.now → IsAllowed head.now events.now p →
+        (is_full_of head.now events.now p.seat p.op ≡ true) ↔ IsFull head.now events.now p.seat p.op }
+{}
+
+/// Some seat can move. After a lawful journal, of operations that aren't answered, with all that they
+/// wait for among them, one has an event that can stand next, or a processor's thread has an entry,
+/// or one is answered LogFull.
+pub fn some_seat_can_move(head: &Head, events: &[Event])
+    ensures { (pending : List Pending) → IsLawful head.now events.now →
+        ArePending head.now events.now pending → CanMove head.now events.now pending }
+{}
+
 /// The run of a script's actors is a lawful journal, where its head is one that a machine can be
 /// started with and there are seats for all.
 pub fn run_lawful(head: &Head, events: &[Event])
@@ -123,4 +239,95 @@ pub fn steps_make_run(head: &Head, rest: &[Event])
         ((seat : ℕ) (event : AnEvent) →
         CanTake head.now actors (admissions head.now actors ++ rest.now) seat event → ⊥) →
         IsRun head.now actors (admissions head.now actors ++ rest.now) }
+{}
+
+/// A script has one run for its schedule.
+pub fn one_run(head: &Head, one: &[Event], other: &[Event])
+    ensures { (actors : List (List AnOp)) (schedule : List ℕ) →
+        IsScriptRun head.now actors schedule one.now → IsScriptRun head.now actors schedule other.now →
+        one.now ≡ other.now }
+{}
+
+/// The run of a script by a schedule is a lawful journal, where its head is one that a machine can be
+/// started with and there are seats for all.
+pub fn script_run_lawful(head: &Head, events: &[Event])
+    ensures { (actors : List (List AnOp)) (schedule : List ℕ) → IsHead head.now →
+        length (present head.now) + length actors ≤ MAX_SEATS →
+        IsScriptRun head.now actors schedule events.now → IsLawful head.now events.now }
+{}
+
+/// After any turns of a script, the operation that an actor's turn is for is one that its seat may ask
+/// for.
+pub fn run_asks(head: &Head, op: &Op)
+    ensures { (actors : List (List AnOp)) (seats : List ℕ) (actor : ℕ) → IsScript head.now actors →
+        unanswered actors (after_turns head.now actors (start head.now actors) seats).answers actor ≡ Some op.now →
+        IsAllowed head.now (after_turns head.now actors (start head.now actors) seats).events
+        (record { seat = length (present head.now) + actor; op = op.now }) }
+{}
+
+/// After any turns of a script, a turn makes exactly what stands: of a processor's thread its entry, of
+/// an actor the event of its first operation that isn't answered, or LogFull where that has no room.
+pub fn turn_makes(head: &Head)
+    ensures { (actors : List (List AnOp)) (seats : List ℕ) (seat : ℕ) → IsScript head.now actors →
+        TurnMakes head.now actors (after_turns head.now actors (start head.now actors) seats) seat
+        (turn head.now actors (after_turns head.now actors (start head.now actors) seats) seat) }
+{}
+
+/// After any turns of a script, as many operations of an actor are answered as the journal shows of its
+/// seat, and those that were answered LogFull without an event besides.
+pub fn answers_shown(head: &Head)
+    ensures { (actors : List (List AnOp)) (seats : List ℕ) (actor : ℕ) → IsScript head.now actors →
+        actor < length actors →
+        get_or (after_turns head.now actors (start head.now actors) seats).answers actor 0
+        ≡ answered (length (present head.now) + actor) (after_turns head.now actors (start head.now actors) seats).events
+        + answered_without_event head.now actors (start head.now actors) seats actor }
+{}
+
+/// Draws are as many as are asked for, and each is below its bound: so each turn of a schedule that is
+/// drawn is one of a seat.
+pub fn draws_below()
+    ensures count { (m seed count : ℕ) → length (draws m seed count) ≡ count }
+    ensures below { (m seed count : ℕ) → 0 < m → All (λ k. k < m) (draws m seed count) }
+{}
+
+/// After any turns of a script, a round makes an event or answers an operation, unless every operation is
+/// answered; and of both there are no more than a journal has room for and the actors have operations.
+pub fn round_goes(head: &Head)
+    ensures on { (actors : List (List AnOp)) (seats : List ℕ) → IsScript head.now actors →
+        is_over actors (after_turns head.now actors (start head.now actors) seats) ≡ false →
+        distance (after_turns head.now actors (start head.now actors) seats)
+        < distance (after_round head.now actors (after_turns head.now actors (start head.now actors) seats)) }
+    ensures bounded { (actors : List (List AnOp)) (seats : List ℕ) → IsScript head.now actors →
+        distance (after_turns head.now actors (start head.now actors) seats)
+        ≤ MAX_EVENTS + sum_by (λ ops. length ops) actors }
+{}
+
+/// The closing rounds of a script end: it has a run, whatever its schedule.
+pub fn run_ends(head: &Head)
+    ensures { (actors : List (List AnOp)) (schedule : List ℕ) → IsScript head.now actors →
+        (events : List AnEvent) × IsScriptRun head.now actors schedule events }
+{}
+
+/// Where every operation of a script is answered, no turn does anything more.
+pub fn over_stays(head: &Head)
+    ensures { (actors : List (List AnOp)) (seats : List ℕ) (seat : ℕ) → IsScript head.now actors →
+        is_over actors (after_turns head.now actors (start head.now actors) seats) ≡ true →
+        turn head.now actors (after_turns head.now actors (start head.now actors) seats) seat
+        ≡ after_turns head.now actors (start head.now actors) seats }
+{}
+
+/// A journal that turns make by rounds, each taking whatever event stands, is the run of the script
+/// without a schedule, where after no front of it an operation lacks room for its first event.
+pub fn rounds_make_run(head: &Head, events: &[Event])
+    ensures { (actors : List (List AnOp)) → IsScript head.now actors →
+        ((front rest : List AnEvent) (seat : ℕ) (op : AnOp) → events.now ≡ front ++ rest →
+        IsFull head.now front seat op → ⊥) →
+        IsRun head.now actors events.now → IsScriptRun head.now actors [] events.now }
+{}
+
+/// No event of the next seat stands in a lawful journal, nor of any above it: seats are numbered by how
+/// many were admitted.
+pub fn next_seat(head: &Head, events: &[Event])
+    ensures { (seat : ℕ) → IsLawful head.now events.now → admits events.now ≤ seat →
+        All (λ e. seat_of e ≢ seat) events.now }
 {}

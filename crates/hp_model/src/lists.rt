@@ -3,7 +3,7 @@
 ghost use Rattle.std.specs.Prelude.{◌≡◌, IfOk};
 ghost use Rattle.hp_model.specs.Lists.{without as without_of};
 
-use hp_event::NoMemory;
+use hp_states::NoMemory;
 use std::alloc::Global;
 
 /// The list without a number: all others, in their order.

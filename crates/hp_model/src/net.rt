@@ -2,11 +2,10 @@
 
 ghost use Rattle.std.specs.Prelude.{◌≡◌, ◌<◌, IfOk, OnOk, OnErr};
 ghost use Rattle.hp_model.specs.InForce.{is_done_entry as is_done_entry_of, done_entries};
-ghost use Rattle.hp_model.specs.Net.{with_key, is_before as is_before_of, entered, is_key_in_force, keys_in_force};
+ghost use Rattle.hp_model.specs.Net.{with_key, entered, is_key_in_force, keys_in_force};
 
-use crate::entries::is_done;
-use hp_event::{Event, Journal, Key, Keys, NoMemory};
-use hp_states::Dir;
+use hp_event::{Event, Journal, Key, Keys};
+use hp_states::{Dir, NoMemory};
 use std::alloc::{AllocError, Global};
 
 /// The keys in force on a processor after the events of a journal: those with more upward than
@@ -62,21 +61,14 @@ fn put(keys: &mut Vec<Key>, key: Key) -> Result<(), NoMemory>
     ensures ok { OnOk result (keys.new.items ≡ with_key key keys.old.items) }
 {
     let mut at = 0;
-    while at < keys.len() && is_before(keys[at], key) {
+    while at < keys.len() && keys[at] < key {
         at += 1;
     }
-    if at < keys.len() && !is_before(key, keys[at]) {
+    if at < keys.len() && key >= keys[at] {
         return Ok(());
     }
     keys.insert(at, key)?;
     Ok(())
-}
-
-/// Whether a key is before another: by state, and then by instance.
-fn is_before(key: Key, other: Key) -> bool
-    ensures { result ≡ is_before_of key other }
-{
-    key.state < other.state || (key.state == other.state && key.inst < other.inst)
 }
 
 fn is_in_force(events: &[Event], cpu: u32, key: Key) -> bool
@@ -111,7 +103,7 @@ fn is_done_entry(event: &Event, cpu: u32, key: Key, dir: Dir) -> bool
             ..
         } => {
             (*on == cpu && *way == dir)
-                && ((*state == key.state && *inst == key.inst) && is_done(how))
+                && ((*state == key.state && *inst == key.inst) && how.is_done())
         }
         _ => false,
     }

@@ -9,8 +9,8 @@ ghost use Rattle.hp_model.specs.Found.{registered_by, asked_by};
 
 use crate::lists::without;
 use crate::subsystems::is_multi;
-use hp_event::{Answer, Event, Head, Journal, Key, Keys, NoMemory, Op};
-use hp_states::ONLINE;
+use hp_event::{Answer, Event, Head, Journal, Key, Keys, Op};
+use hp_states::{NoMemory, ONLINE};
 use std::alloc::Global;
 
 /// What is registered at a state.

@@ -6,7 +6,7 @@ ghost use Rattle.hp_model.specs.Walks.{Walk, walk, walk_step};
 ghost use Rattle.hp_model.specs.Settled.{settled, settled_step, left_at as left_at_lem};
 
 use hp_event::{Answer, Event, Journal};
-use hp_states::{OFFLINE, ONLINE};
+use hp_states::first_state;
 
 /// Where a processor stands, and where its walk in flight goes.
 #[derive(Clone, Copy)]
@@ -33,7 +33,7 @@ pub fn settled_after(cpu: u32, events: &[Event]) -> u32
     ensures { result ≡ settled cpu events.now }
 {
     let mut standing = Standing {
-        at: if cpu == 0 { ONLINE } else { OFFLINE },
+        at: first_state(cpu),
         to: None,
     };
     for event in events {
@@ -75,9 +75,5 @@ fn left_at(answer: &Answer, standing: Standing) -> u32
     ensures { (w : Option Walk) → standing.to ≡ option_map (λ w. w.to) w →
         result ≡ left_at_lem answer.now w standing.at }
 {
-    match answer {
-        Answer::Ok(_) => standing.to.unwrap_or(standing.at),
-        Answer::Stuck { at, .. } => *at,
-        Answer::Refused(_) | Answer::Fault(_) | Answer::LogFull => standing.at,
-    }
+    answer.leaves_at(standing.to.unwrap_or(standing.at), standing.at)
 }

@@ -1,7 +1,7 @@
 -- What the reader of scripts answers, by the two laws.
 use Rattle.std.proofs.Common.{◌≡◌, ℕ, List, Result, Ok, Err, Option, Some, None}
 use Rattle.std.specs.Prelude.{IfOk, IfErr}
-use Rattle.hp_event.specs.declared.event.Op.{Op}
+use Rattle.hp_event.specs.declared.op.Op.{Op}
 use Rattle.hp_play.specs.declared.error.ParseError.{ParseError}
 use Rattle.hp_play.specs.declared.error.ParseError.TheVariants.{Bad, NoMemory}
 use Rattle.hp_play.specs.declared.script.Script.{Script}

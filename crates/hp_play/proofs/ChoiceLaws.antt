@@ -2,9 +2,9 @@
 use Rattle.std.proofs.Common.{◌≡◌, ℕ, Bool, true, false, List, [], ◌∷◌, ◌++◌, Option, Some, None, refl, sym, ap, ◌∙◌, append_assoc}
 use Rattle.std.specs.Prelude.{codes}
 use Rattle.std.specs.Option.{option_or}
-use Rattle.hp_states.specs.declared.section.Dir.{Dir}
-use Rattle.hp_states.specs.declared.section.Dir.TheVariants.{Up, Down}
-use Rattle.hp_event.specs.declared.event.Form.{Form}
+use Rattle.hp_states.specs.declared.dir.Dir.{Dir}
+use Rattle.hp_states.specs.declared.dir.Dir.TheVariants.{Up, Down}
+use Rattle.hp_event.specs.declared.op.Form.{Form}
 use Rattle.hp_model.specs.Words.{spaced, dir_word, calls_word, kind_word}
 use Rattle.hp_model.specs.EventLine.{form_words}
 use Rattle.hp_play.specs.Reading.{behind, if_front, flags, dir_at, calls_at, kind_at, flags_at}

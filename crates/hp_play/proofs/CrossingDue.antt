@@ -1,11 +1,11 @@
 -- What is so before a walk's entry is made.
 use Rattle.std.proofs.Common.{◌≡◌, ◌≢◌, ℕ, ◌<◌, ◌≤◌, true, Option, Some, None, IsSome, List, [], length, refl, sym, subst, ◌∙◌}
 use Rattle.hp_states.specs.declared.limits.TheConstants.{ONLINE}
-use Rattle.hp_states.specs.declared.section.Dir.{Dir}
-use Rattle.hp_states.specs.declared.section.Place.{Place}
+use Rattle.hp_states.specs.declared.dir.Dir.{Dir}
+use Rattle.hp_states.specs.declared.place.Place.{Place}
 use Rattle.hp_states.specs.Rules.{site_at}
-use Rattle.hp_event.specs.declared.event.How.{How}
-use Rattle.hp_event.specs.declared.event.Key.{Key}
+use Rattle.hp_event.specs.declared.how.How.{How}
+use Rattle.hp_event.specs.declared.key.Key.{Key}
 use Rattle.hp_model.specs.How.{fits}
 use Rattle.hp_table.specs.Step.{Step, step_at, changed_at}
 use Rattle.hp_walk.specs.declared.walk.Walk.{Walk}

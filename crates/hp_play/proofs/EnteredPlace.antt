@@ -2,30 +2,30 @@
 use Rattle.std.proofs.Common.{◌≡◌, ℕ, ◌+◌, ◌<◌, ◌≤◌, Bool, true, false, cond, eqb, Option, Some, IfSome, List, [], ◌∷◌, ◌++◌, length, length-append, refl, sym, ap, ◌∙◌, subst}
 use Rattle.std.specs.Prelude.{slice_set}
 use Rattle.std.proofs.lemmas.Bool.{eqb-true}
-use Rattle.hp_states.specs.declared.section.Dir.{Dir}
+use Rattle.hp_states.specs.declared.dir.Dir.{Dir}
 use Rattle.hp_states.specs.Rules.{Site, site_at, raised}
 use Rattle.hp_states.proofs.RuleCounts.{raised_counts}
 use Rattle.hp_event.specs.declared.event.Event.{Event}
 use Rattle.hp_event.specs.declared.event.Event.TheVariants.{Call}
-use Rattle.hp_event.specs.declared.event.How.{How}
+use Rattle.hp_event.specs.declared.how.How.{How}
 use Rattle.hp_event.specs.declared.head.Head.{Head}
 use Rattle.hp_model.specs.Calls.{sites, is_called}
 use Rattle.hp_table.specs.Step.{Step, step_at, changed_at, called_step}
-use Rattle.hp_table.proofs.Places.{set_same}
+use Rattle.hp_table.proofs.Places.{set_same, step_at-set}
 use Rattle.hp_table.specs.Keys.{keys_of}
 use Rattle.hp_walk.specs.Keys.{keys_by, insts_of}
-use Rattle.hp_play.specs.Machine.{has_callback_by, how_by, entered_step, key_total}
-use Rattle.hp_play.proofs.KeyTotals.{total_same}
-use Rattle.hp_event.specs.declared.event.Op.{Op}
-use Rattle.hp_event.specs.declared.event.Op.TheVariants.{Setup, Remove, Add, Del}
+use Rattle.hp_play.specs.Machine.{has_callback_by, how_by, entered_step}
+use Rattle.hp_table.proofs.KeyTotals.{total_same}
+use Rattle.hp_table.specs.Totals.{key_total}
+use Rattle.hp_event.specs.declared.op.Op.{Op}
+use Rattle.hp_event.specs.declared.op.Op.TheVariants.{Setup, Remove, Add, Del}
 use Rattle.hp_model.specs.Registered.{Registered, without_inst}
 use Rattle.hp_reg.specs.Concerned.{key_in}
 use Rattle.hp_reg.proofs.Callers.{IsKnown}
 use Rattle.hp_play.specs.Tied.{IsKept, Holds, registered_by, told}
 use Rattle.hp_play.proofs.EntryHow.{called_by}
-use Rattle.hp_play.proofs.TieFolds.{sites_push}
-use Rattle.hp_play.proofs.TieLists.{step_at-set}
 use Rattle.hp_play.proofs.TieParts.{kept_same}
+use Rattle.hp_model.proofs.Laws.{sites_push}
 
 -- where nothing is called, nothing changes
 pub untouched : (places : List (Option Step)) (s : ℕ) (step : Step) (site : Site) → step_at places s ≡ Some step →

@@ -5,7 +5,8 @@ use Rattle.std.specs.List.{AllByRecursion, list_all}
 use Rattle.std.proofs.lemmas.Bool.{ne_eqb, and_parts, and_from, leb-true, le-leb}
 use Rattle.std.proofs.lemmas.List.Elements.{All-from_recursion, recursion_from_All}
 use Rattle.hp_states.specs.declared.limits.TheConstants.{MAX_NAME_LEN}
-use Rattle.hp_play.specs.Form.{is_name_byte, IsName}
+use Rattle.hp_states.specs.Names.{is_name_byte}
+use Rattle.hp_play.specs.Form.{IsName}
 use Rattle.hp_play.specs.Reading.{◌>>=◌, word_to, number_of, is_name, number_to, name_to}
 use Rattle.hp_play.proofs.WordLaws.{bind_some, passed, some_is, IsFree, word_takes, word_again}
 use Rattle.hp_play.proofs.NumberLaws.{number_takes, number_again, number_free}

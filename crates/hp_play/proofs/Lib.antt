@@ -25,19 +25,17 @@ pub mod TieWalk
 pub mod TieCrossing
 pub mod PlaysLaws
 pub mod SetupRefusal
-pub mod Placed
 pub mod Seated
 pub mod PlayedRun
 pub mod FormHeads
 pub mod RackLaws
 pub mod Turning
-pub mod HookCount
-mod Clearing
 pub mod ReadyMore
 mod EntryHow
+mod RoomLeft
 mod Leading
 mod CrossingDue
-mod KeyTotals
+mod WalkKeys
 mod CountOnline
 pub mod RegistrationEntries
 pub mod RegistrationEnds

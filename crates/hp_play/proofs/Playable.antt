@@ -3,7 +3,7 @@ use Rattle.std.proofs.Common.{◌≡◌, ℕ, ◌+◌, ◌<◌, ◌≤◌, Bool,
 use Rattle.std.specs.List.{All}
 use Rattle.std.proofs.lemmas.List.Elements.{All-get_or}
 use Rattle.std.proofs.lemmas.List.Sums.{sum_by-drop_more}
-use Rattle.hp_event.specs.declared.event.Op.{Op}
+use Rattle.hp_event.specs.declared.op.Op.{Op}
 use Rattle.hp_play.specs.Form.{Lines, IsForm, IsOp, is_setup}
 use Rattle.hp_play.specs.Machine.{IsPlayable}
 

@@ -4,7 +4,7 @@ use Rattle.std.specs.Prelude.{slice_get}
 use Rattle.std.proofs.lemmas.List.{append-nil}
 use Rattle.std.proofs.lemmas.Bool.{false≢true}
 use Rattle.std.proofs.lemmas.Bool.Decides.{nat_tests}
-use Rattle.hp_event.specs.declared.event.Op.{Op}
+use Rattle.hp_event.specs.declared.op.Op.{Op}
 use Rattle.hp_event.specs.declared.event.Role.TheVariants.{Client}
 use Rattle.hp_event.specs.declared.head.Head.{Head}
 use Rattle.hp_event.specs.declared.event.Event.{Event}
@@ -72,9 +72,9 @@ no_op a none some = let e : None ≡ Some a = sym none ∙ some in cc e
 
 -- where nothing is in flight, no entry stands
 no_entry : (head : Head) (es : List Event) (e : Event) → IsIdle es → Stands head es e → is_call e ≡ true → ⊥
-no_entry head es (Call seat cpu state inst dir how) idle (inl w) call =
-    no_op w.of (walk_none es (rw idle.no_walk refl) cpu) w.in_flight
-no_entry head es (Call seat cpu state inst dir how) idle (inr r) call = no_op r.of idle.no_registration r.in_flight
+no_entry head es (Call seat cpu state inst dir how) idle (inl w, room) call =
+    no_op w.entry.of (walk_none es (rw idle.no_walk refl) cpu) w.entry.in_flight
+no_entry head es (Call seat cpu state inst dir how) idle (inr r, room) call = no_op r.entry.of idle.no_registration r.entry.in_flight
 no_entry head es e idle stands call = absurd (false≢true call)
 
 -- where all are answered and nothing is in flight, no seat can do anything

@@ -5,12 +5,12 @@ use Rattle.std.specs.List.{filter}
 use Rattle.std.proofs.lemmas.List.{length-append}
 use Rattle.std.proofs.lemmas.Bool.{lt-ltb}
 use Rattle.std.proofs.lemmas.Bool.Decides.{nat_tests}
-use Rattle.hp_states.specs.declared.section.Dir.{Dir}
+use Rattle.hp_states.specs.declared.dir.Dir.{Dir}
 use Rattle.hp_states.specs.Sections.{is_ap_state}
-use Rattle.hp_event.specs.declared.event.How.{How}
+use Rattle.hp_event.specs.declared.how.How.{How}
 use Rattle.hp_event.specs.declared.event.Event.TheVariants.{Call}
 use Rattle.hp_play.specs.Machine.{seat_at}
-use Rattle.hp_event.specs.declared.event.Op.{Op}
+use Rattle.hp_event.specs.declared.op.Op.{Op}
 use Rattle.hp_event.specs.declared.head.Head.{Head}
 use Rattle.hp_event.specs.declared.event.Event.{Event}
 use Rattle.hp_model.specs.Journal.{EachAfter}

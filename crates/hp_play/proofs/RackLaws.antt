@@ -1,5 +1,5 @@
 -- The hooks of the places are those of the registered states, and were called as often as the journal says.
-use Rattle.std.proofs.Common.{◌≡◌, ℕ, zero, suc, ◌+◌, ◌<◌, cond, is_some, Option, Some, None, IfSome, IfNone, IfOk, Result, Ok, Err, List, [], ◌∷◌, ◌++◌, map, take, length, length-append, append_assoc, refl, sym, ap, ◌∙◌, arith}
+use Rattle.std.proofs.Common.{◌≡◌, ℕ, zero, suc, ◌+◌, cond, is_some, Option, Some, None, IfSome, IfNone, IfOk, Result, Ok, Err, List, [], ◌∷◌, ◌++◌, map, length, length-append, append_assoc, refl, sym, ap, ◌∙◌, arith}
 use Rattle.std.proofs.lemmas.List.{length-map}
 use Rattle.std.specs.List.{flat_map}
 use Rattle.hp_states.specs.declared.limits.TheConstants.{ONLINE}
@@ -8,10 +8,11 @@ use Rattle.hp_event.specs.declared.event.Event.{Event}
 use Rattle.hp_model.specs.Lists.{numbers}
 use Rattle.hp_model.specs.Registered.{registered}
 use Rattle.hp_table.specs.Step.{Step, step_at}
+use Rattle.hp_table.specs.Totals.{made_at, made_of}
 use Rattle.hp_play.specs.declared.due.Due.TheVariants.{Operation as Idle}
 use Rattle.hp_play.specs.Tied.{IsTied, IsKept, registered_by}
 use Rattle.std.proofs.lemmas.List.{append-nil, map-append}
-use Rattle.hp_play.specs.Racked.{calls_at, calls_below, made_at, made_of, listed, EndsWith}
+use Rattle.hp_play.specs.Racked.{calls_at, calls_below, listed, EndsWith}
 
 -- the numbers from one on
 unfoldable pub from : (a n : ℕ) → List ℕ
@@ -85,20 +86,6 @@ as_many (Ok j) made before after counts n rack all =
     sym (length-map after made) ∙ ap length rack ∙ length-append (map made before) counts
     ∙ ap (λ k. k + length counts) (length-map before made) ∙ all
 as_many (Err e) made before after counts n rack all = tt
-
--- the hooks of the states up to one more
-made_suc : (places : List (Option Step)) (k : ℕ) → k < length places →
-    made_of (take (suc k) places) ≡ made_of (take k places) ++ made_at (step_at places k)
-made_suc [] k below = absurd (omega arith)
-made_suc (p ∷ ps) zero below = append-nil (made_at p)
-made_suc (p ∷ ps) (suc k) below =
-    ap (λ xs. made_at p ++ xs) (made_suc ps k (omega arith))
-    ∙ sym (append_assoc (made_at p) (made_of (take k ps)) (made_at (step_at ps k)))
-
-pub made_next : (places : List (Option Step)) (k : ℕ) → k < length places →
-    made_of (take (k + 1) places) ≡ made_of (take k places) ++ made_at (step_at places k)
-made_next places k below =
-    let e : k + 1 ≡ suc k = omega arith in ap (λ n. made_of (take n places)) e ∙ made_suc places k below
 
 -- a list with the hook of one state more
 pub rack_next : {H : Type 0} (made : H → ℕ) (hook : Option H) (first before after : List H) (told more : List ℕ) →

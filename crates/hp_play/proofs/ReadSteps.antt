@@ -2,7 +2,7 @@
 use Rattle.std.proofs.Common.{◌≡◌, ℕ, ◌<◌, ◌≤◌, leb, List, length, Option, Some, None, sym, ap, ◌∙◌}
 use Rattle.std.proofs.lemmas.Bool.{le-leb, lt-leb, cond-true, cond-false}
 use Rattle.hp_states.specs.declared.limits.TheConstants.{MAX_SUBS, MAX_SCRIPT_BYTES}
-use Rattle.hp_event.specs.declared.event.Op.{Op}
+use Rattle.hp_event.specs.declared.op.Op.{Op}
 use Rattle.hp_event.specs.declared.head.Sub.{Sub}
 use Rattle.hp_play.specs.Form.{Lines}
 use Rattle.hp_play.specs.Reading.{◌>>=◌, cpus_at, sub_at, actor_at, run_of, ops_of, actor_of, lines_of, script_of}

@@ -8,11 +8,11 @@ use Rattle.hp_event.specs.Story.{Story}
 use Rattle.hp_event.specs.declared.event.Event.{Event}
 use Rattle.hp_table.specs.Step.{Step, step_at, changed_at, called_step}
 use Rattle.hp_play.specs.declared.due.Due.{Due}
-use Rattle.hp_play.specs.Machine.{IsReady, IsCounted, IsInRange, events_left, key_total, pushed, seat_at, has_callback_by, entered_step}
+use Rattle.hp_play.specs.Machine.{IsReady, IsCounted, IsInRange, events_left, pushed, seat_at, has_callback_by, entered_step}
 use Rattle.hp_play.specs.declared.limits.TheConstants.{MAX_PLAYED}
-use Rattle.hp_table.proofs.Places.{step_at-set_same}
-use Rattle.hp_play.proofs.TieLists.{at_each}
-use Rattle.hp_play.proofs.Placed.{taken_at}
+use Rattle.hp_table.proofs.Places.{step_at-set_same, at_each}
+use Rattle.hp_table.proofs.Placed.{taken_at}
+use Rattle.hp_table.specs.Totals.{key_total}
 use Rattle.hp_play.proofs.EnteredPlace.{entered_at}
 
 pub counted_more : (n : ℕ) (place : Option Step) → IsCounted n place → IsCounted (n + 1) place
@@ -36,9 +36,10 @@ some_set places written state step is below =
 pub ready_set : (journal : Story) (settled : List ℕ) (places written : List (Option Step)) (due after : Due) (state : ℕ)
     (step : Step) (e : Event) → IsReady journal settled places due → written ≡ slice_set places state (Some step) →
     state < length places → step.kept.made ≤ length journal.events + 1 →
-    IsInRange after (length settled) written → events_left after journal.head.absent settled written ≤ journal.promised - 1 →
+    IsInRange after (length settled) written → 0 < journal.promised →
+    events_left after journal.head.absent settled written ≤ journal.promised - 1 →
     key_total written ≤ MAX_PLAYED → IsReady (pushed journal e) settled written after
-ready_set journal settled places written due after state step e ready is below made in_range room few =
+ready_set journal settled places written due after state step e ready is below made in_range promised room few =
     let more : length (journal.events ++ e ∷ []) ≡ length journal.events + 1 = length-append journal.events (e ∷ []) in
     record {
       cpus = ready.cpus;
@@ -46,6 +47,7 @@ ready_set journal settled places written due after state step e ready is below m
       states = ap length is ∙ length-set places state (Some step) ∙ ready.states;
       in_range = in_range;
       room = room;
+      fits = omega (arith, more, promised, ready.fits);
       few_keys = few;
       counted =
           rw is
@@ -57,8 +59,9 @@ ready_set journal settled places written due after state step e ready is below m
 -- one event more, and the places as they were
 pub ready_more : (journal : Story) (settled after_settled : List ℕ) (places : List (Option Step)) (due after : Due) (e : Event) →
     IsReady journal settled places due → length after_settled ≡ length settled → IsInRange after (length settled) places →
+    0 < journal.promised →
     events_left after journal.head.absent after_settled places ≤ journal.promised - 1 → IsReady (pushed journal e) after_settled places after
-ready_more journal settled after_settled places due after e ready same in_range room =
+ready_more journal settled after_settled places due after e ready same in_range promised room =
     let more : length (journal.events ++ e ∷ []) ≡ length journal.events + 1 = length-append journal.events (e ∷ []) in
     record {
       cpus = same ∙ ready.cpus;
@@ -66,6 +69,7 @@ ready_more journal settled after_settled places due after e ready same in_range 
       states = ready.states;
       in_range = rw same in_range;
       room = room;
+      fits = omega (arith, more, promised, ready.fits);
       few_keys = ready.few_keys;
       counted = λ s. rw more (counted_more (length journal.events) (step_at places s) (ready.counted s));
     }

@@ -1,13 +1,14 @@
 -- What each registration that isn't refused has in the table when it begins.
-use Rattle.std.proofs.Common.{◌≡◌, ℕ, ◌<◌, ◌≤◌, Bool, true, false, not, ◌||◌, cond, eqb, Option, Some, None, List, [], ◌∷◌, ◌++◌, length, refl, sym, ap, ◌∙◌}
+use Rattle.std.proofs.Common.{◌≡◌, ℕ, ◌<◌, ◌≤◌, Bool, true, false, not, ◌||◌, cond, eqb, Option, Some, None, List, [], ◌∷◌, ◌++◌, length, refl, sym, ap, ◌∙◌, arith}
 use Rattle.std.specs.Prelude.{slice_set}
 use Rattle.std.proofs.lemmas.Bool.{eq-eqb, true≢false}
 use Rattle.hp_states.specs.Rules.{counts_of}
-use Rattle.hp_event.specs.declared.event.Form.{Form}
-use Rattle.hp_event.specs.declared.event.Op.TheVariants.{Setup, Remove, Add, Del}
+use Rattle.hp_event.specs.declared.op.Form.{Form}
+use Rattle.hp_event.specs.declared.op.Op.TheVariants.{Setup, Remove, Add, Del}
 use Rattle.hp_event.specs.declared.event.Event.{Event}
 use Rattle.hp_event.specs.declared.event.Event.TheVariants.{RegBegin}
 use Rattle.hp_event.specs.declared.head.Head.{Head}
+use Rattle.hp_event.specs.declared.head.Sub.{Sub}
 use Rattle.hp_model.specs.Calls.{sites}
 use Rattle.hp_model.specs.Lists.{without}
 use Rattle.hp_model.specs.Refusals.{refusal}
@@ -15,6 +16,7 @@ use Rattle.hp_model.specs.Resolved.{resolved}
 use Rattle.hp_model.specs.Registered.{registered}
 use Rattle.hp_table.specs.Step.{Step, step_at, bare}
 use Rattle.hp_table.specs.Instances.{with_instance, is_among}
+use Rattle.hp_table.specs.Keys.{keys_of}
 use Rattle.hp_table.proofs.Places.{step_at-set_same, step_at-set_other}
 use Rattle.hp_play.specs.declared.due.Due.TheVariants.{Operation as Idle}
 use Rattle.hp_play.specs.Machine.{fresh}
@@ -22,8 +24,16 @@ use Rattle.hp_play.specs.Tied.{IsTied, registered_by}
 use Rattle.hp_play.proofs.RegistrationBegins.{IsAsked}
 use Rattle.hp_play.proofs.SetupRefusal.{named_sub}
 use Rattle.hp_play.proofs.TieCrossing.{kept_at}
-use Rattle.hp_play.proofs.TieFolds.{sites_push}
 use Rattle.hp_play.proofs.TieParts.{SubFound, kept_same}
+use Rattle.hp_model.proofs.Laws.{sites_push}
+
+-- a state that was just set up has at most one key
+pub fresh_keys : (number : ℕ) (sub : Sub) → keys_of (Some (bare (fresh number sub))) ≤ 1
+fresh_keys number sub = go sub.multi
+  where
+    go : (multi : Bool) → cond multi 0 1 ≤ 1
+    go true = omega arith
+    go false = omega arith
 
 -- a setup's state has the subsystem, with no call yet and no instance
 abbrev pub setup_asked : (head : Head) (es : List Event) (stands : List ℕ) (places written : List (Option Step)) (asked sub state : ℕ)

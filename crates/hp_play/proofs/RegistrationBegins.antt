@@ -2,8 +2,8 @@
 use Rattle.std.proofs.Common.{◌≡◌, ◌≢◌, ℕ, ◌≤◌, true, false, eqb, Option, Some, None, IfSome, List, [], ◌∷◌, ◌++◌, length, refl, sym, subst, ◌∙◌, ⊎_elim}
 use Rattle.std.proofs.lemmas.Bool.{eq-eqb, ne_eqb, cases_eq, false≢true}
 use Rattle.hp_states.specs.Rules.{Site}
-use Rattle.hp_event.specs.declared.event.Op.{Op}
-use Rattle.hp_event.specs.declared.event.Op.TheVariants.{Setup, Remove, Add, Del}
+use Rattle.hp_event.specs.declared.op.Op.{Op}
+use Rattle.hp_event.specs.declared.op.Op.TheVariants.{Setup, Remove, Add, Del}
 use Rattle.hp_event.specs.declared.head.Head.{Head}
 use Rattle.hp_event.specs.declared.event.Event.{Event}
 use Rattle.hp_event.specs.declared.event.Event.TheVariants.{RegBegin}
@@ -13,11 +13,12 @@ use Rattle.hp_model.specs.Lawful.{Stands}
 use Rattle.hp_model.specs.Processors.{processors}
 use Rattle.hp_model.specs.Refusals.{refusal}
 use Rattle.hp_model.specs.Resolved.{resolved}
+use Rattle.hp_model.specs.Room.{has_room}
 use Rattle.hp_model.specs.Registered.{registered}
 use Rattle.hp_model.specs.RegistrationShape.{key_of}
 use Rattle.hp_model.specs.Waits.{is_waiting}
 use Rattle.hp_model.specs.Subsystems.{sub_numbered, names_sub}
-use Rattle.hp_model.proofs.Laws.{registration_push, registration_entries_push, registered_push, settled_push, operation_push, walking_push}
+use Rattle.hp_model.proofs.Laws.{registration_push, registration_entries_push, registered_push, settled_push, operation_push, walking_push, sites_push}
 use Rattle.hp_model.proofs.HeadlineProof.{lawful_more}
 use Rattle.hp_reg.proofs.Callers.{IsKnown, processors_rise}
 use Rattle.hp_reg.specs.Progress.{Progress}
@@ -25,7 +26,7 @@ use Rattle.hp_table.specs.Step.{Step, step_at}
 use Rattle.hp_play.specs.declared.due.Due.TheVariants.{Operation as Idle, Registering}
 use Rattle.hp_play.specs.Machine.{IsBegun}
 use Rattle.hp_play.specs.Tied.{IsTied, IsKept, Holds, told, registered_so}
-use Rattle.hp_play.proofs.TieFolds.{sites_push, quiet_more, seated_more}
+use Rattle.hp_play.proofs.TieFolds.{quiet_more, seated_more}
 use Rattle.hp_play.proofs.TieParts.{kept_same, idle_free}
 
 -- a registration that isn't refused, and what the table has of it: its state's step, and all else as it was
@@ -46,13 +47,17 @@ pub record IsAsked (head : Head) (es : List Event) (places written : List (Optio
 
 -- its begin
 pub reg_stands : (head : Head) (es : List Event) (stands : List ℕ) (places written : List (Option Step)) (op : Op) (state : ℕ) →
-    IsTied head es stands places Idle → IsAsked head es places written op state → Stands head es (RegBegin head.possible state op)
-reg_stands head es stands places written op state tied a = record {
-  free = idle_free head es tied.seated tied.due_is;
-  has_sub = a.has_sub;
-  passes = record { not_refused = a.passes; not_waiting = waits op a.registers };
-  state_is = a.state_is;
-}
+    IsTied head es stands places Idle → IsAsked head es places written op state →
+    has_room head es (RegBegin head.possible state op) ≡ true → Stands head es (RegBegin head.possible state op)
+reg_stands head es stands places written op state tied a room = (
+  record {
+    free = idle_free head es tied.seated tied.due_is;
+    has_sub = a.has_sub;
+    passes = record { not_refused = a.passes; not_waiting = waits op a.registers };
+    state_is = a.state_is;
+  },
+  room,
+)
   where
     waits : (op : Op) → is_registration_op op ≡ true → is_waiting es op ≡ false
     waits (Setup s sub form) h = rw (tied.due_is.no_walk, tied.due_is.no_registration) refl
@@ -78,12 +83,13 @@ at_all P places written state step here there h k s =
 
 pub reg_begins : (head : Head) (es : List Event) (stands : List ℕ) (places written : List (Option Step)) (op : Op) (state : ℕ)
     (reg : Progress) → IsTied head es stands places Idle → (a : IsAsked head es places written op state) → IsBegun op state reg →
+    has_room head es (RegBegin head.possible state op) ≡ true →
     IsTied head (es ++ RegBegin head.possible state op ∷ []) stands written (Registering op state reg)
-reg_begins head es stands places written op state reg tied a b =
+reg_begins head es stands places written op state reg tied a b room =
     let e : Event = RegBegin head.possible state op in
     let self : eqb state state ≡ true = eq-eqb state state refl in
     record {
-      lawful = lawful_more head es e tied.lawful (reg_stands head es stands places written op state tied a);
+      lawful = lawful_more head es e tied.lawful (reg_stands head es stands places written op state tied a room);
       plain = tied.plain;
       seated = seated_more head es e tt tied.seated;
       quiet = quiet_more es e tt tied.quiet;

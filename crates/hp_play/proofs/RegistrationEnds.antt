@@ -1,15 +1,15 @@
 -- A registration ends after its last entry: its end stands, and what it leaves in the table is what is registered.
-use Rattle.std.proofs.Common.{Ok, Err, ◌≡◌, ℕ, suc, ◌+◌, ◌≤◌, Bool, true, false, not, ◌&&◌, cond, eqb, Option, Some, None, IfSome, is_some, Result, IfErr, OnOk, List, [], ◌∷◌, ◌++◌, map, length, length-append, refl, sym, ap, ◌∙◌, arith, ◌⊎◌, ⊎_elim}
-use Rattle.std.specs.Prelude.{slice_set, filter}
+use Rattle.std.proofs.Common.{Ok, Err, ◌≡◌, ℕ, ◌+◌, ◌≤◌, Bool, true, false, not, ◌&&◌, cond, eqb, Option, Some, None, IfSome, is_some, Result, IfErr, OnOk, List, [], ◌∷◌, ◌++◌, map, length, length-append, refl, sym, ap, ◌∙◌, arith, ◌⊎◌, ⊎_elim}
+use Rattle.std.specs.Prelude.{slice_set}
 use Rattle.std.specs.Result.{IsErrOf}
 use Rattle.std.proofs.lemmas.Bool.{eq-eqb, ne_eqb, false≢true, true≢false}
 use Rattle.std.proofs.lemmas.List.{length-set}
 use Rattle.hp_event.specs.Story.{Story}
-use Rattle.hp_event.specs.declared.event.Op.{Op}
-use Rattle.hp_event.specs.declared.event.Op.TheVariants.{Setup, Remove, Add, Del}
-use Rattle.hp_event.specs.declared.event.Answer.{Answer}
-use Rattle.hp_event.specs.declared.event.Answer.TheVariants as answered
-use Rattle.hp_event.specs.declared.event.Form.{Form}
+use Rattle.hp_event.specs.declared.op.Op.{Op}
+use Rattle.hp_event.specs.declared.op.Op.TheVariants.{Setup, Remove, Add, Del}
+use Rattle.hp_event.specs.declared.answer.Answer.{Answer}
+use Rattle.hp_event.specs.declared.answer.Answer.TheVariants as answered
+use Rattle.hp_event.specs.declared.op.Form.{Form}
 use Rattle.hp_event.specs.declared.head.Head.{Head}
 use Rattle.hp_event.specs.declared.event.Event.{Event}
 use Rattle.hp_event.specs.declared.event.Event.TheVariants.{RegEnd}
@@ -21,7 +21,7 @@ use Rattle.hp_model.specs.Registrations.{Registration, registration_entries}
 use Rattle.hp_model.specs.RegistrationShape.{key_of, is_adding}
 use Rattle.hp_model.specs.Subsystems.{is_multi}
 use Rattle.hp_model.specs.Suspend.{is_ok}
-use Rattle.hp_model.proofs.Laws.{registration_push, registered_push, settled_push, operation_push, walking_push}
+use Rattle.hp_model.proofs.Laws.{registration_push, registered_push, settled_push, operation_push, walking_push, sites_push}
 use Rattle.hp_model.proofs.HeadlineProof.{lawful_more}
 use Rattle.hp_reg.specs.Progress.{Progress}
 use Rattle.hp_reg.specs.Asked.{asked}
@@ -34,17 +34,18 @@ use Rattle.hp_table.specs.Step.{Step, step_at, changed_at}
 use Rattle.hp_table.specs.Instances.{without_instance, instances_of, is_among, is_multi as is_multi_of}
 use Rattle.hp_table.specs.declared.error.TableError.{TableError}
 use Rattle.hp_table.specs.declared.error.TableError.TheVariants.{Invalid}
-use Rattle.hp_table.proofs.Places.{set_same, within_places}
+use Rattle.hp_table.proofs.Places.{set_same, within_places, at_each}
+use Rattle.hp_table.proofs.Steps.{filter_shorter}
 use Rattle.hp_play.specs.declared.due.Due.TheVariants.{Operation as Idle, Registering}
-use Rattle.hp_play.specs.Machine.{IsReady, IsCounted, key_total, leaves, pushed, taken_out}
-use Rattle.hp_play.specs.Racked.{listed, made_at}
+use Rattle.hp_play.specs.Machine.{IsReady, IsCounted, leaves, pushed, taken_out}
+use Rattle.hp_play.specs.Racked.{listed}
 use Rattle.hp_play.specs.Tied.{IsTied, IsKept, Holds, told, registered_by}
-use Rattle.hp_play.proofs.KeyTotals.{total_set}
+use Rattle.hp_table.proofs.KeyTotals.{total_set}
+use Rattle.hp_table.specs.Totals.{key_total, made_at}
 use Rattle.hp_play.proofs.ReadyMore.{counted_more}
 use Rattle.hp_play.proofs.RegistrationEntries.{asked_is}
 use Rattle.hp_play.proofs.TieCrossing.{kept_at}
-use Rattle.hp_play.proofs.TieFolds.{sites_push, quiet_more, seated_more}
-use Rattle.hp_play.proofs.TieLists.{at_each}
+use Rattle.hp_play.proofs.TieFolds.{quiet_more, seated_more}
 use Rattle.hp_play.proofs.TieParts.{kept_same}
 
 -- the table without the operation's state or instance, by the place alone
@@ -89,9 +90,11 @@ pub end_stands : (head : Head) (es : List Event) (stands : List ℕ) (places : L
     asked (key_at places reg) (cpus_at stands head.absent reg) reg ≡ regask.Ended answer → Stands head es (RegEnd head.possible answer)
 end_stands head es stands places op state reg answer t all asks =
     let r = t.due_is in
-    let next = sym asks ∙ asked_is head es stands places op state reg t all in
-    reg_ends head es r.of reg head.possible answer r.in_flight r.by_client (r.progress.0 ∙ sym r.op_is) (r.progress.1 ∙ sym r.state_is)
-    (goes_on_by (key_of head r.of) (processors head r.of.state r.of.before) (registration_entries es) reg (regask.Ended answer) next r.after)
+    let next = sym asks ∙ asked_is head es stands places op state reg t all in (
+      reg_ends head es r.of reg head.possible answer r.in_flight r.by_client (r.progress.0 ∙ sym r.op_is) (r.progress.1 ∙ sym r.state_is)
+          (goes_on_by (key_of head r.of) (processors head r.of.state r.of.before) (registration_entries es) reg (regask.Ended answer) next r.after),
+      refl,
+    )
 
 -- what an answer makes of what is registered at another state, and at the state
 other_after : (head : Head) (s : ℕ) (answer : Answer) (r : Registration) (found : Option Registered) → eqb r.state s ≡ false →
@@ -213,21 +216,12 @@ reg_ended head es stands places op state reg answer t stood =
       };
     }
 
--- a list without an element is no longer
-without_few : (p : ℕ → Bool) (xs : List ℕ) → length (filter p xs) ≤ length xs
-without_few p [] = omega arith
-without_few p (x ∷ xs) = go (p x) (without_few p xs)
-  where
-    go : (b : Bool) → length (filter p xs) ≤ length xs → length (cond b (x ∷ filter p xs) (filter p xs)) ≤ suc (length xs)
-    go true h = omega (arith, h)
-    go false h = omega (arith, h)
-
 keys_left : (op : Op) (answer : Answer) (step : Step) → keys_of (place_left op answer step) ≤ keys_of (Some step)
 keys_left op answer step =
     kept_left (λ p. keys_of p ≤ keys_of (Some step)) op answer step (omega arith) (omega arith) (λ inst. go inst step.kept.multi)
   where
     go : (inst : ℕ) (multi : Bool) → cond multi (length (without_instance inst step).insts) 1 ≤ cond multi (length step.insts) 1
-    go inst true = without_few _ step.insts
+    go inst true = filter_shorter _ step.insts
     go inst false = omega arith
 
 -- there are no more keys than before
@@ -253,6 +247,7 @@ ended_ready journal settled places op state reg answer step ready is =
       states = length-set places state (place_left op answer step) ∙ ready.states;
       in_range = tt;
       room = omega arith;
+      fits = let room = ready.room in omega (arith, more, room, ready.fits);
       few_keys = omega (arith, few, ready.few_keys);
       counted =
           at_each (λ s p. IsCounted (length (journal.events ++ e ∷ [])) p) places state (place_left op answer step)

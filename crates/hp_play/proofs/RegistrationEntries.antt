@@ -2,14 +2,14 @@
 use Rattle.std.proofs.Common.{◌≡◌, ℕ, ◌<◌, Bool, true, false, ◌&&◌, cond, eqb, Option, Some, List, [], ◌∷◌, ◌++◌, length, refl, sym, ap, subst, ◌∙◌, inr}
 use Rattle.std.specs.Prelude.{slice_set}
 use Rattle.std.proofs.lemmas.Bool.{eq-eqb}
-use Rattle.hp_states.specs.declared.section.Dir.{Dir}
-use Rattle.hp_states.specs.declared.section.Place.{Place}
+use Rattle.hp_states.specs.declared.dir.Dir.{Dir}
+use Rattle.hp_states.specs.declared.place.Place.{Place}
 use Rattle.hp_states.specs.Sections.{can_fail, is_ap_state}
 use Rattle.hp_states.specs.Rules.{site_at}
-use Rattle.hp_event.specs.declared.event.How.{How}
-use Rattle.hp_event.specs.declared.event.How.TheVariants.{Presumed}
-use Rattle.hp_event.specs.declared.event.Key.{Key}
-use Rattle.hp_event.specs.declared.event.Op.{Op}
+use Rattle.hp_event.specs.declared.how.How.{How}
+use Rattle.hp_event.specs.declared.how.How.TheVariants.{Presumed}
+use Rattle.hp_event.specs.declared.key.Key.{Key}
+use Rattle.hp_event.specs.declared.op.Op.{Op}
 use Rattle.hp_event.specs.declared.head.Head.{Head}
 use Rattle.hp_event.specs.declared.event.Event.{Event}
 use Rattle.hp_event.specs.declared.event.Event.TheVariants.{Call}
@@ -24,7 +24,7 @@ use Rattle.hp_model.specs.Seats.{ap_seat}
 use Rattle.hp_model.specs.Calls.{sites}
 use Rattle.hp_model.specs.Subsystems.{sub_numbered}
 use Rattle.hp_model.specs.Lawful.{Stands}
-use Rattle.hp_model.proofs.Laws.{registration_push, registration_entries_push, registered_push, settled_push, operation_push, walking_push}
+use Rattle.hp_model.proofs.Laws.{registration_push, registration_entries_push, registered_push, settled_push, operation_push, walking_push, sites_push}
 use Rattle.hp_model.proofs.HeadlineProof.{lawful_more}
 use Rattle.hp_reg.specs.Progress.{Progress}
 use Rattle.hp_reg.specs.Asked.{asked}
@@ -41,7 +41,7 @@ use Rattle.hp_play.proofs.EntryHow.{fits_by, not_injected, not_presumed, reg_how
 use Rattle.hp_play.proofs.EnteredPlace.{says_same, registered_entered, subs_entered, kept_entered, entered_sub, entered_multi, told_entered, entered_key, entered_known, entered_holds}
 use Rattle.hp_table.proofs.Places.{step_at-set_same}
 use Rattle.hp_play.proofs.TieCrossing.{kept_at}
-use Rattle.hp_play.proofs.TieFolds.{sites_push, quiet_more, seated_more}
+use Rattle.hp_play.proofs.TieFolds.{quiet_more, seated_more}
 use Rattle.hp_play.proofs.TieParts.{entry_caller, tied_more}
 
 -- the key and the processors of the registration in flight are those that the machine's parts say
@@ -81,10 +81,12 @@ entry_stands head es stands places op state reg seat cpu key d place how t all a
     let n =
     goes_on_by (key_of head r.of) (processors head r.of.state r.of.before) (registration_entries es) reg (regask.Call cpu key d place) next
     r.after seat how fit
-    in
-    inr
-    (in_registration head es r.of reg seat cpu key.state key.inst d how place r.in_flight (r.progress.0 ∙ sym r.op_is)
-    (r.progress.1 ∙ sym r.state_is) n (rw r.op_is made) by)
+    in (
+      inr
+          (in_registration head es r.of reg seat cpu key.state key.inst d how place r.in_flight (r.progress.0 ∙ sym r.op_is)
+          (r.progress.1 ∙ sym r.state_is) n (rw r.op_is made) by),
+      refl,
+    )
 
 pub place_same : (place : Option Step) (a b : Step) → place ≡ Some a → place ≡ Some b → a ≡ b
 place_same place a b h k = cc

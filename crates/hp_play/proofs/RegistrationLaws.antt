@@ -3,9 +3,9 @@
 use Rattle.std.proofs.Common.{◌≡◌, ℕ, ◌≤◌, ◌<◌, ◌^◌, List, ◌∷◌, ◌++◌, Some, refl, sym, ap, subst, ◌∙◌, append_assoc, arith}
 use Rattle.std.specs.Prelude.{codes, decimal}
 use Rattle.hp_states.specs.declared.limits.TheConstants.{MAX_INSTANCE}
-use Rattle.hp_event.specs.declared.event.Op.{Op}
-use Rattle.hp_event.specs.declared.event.Op.TheVariants.{Setup, Remove, Add, Del}
-use Rattle.hp_event.specs.declared.event.Form.{Form}
+use Rattle.hp_event.specs.declared.op.Op.{Op}
+use Rattle.hp_event.specs.declared.op.Op.TheVariants.{Setup, Remove, Add, Del}
+use Rattle.hp_event.specs.declared.op.Form.{Form}
 use Rattle.hp_play.specs.declared.limits.TheConstants.{MAX_NAMED_STATE}
 use Rattle.hp_play.specs.Form.{IsOp, op_line}
 use Rattle.hp_play.specs.Reading.{number_within, number_at, flags_at, place_at, setup_at, remove_at, add_at, del_at}

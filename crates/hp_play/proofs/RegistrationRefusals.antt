@@ -3,8 +3,8 @@ use Rattle.std.proofs.Common.{◌≡◌, ℕ, suc, ◌+◌, Bool, true, false, n
 use Rattle.std.proofs.lemmas.Bool.{false≢true, and_parts, not-true}
 use Rattle.std.proofs.lemmas.List.Sums.{sum_by-cons}
 use Rattle.hp_states.specs.declared.limits.TheConstants.{ONLINE, EBUSY, EINVAL, ENOSPC}
-use Rattle.hp_event.specs.declared.event.Form.{Form}
-use Rattle.hp_event.specs.declared.event.Op.TheVariants.{Remove, Add, Del}
+use Rattle.hp_event.specs.declared.op.Form.{Form}
+use Rattle.hp_event.specs.declared.op.Op.TheVariants.{Remove, Add, Del}
 use Rattle.hp_event.specs.declared.event.Event.{Event}
 use Rattle.hp_event.specs.declared.head.Head.{Head}
 use Rattle.hp_model.specs.Lists.{among, is_empty}

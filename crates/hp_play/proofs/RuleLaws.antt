@@ -2,7 +2,7 @@
 use Rattle.std.proofs.Common.{◌≡◌, ℕ, ◌≤◌, ◌<◌, List, ◌∷◌, ◌++◌, Option, Some, None, refl, sym, ap, subst, ◌∙◌, append_assoc, arith}
 use Rattle.std.specs.Prelude.{codes, decimal, IfSome}
 use Rattle.hp_states.specs.declared.limits.TheConstants.{MAX_INSTANCE, MAX_EVENTS, MAX_CODE, MAX_RULE_CPU}
-use Rattle.hp_states.specs.declared.section.Dir.{Dir}
+use Rattle.hp_states.specs.declared.dir.Dir.{Dir}
 use Rattle.hp_states.specs.declared.plan.Rule.{Rule}
 use Rattle.hp_model.specs.Words.{dir_word, any_word}
 use Rattle.hp_model.specs.JournalText.{rule_line}

@@ -5,7 +5,7 @@ use Rattle.std.proofs.lemmas.Bool.{and_parts, eqb-true, leb-true, le-leb}
 use Rattle.std.proofs.lemmas.List.{append-nil, nil_from_length}
 use Rattle.std.proofs.lemmas.List.Elements.{All-from_recursion, recursion_from_All}
 use Rattle.hp_states.specs.declared.limits.TheConstants.{MAX_SUBS, MAX_SCRIPT_BYTES}
-use Rattle.hp_event.specs.declared.event.Op.{Op}
+use Rattle.hp_event.specs.declared.op.Op.{Op}
 use Rattle.hp_play.specs.declared.limits.TheConstants.{MAX_PLAYED}
 use Rattle.hp_event.specs.declared.head.Sub.{Sub}
 use Rattle.hp_model.specs.JournalText.{sub_lines}

@@ -1,15 +1,15 @@
 -- The seats are in: the machine is tied to the admissions, which are the first events of its run.
-use Rattle.std.proofs.Common.{◌≡◌, ℕ, zero, suc, ◌+◌, ◌<◌, ◌≤◌, Bool, true, false, cond, eqb, Option, Some, None, List, [], ◌∷◌, ◌++◌, length, refl, sym, ap, ◌∙◌, subst, arith}
+use Rattle.std.proofs.Common.{◌≡◌, ℕ, zero, suc, ◌+◌, ◌<◌, ◌≤◌, Bool, true, false, cond, eqb, Option, Some, None, List, [], ◌∷◌, ◌++◌, length, length-append, refl, sym, ap, ◌∙◌, subst, arith}
 use Rattle.std.proofs.lemmas.Bool.{eq-eqb}
 use Rattle.std.proofs.lemmas.Bool.Decides.{nat_tests}
 use Rattle.hp_states.specs.declared.limits.TheConstants.{MAX_CPUS, ONLINE, OFFLINE}
-use Rattle.hp_event.specs.declared.event.Op.{Op}
+use Rattle.hp_event.specs.declared.op.Op.{Op}
 use Rattle.hp_event.specs.declared.event.Role.{Role}
 use Rattle.hp_event.specs.declared.event.Role.TheVariants.{Client, Ap}
 use Rattle.hp_event.specs.declared.head.Head.{Head}
 use Rattle.hp_event.specs.declared.event.Event.{Event}
 use Rattle.hp_event.specs.declared.event.Event.TheVariants.{Admit}
-use Rattle.hp_model.specs.Lists.{numbers}
+use Rattle.hp_model.specs.Lists.{numbers, without}
 use Rattle.hp_model.specs.Heads.{IsHead}
 use Rattle.hp_model.specs.Processors.{present}
 use Rattle.hp_model.specs.Readers.{readers, reading_since}
@@ -20,14 +20,14 @@ use Rattle.hp_model.specs.Registrations.{registration}
 use Rattle.hp_model.specs.Registered.{registered}
 use Rattle.hp_model.specs.Walks.{walking}
 use Rattle.hp_model.specs.Settled.{settled}
-use Rattle.hp_model.specs.Seats.{role_of, ap_seat}
+use Rattle.hp_model.specs.Seats.{role_of, ap_seat, seats}
 use Rattle.hp_model.specs.Run.{ap_admits, admissions}
-use Rattle.hp_model.proofs.Laws.{readers_push, reading_since_push, operation_push, registration_push, registered_push, walking_push, settled_push, role_push, ap_push}
+use Rattle.hp_model.proofs.Laws.{readers_push, reading_since_push, operation_push, registration_push, registered_push, walking_push, settled_push, role_push, ap_push, seats_push, armed_push, disabled_push}
 use Rattle.hp_model.proofs.RunLemmas.{admissions_lawful}
+use Rattle.hp_model.proofs.SumLemmas.{length-without}
 use Rattle.hp_table.specs.Step.{Step}
 use Rattle.hp_play.specs.declared.due.Due.TheVariants.{Operation as Idle}
 use Rattle.hp_play.specs.Tied.{IsTied, IsPlainHead, IsSeated, IsQuiet, IsIdle, IsNew}
-use Rattle.hp_play.proofs.TieFolds.{armed_push, disabled_push}
 use Rattle.hp_play.proofs.PlaysLaws.{present_is, length-numbers}
 
 -- nothing but admissions was done
@@ -77,6 +77,18 @@ no_role : (k : ℕ) → role_of k [] ≡ None
 unfolding role_of
 no_role k = refl
 
+no_seats : seats [] ≡ []
+unfolding seats
+no_seats = refl
+
+-- one seat more is in
+seats_more : (es : List Event) (k : ℕ) (role : Role) → length (seats (es ++ Admit k role ∷ [])) ≤ length (seats es) + 1
+seats_more es k role =
+    let push : seats (es ++ Admit k role ∷ []) ≡ without k (seats es) ++ k ∷ [] = seats_push es (Admit k role) in
+    let most = length-without k (seats es) in
+    let more = length-append (without k (seats es)) (k ∷ []) in
+    rw push (omega (arith, most, more))
+
 blank_first : (head : Head) → IsBlank head []
 blank_first head = record {
   quiet = record { no_readers = no_readers; none_reads = none_reads; enabled = none_disabled; disarmed = none_armed };
@@ -108,9 +120,15 @@ blank_more head es k role b =
 record AreIn (n : ℕ) (es : List Event) : Type 0 where
   aps : (c : ℕ) → c < n → ap_seat c es ≡ Some c
   no_client : (k : ℕ) → role_of k es ≡ Some Client → ⊥
+  few : length (seats es) ≤ n
 
 cpus_first : AreIn 0 []
-cpus_first = record { aps = λ c below. absurd (omega (arith, below)); no_client = λ k is. absurd (none_is (no_role k) is) }
+cpus_first =
+    record {
+      aps = λ c below. absurd (omega (arith, below));
+      no_client = λ k is. absurd (none_is (no_role k) is);
+      few = rw no_seats (omega arith);
+    }
   where
     none_is : {found : Option Role} → found ≡ None → found ≡ Some Client → ⊥
     none_is {found} none is = let e : None ≡ Some Client = sym none ∙ is in cc e
@@ -119,6 +137,7 @@ cpus_more : (n : ℕ) (es : List Event) → AreIn n es → AreIn (n + 1) (es ++ 
 cpus_more n es h = record {
   aps = λ c below. ap_push c es (Admit n (Ap n)) ∙ in_one c below (eqb n c) refl;
   no_client = λ k is. client_one k (eqb n k) (sym (role_push k es (Admit n (Ap n))) ∙ is);
+  few = let more = seats_more es n (Ap n) in omega (arith, more, h.few);
 }
   where
     in_one : (c : ℕ) → c < n + 1 → (b : Bool) → eqb n c ≡ b → cond b (Some n) (ap_seat c es) ≡ Some c
@@ -169,6 +188,7 @@ seated_in head es h = record {
   aps = λ c below. ap_push c es e ∙ h.aps c below;
   client = role_push n es e ∙ rw (eq-eqb n n refl) refl;
   one_client = λ k is. only k (eqb n k) refl (sym (role_push k es e) ∙ is);
+  few = let more = seats_more es n Client in omega (arith, more, h.few);
 }
   where
     n : ℕ

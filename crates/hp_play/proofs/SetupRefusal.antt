@@ -1,17 +1,17 @@
 -- A setup is refused exactly where its state has a name, and a refusal leaves the machine's parts as they were.
-use Rattle.std.proofs.Common.{◌≡◌, ℕ, zero, suc, ◌+◌, ◌-◌, ◌<◌, ◌≤◌, Bool, true, false, not, ◌&&◌, ◌||◌, cond, eqb, leb, is_some, is_none, Option, Some, None, List, [], ◌∷◌, ◌++◌, refl, ap, ◌∙◌, ⊎_elim, arith}
+use Rattle.std.proofs.Common.{◌≡◌, ℕ, zero, suc, ◌+◌, ◌-◌, ◌<◌, ◌≤◌, Bool, true, false, not, ◌&&◌, ◌||◌, cond, eqb, leb, is_some, is_none, Option, Some, None, List, [], ◌∷◌, ◌++◌, refl, sym, ap, ◌∙◌, ⊎_elim, arith}
 use Rattle.std.specs.Prelude.{find}
-use Rattle.std.proofs.lemmas.Bool.{cases_lt, cases_eq}
-use Rattle.hp_states.specs.declared.limits.TheConstants.{OFFLINE, ONLINE, EBUSY, EINVAL, EDEADLK, EPERM, ENOSPC}
+use Rattle.std.proofs.lemmas.Bool.{cases_lt, cases_eq, eqb-true}
+use Rattle.hp_states.specs.declared.limits.TheConstants.{OFFLINE, PREPARE_DYN, ONLINE_DYN, ONLINE, EBUSY, EINVAL, EDEADLK, EPERM, ENOSPC}
 use Rattle.hp_states.specs.declared.section.Range.{Range}
 use Rattle.hp_states.specs.declared.section.Range.TheVariants.{Prepare, Online}
-use Rattle.hp_states.specs.Sections.{is_dynamic, end_of_range, name_of_builtin}
+use Rattle.hp_states.specs.Sections.{is_dynamic, range_asked_by, end_of_range, name_of_builtin}
 use Rattle.hp_table.specs.Named.{is_named as is_named_in}
 use Rattle.hp_table.specs.Slots.{first_slot, last_slot, IsLowestFree, IsFull}
 use Rattle.hp_model.specs.Lists.{rising}
-use Rattle.hp_event.specs.declared.event.Form.{Form}
-use Rattle.hp_event.specs.declared.event.Op.{Op}
-use Rattle.hp_event.specs.declared.event.Op.TheVariants.{Setup}
+use Rattle.hp_event.specs.declared.op.Form.{Form}
+use Rattle.hp_event.specs.declared.op.Op.{Op}
+use Rattle.hp_event.specs.declared.op.Op.TheVariants.{Setup}
 use Rattle.hp_event.specs.declared.head.Head.{Head}
 use Rattle.hp_event.specs.declared.event.Event.{Event}
 use Rattle.hp_event.specs.declared.event.Event.TheVariants.{Refused}
@@ -24,22 +24,23 @@ use Rattle.hp_model.specs.Registered.{is_named}
 use Rattle.hp_model.specs.Resolved.{lowest_free}
 use Rattle.hp_model.specs.RefusalsAtOnce.{if_so, first_that_holds}
 use Rattle.hp_model.specs.Refusals.{refusal}
-use Rattle.hp_model.specs.StandsOperations.{IsRefused}
-use Rattle.hp_model.proofs.Laws.{registration_push, registered_push, settled_push, operation_push, walking_push}
+use Rattle.hp_model.specs.Room.{has_room}
+use Rattle.hp_model.proofs.Laws.{registration_push, registered_push, settled_push, operation_push, walking_push, sites_push}
 use Rattle.hp_play.specs.declared.due.Due.TheVariants.{Operation as Idle}
+use Rattle.hp_play.proofs.WordLaws.{some_is}
 use Rattle.hp_table.specs.Step.{Step, step_at}
 use Rattle.hp_play.specs.Tied.{registered_by, IsTied}
-use Rattle.hp_play.proofs.TieFolds.{sites_push}
 use Rattle.hp_play.proofs.TieParts.{SubFound, idle_free, tied_more}
 
 -- an operation is refused
 pub refused_tied : (head : Head) (es : List Event) (stands : List ℕ) (places : List (Option Step)) (seat errno : ℕ) (op : Op) →
     seat ≡ head.possible → IsTied head es stands places Idle → names_sub head op ≡ true → refusal head es seat op ≡ Some errno →
+    has_room head es (Refused seat errno op) ≡ true →
     Stands head es (Refused seat errno op) × IsTied head (es ++ Refused seat errno op ∷ []) stands places Idle
-refused_tied head es stands places seat errno op is tied has_sub refused =
+refused_tied head es stands places seat errno op is tied has_sub refused room =
     let e : Event = Refused seat errno op in
-    let stood : IsRefused head es seat errno op =
-    record { free = rw is (idle_free head es tied.seated tied.due_is); has_sub = has_sub; refused = refused }
+    let stood : Stands head es e =
+    (record { free = rw is (idle_free head es tied.seated tied.due_is); has_sub = has_sub; refused = refused }, room)
     in (
       stood,
       tied_more head es stands places Idle Idle e tied tt stood (λ c. settled_push c es e) (λ s. sites_push s es e)
@@ -124,6 +125,19 @@ find_none p a (suc n) none =
 last_of : (range : Range) → first_slot range + (end_of_range (first_slot range) - first_slot range) ≡ last_slot range
 last_of Prepare = refl
 last_of Online = refl
+
+-- a range is asked for by its first state
+pub asks_first : (asked : ℕ) (range : Range) → range_asked_by asked ≡ Some range → (is_dynamic asked ≡ true) × (first_slot range ≡ asked)
+asks_first asked range h = go (eqb asked PREPARE_DYN) (eqb asked ONLINE_DYN) refl refl h
+  where
+    go : (prepare online : Bool) → eqb asked PREPARE_DYN ≡ prepare → eqb asked ONLINE_DYN ≡ online →
+        cond prepare (Some Prepare) (cond online (Some Online) None) ≡ Some range →
+        (cond prepare true online ≡ true) × (first_slot range ≡ asked)
+    go true online first other some =
+        (refl, ap first_slot (sym (some_is Prepare range some)) ∙ sym (eqb-true asked PREPARE_DYN first))
+    go false true first other some =
+        (refl, ap first_slot (sym (some_is Online range some)) ∙ sym (eqb-true asked ONLINE_DYN other))
+    go false false first other some = cc
 
 -- the lowest slot without a name
 pub lowest_alike : (head : Head) (es : List Event) (stands : List ℕ) (places : List (Option Step)) (range : Range) (asked s : ℕ) →

@@ -3,22 +3,24 @@ use Rattle.std.proofs.Common.{◌≡◌, ℕ, ◌+◌, ◌*◌, ◌≤◌, true,
 use Rattle.std.proofs.lemmas.Bool.{false≢true}
 use Rattle.hp_states.specs.declared.limits.TheConstants.{ONLINE}
 use Rattle.hp_event.specs.Story.{Story}
-use Rattle.hp_event.specs.declared.event.Op.{Op}
+use Rattle.hp_event.specs.declared.op.Op.{Op}
 use Rattle.hp_event.specs.declared.event.Event.{Event}
 use Rattle.hp_event.specs.declared.event.Event.TheVariants.{RegBegin}
 use Rattle.hp_reg.proofs.Callers.{concerned_few}
 use Rattle.hp_reg.specs.Concerned.{key_at, cpus_at}
 use Rattle.hp_table.specs.Step.{Step, step_at}
 use Rattle.hp_table.proofs.Places.{within_places}
+use Rattle.hp_table.specs.Totals.{key_total}
 use Rattle.hp_play.specs.declared.due.Due.{Due}
 use Rattle.hp_play.specs.declared.due.Due.TheVariants.{Operation, Registering}
 use Rattle.hp_play.specs.declared.limits.TheConstants.{MAX_PLAYED}
 use Rattle.hp_play.specs.declared.machine.Machine.{Machine}
-use Rattle.hp_play.specs.Machine.{IsReady, IsCounted, IsStart, key_total, pushed}
+use Rattle.hp_play.specs.Machine.{IsReady, IsCounted, IsStart, pushed}
 use Rattle.hp_play.specs.Parts.{Ready, Tied, Advances}
 use Rattle.hp_play.proofs.PlaysLaws.{plays_one}
 use Rattle.hp_play.proofs.ReadyMore.{counted_more, one_taken}
 use Rattle.hp_play.proofs.RegistrationBegins.{IsAsked, reg_begins, reg_stands, at_all}
+use Rattle.hp_play.proofs.RoomLeft.{registration_room}
 
 -- the machine is ready for its entries
 start_ready : (journal : Story) (settled : List ℕ) (places written : List (Option Step)) (op : Op) (state : ℕ)
@@ -37,6 +39,7 @@ start_ready journal settled places written op state due s ready a most same made
       states = same ∙ ready.states;
       in_range = (most, subst IsSome (sym a.here) refl, s.2.progress.0, s.2.progress.1);
       room = omega (arith, left, cpus, room, ready.few_cpus);
+      fits = omega (arith, more, room, ready.fits);
       few_keys = few;
       counted =
           at_all (λ t p. IsCounted (length (journal.events ++ e ∷ [])) p) places written state a.step a.here a.there
@@ -62,6 +65,7 @@ start_advances op state old new ready tied free room few journal settled start a
     let now = rw free at tied in
     let ready_now = rw free at ready in
     let seat : length old.settled.items ≡ story.head.possible = ready.cpus in
+    let stands_free = registration_room story old.settled.items old.table Operation ready_now now in
     let is : new.journal ≡ pushed story (RegBegin story.head.possible state op) =
     journal ∙ ap (λ (n : ℕ). pushed story (RegBegin n state op)) seat in
     record {
@@ -69,13 +73,13 @@ start_advances op state old new ready tied free room few journal settled start a
           rw (is, settled, start.1)
           (start_ready story old.settled.items old.table new.table op state new.due start ready_now a most same made room few);
       tied =
-          rw (is, settled, start.1) (reg_begins story.head story.events old.settled.items old.table new.table op state start.0 now a start.2);
+          rw (is, settled, start.1) (reg_begins story.head story.events old.settled.items old.table new.table op state start.0 now a start.2 stands_free);
       keeps =
           rw (is, settled)
           (refl, refl, one_taken story (RegBegin story.head.possible state op) (omega (arith, room)));
       goes =
           plays_one _ _ _ _ _ _ op false (RegBegin story.head.possible state op) now
-          (reg_stands story.head story.events old.settled.items old.table new.table op state now a) (inr (refl, refl)) refl
+          (reg_stands story.head story.events old.settled.items old.table new.table op state now a stands_free) (inr (refl, refl)) refl
           (ap (λ j. j.events) is);
       of = rw start.1 a.registers;
       free = λ (no : false ≡ true). absurd (false≢true no);

@@ -1,16 +1,16 @@
 -- A subsystem that is read, with its rules, is the one that was written, and what was written is read again.
-use Rattle.std.proofs.Common.{◌≡◌, ℕ, ◌≤◌, Bool, true, false, cond, List, [], ◌∷◌, ◌++◌, length, get_or, Option, Some, None, refl, sym, ap, subst, ◌∙◌, append_assoc, arith}
+use Rattle.std.proofs.Common.{◌≡◌, ℕ, ◌≤◌, Bool, true, false, cond, List, [], ◌∷◌, ◌++◌, length, Option, Some, None, refl, sym, ap, subst, ◌∙◌, append_assoc, arith}
 use Rattle.std.specs.Prelude.{codes}
 use Rattle.std.specs.List.{All, flat_map}
-use Rattle.std.proofs.lemmas.Bool.Decides.{nat_tests}
 use Rattle.std.proofs.lemmas.List.Elements.{All-from_recursion, recursion_from_All}
 use Rattle.hp_states.specs.declared.limits.TheConstants.{MAX_RULES}
 use Rattle.hp_states.specs.declared.plan.Rule.{Rule}
 use Rattle.hp_event.specs.declared.head.Sub.{Sub}
 use Rattle.hp_model.specs.Words.{line, name_word, calls_word, kind_word}
 use Rattle.hp_model.specs.JournalText.{rule_line, sub_lines}
-use Rattle.hp_model.specs.Heads.{IsRule, IsSub, IsName as IsHeadName, is_name_byte as is_byte_of_name}
-use Rattle.hp_play.specs.Form.{IsName, is_name_byte}
+use Rattle.hp_model.specs.Heads.{IsRule, IsSub, IsName as IsHeadName}
+use Rattle.hp_states.specs.Names.{is_name_byte}
+use Rattle.hp_play.specs.Form.{IsName}
 use Rattle.hp_play.specs.Reading.{◌>>=◌, behind, name_to, is_byte, named, calls_at, kind_at, title_at, rule_at, run_of, sub_with, sub_at}
 use Rattle.hp_play.proofs.WordLaws.{bind_some, bind_then, some_is, behind_takes}
 use Rattle.hp_play.proofs.FieldLaws.{name_to_takes, name_to_again}
@@ -22,18 +22,12 @@ use Rattle.hp_play.proofs.RunLaws.{Took, run_takes, run_again}
 
 -- ---- names
 
-to_head_byte : (b : ℕ) → is_name_byte b ≡ true → is_byte_of_name b ≡ true
-to_head_byte b h = grind (arith, nat_tests)
-
-from_head_byte : (b : ℕ) → is_byte_of_name b ≡ true → is_name_byte b ≡ true
-from_head_byte b h = grind (arith, nat_tests)
-
 -- the dash alone was turned into the empty name, so a name of the head is no dash
 head_name : (word : List ℕ) (dash : Bool) → is_byte 45 word ≡ dash → IsName word → IsHeadName (cond dash [] word)
 head_name word true e h = record { short = omega arith; bytes = λ k d inside. absurd (omega (arith, inside)); not_dash = λ same. cc }
 head_name word false e h = record {
   short = h.few;
-  bytes = λ k d inside. to_head_byte (get_or word k d) (h.bytes k d inside);
+  bytes = h.bytes;
   not_dash = λ same. let dash : is_byte 45 word ≡ true = ap (is_byte 45) same in cc;
 }
 
@@ -46,7 +40,7 @@ spells (b ∷ bs) false e h = refl
 -- the word for a name is a name of the form, and is read as the name
 word_named : (name : List ℕ) → IsHeadName name → IsName (name_word name)
 word_named [] h = record { some = omega arith; few = omega arith; bytes = All-from_recursion (λ b. is_name_byte b ≡ true) (45 ∷ []) (refl, tt) }
-word_named (b ∷ bs) h = record { some = omega arith; few = h.short; bytes = λ k d inside. from_head_byte (get_or (b ∷ bs) k d) (h.bytes k d inside) }
+word_named (b ∷ bs) h = record { some = omega arith; few = h.short; bytes = h.bytes }
 
 no_dash : (name : List ℕ) (dash : Bool) → is_byte 45 name ≡ dash → IsHeadName name → cond dash [] name ≡ name
 no_dash name true e h = absurd (h.not_dash (byte_is 45 name e))

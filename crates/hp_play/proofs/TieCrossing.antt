@@ -2,12 +2,12 @@
 use Rattle.std.proofs.Common.{◌≡◌, ℕ, ◌<◌, Bool, true, false, not, ◌||◌, eqb, Option, Some, IfSome, List, [], ◌∷◌, ◌++◌, length, refl, sym, subst, ◌∙◌, inl}
 use Rattle.std.specs.Prelude.{slice_set}
 use Rattle.std.proofs.lemmas.Bool.{eq-eqb}
-use Rattle.hp_states.specs.declared.section.Dir.{Dir}
-use Rattle.hp_states.specs.declared.section.Place.{Place}
+use Rattle.hp_states.specs.declared.dir.Dir.{Dir}
+use Rattle.hp_states.specs.declared.place.Place.{Place}
 use Rattle.hp_states.specs.Sections.{can_fail}
 use Rattle.hp_states.specs.Rules.{site_at}
-use Rattle.hp_event.specs.declared.event.How.{How}
-use Rattle.hp_event.specs.declared.event.Key.{Key}
+use Rattle.hp_event.specs.declared.how.How.{How}
+use Rattle.hp_event.specs.declared.key.Key.{Key}
 use Rattle.hp_event.specs.declared.head.Head.{Head}
 use Rattle.hp_event.specs.declared.event.Event.{Event}
 use Rattle.hp_event.specs.declared.event.Event.TheVariants.{Call}
@@ -18,7 +18,7 @@ use Rattle.hp_model.specs.Walks.{walk_entries}
 use Rattle.hp_model.specs.Plan.{direction, plan}
 use Rattle.hp_model.specs.Lawful.{Stands}
 use Rattle.hp_model.specs.StandsCalls.{IsNextInWalk}
-use Rattle.hp_model.proofs.Laws.{walk_push, walk_entries_push, walking_push, registration_push, operation_push, registered_push, settled_push}
+use Rattle.hp_model.proofs.Laws.{walk_push, walk_entries_push, walking_push, registration_push, operation_push, registered_push, settled_push, answers_push}
 use Rattle.hp_model.proofs.HeadlineProof.{lawful_more}
 use Rattle.hp_table.specs.Step.{Step, step_at}
 use Rattle.hp_walk.specs.declared.walk.Walk.{Walk as AWalk}
@@ -35,7 +35,7 @@ use Rattle.hp_play.specs.Machine.{seat_at, how_by, entered_step}
 use Rattle.hp_play.specs.Tied.{IsTied, IsKept, IsWalking}
 use Rattle.hp_play.proofs.EntryHow.{walk_how, fits_by, not_presumed, not_injected}
 use Rattle.hp_play.proofs.EnteredPlace.{registered_entered, keys_entered, subs_entered, kept_entered}
-use Rattle.hp_play.proofs.TieFolds.{answers_push, quiet_more, seated_more}
+use Rattle.hp_play.proofs.TieFolds.{quiet_more, seated_more}
 use Rattle.hp_play.proofs.TieParts.{entered_more, entry_caller}
 use Rattle.hp_play.proofs.WalkRows.{keys_same, asked_same}
 
@@ -76,24 +76,28 @@ crossing_stands head es stands places seat c to w key d place first step t asks_
     subst (Asks K (walk_entries c es) w) (asked_same head es stands places c to w t ∙ asks_for) (asks K (walk_entries c es) w b.after)
     in
     let n = comes K (walk_entries c es) w key d place first how next (fits_by step.kept c key.inst key.state d place) in
-    let m = rw (b.walk_is.0, b.walk_is.1, b.walk_is.2) at n in
-    inl (record {
-      of = b.flight;
-      in_flight = b.in_flight;
-      outcome = m.outcome;
-      crossings = m.crossings;
-      shape = m.shape;
-      slot = slot_of c key d place first (not (is_done how));
-      is_next = m.is_next;
-      fits = (refl, refl, refl, refl, not_not (is_done how));
-      how_is =
-          walk_how head es c key.state key.inst d place first step b.entered.no_registration
-          (rw some at (t.registered_is key.state)) (t.quiet.disarmed c)
-          (kept_at head es key.state (step_at places key.state) step some (t.kept key.state));
-      caller_is =
-          entry_caller head es seat c key.state b.flight.seat how t.seated inside b.by_client
-          (not_presumed step.kept (site_at c key.inst d) (can_fail d key.state place)) by;
-    })
+    let m = rw (b.walk_is.0, b.walk_is.1, b.walk_is.2) at n in (
+      inl (record {
+        entry = record {
+          of = b.flight;
+          in_flight = b.in_flight;
+          outcome = m.outcome;
+          crossings = m.crossings;
+          shape = m.shape;
+          slot = slot_of c key d place first (not (is_done how));
+          is_next = m.is_next;
+          fits = (refl, refl, refl, refl, not_not (is_done how));
+          how_is =
+              walk_how head es c key.state key.inst d place first step b.entered.no_registration
+              (rw some at (t.registered_is key.state)) (t.quiet.disarmed c)
+              (kept_at head es key.state (step_at places key.state) step some (t.kept key.state));
+        };
+        caller_is =
+            entry_caller head es seat c key.state b.flight.seat how t.seated inside b.by_client
+            (not_presumed step.kept (site_at c key.inst d) (can_fail d key.state place)) by;
+      }),
+      refl,
+    )
 
 -- the walk after the entry
 went_on : (head : Head) (es : List Event) (stands : List ℕ) (places after : List (Option Step)) (seat c to : ℕ) (w next : AWalk)

@@ -1,44 +1,26 @@
 -- One event more: the notions that only the machine asks for, and what its events leave as it was.
-use Rattle.std.proofs.Common.{◌≡◌, ℕ, ◌+◌, ◌-◌, Bool, true, false, ◌&&◌, cond, eqb, Option, Some, None, List, [], ◌∷◌, ◌++◌, refl, sym, ◌∙◌}
+use Rattle.std.proofs.Common.{◌≡◌, ℕ, ◌+◌, ◌-◌, Bool, true, false, ◌&&◌, cond, eqb, Option, Some, List, [], ◌∷◌, ◌++◌, refl, sym, ◌∙◌}
 use Rattle.std.specs.List.{count_by}
 use Rattle.std.proofs.lemmas.List.Sums.{fold-append}
 use Rattle.std.proofs.lemmas.Bool.{false≢true}
-use Rattle.hp_event.specs.declared.event.Answer.{Answer}
-use Rattle.hp_event.specs.declared.event.How.{How}
-use Rattle.hp_event.specs.declared.event.How.TheVariants.{Injected}
-use Rattle.hp_event.specs.declared.event.Op.{Op}
-use Rattle.hp_event.specs.declared.event.Op.TheVariants.{Up, Down}
+use Rattle.hp_event.specs.declared.answer.Answer.{Answer}
+use Rattle.hp_event.specs.declared.how.How.{How}
+use Rattle.hp_event.specs.declared.how.How.TheVariants.{Injected}
+use Rattle.hp_event.specs.declared.op.Op.{Op}
+use Rattle.hp_event.specs.declared.op.Op.TheVariants.{Up, Down}
 use Rattle.hp_event.specs.declared.event.Role.{Role}
 use Rattle.hp_event.specs.declared.head.Head.{Head}
 use Rattle.hp_event.specs.declared.event.Event.{Event}
 use Rattle.hp_event.specs.declared.event.Event.TheVariants.{Admit, Leave, Enter, Refused, WalkBegin, Call, WalkEnd, OpEnd, RegBegin, RegEnd, ReadLock, ReadUnlock, Armed}
 use Rattle.hp_model.specs.Armed.{armed, armed_step, disarmed_by}
 use Rattle.hp_model.specs.Suspend.{disabled, disabled_step, is_disabling, is_enabling}
-use Rattle.hp_model.specs.Sequence.{answers, answers_step}
-use Rattle.hp_model.specs.Calls.{sites, sites_step}
 use Rattle.hp_model.specs.Events.{is_answer, seat_of, answered}
 use Rattle.hp_model.specs.MapLock.{Operation, operation}
 use Rattle.hp_model.specs.Readers.{readers, readers_step, reading_since, reading_since_step}
-use Rattle.hp_model.specs.Seats.{role_of, role_step, ap_seat, ap_step}
-use Rattle.hp_model.proofs.Laws.{over_from_push, readers_push, reading_since_push, role_push, ap_push}
+use Rattle.hp_model.specs.Seats.{role_of, role_step, ap_seat, ap_step, seats, seats_step}
+use Rattle.hp_model.proofs.Laws.{readers_push, reading_since_push, role_push, ap_push, seats_push, armed_push, disabled_push}
 use Rattle.hp_play.specs.Tied.{IsQuiet, IsSeated, Leads}
 use Rattle.hp_play.proofs.EntryHow.{is_injected}
-
-pub armed_push : (c : ℕ) (xs : List Event) (e : Event) → armed c (xs ++ e ∷ []) ≡ armed_step c (armed c xs) xs e
-unfolding armed
-armed_push c xs e = over_from_push (armed_step c) None [] xs e
-
-pub disabled_push : (xs : List Event) (e : Event) → disabled (xs ++ e ∷ []) ≡ disabled_step (disabled xs) xs e
-unfolding disabled
-disabled_push xs e = over_from_push disabled_step 0 [] xs e
-
-pub answers_push : (xs : List Event) (e : Event) → answers (xs ++ e ∷ []) ≡ answers_step (answers xs) xs e
-unfolding answers
-answers_push xs e = over_from_push answers_step [] [] xs e
-
-pub sites_push : (s : ℕ) (xs : List Event) (e : Event) → sites s (xs ++ e ∷ []) ≡ sites_step s (sites s xs) xs e
-unfolding sites
-sites_push s xs e = over_from_push (sites_step s) [] [] xs e
 
 count_by-push : (p : Event → Bool) (xs : List Event) (e : Event) →
     ◌≡◌ {A = ℕ} (count_by p (xs ++ e ∷ [])) (count_by p xs + cond (p e) 1 0)
@@ -112,6 +94,11 @@ ap_same c es (Admit seat role) found h = elim h [ ]
 ap_same c es (Leave seat) found h = elim h [ ]
 ap_same c es e found h = refl
 
+seats_same : (es : List Event) (e : Event) (found : List ℕ) → IsOurs es e → seats_step found es e ≡ found
+seats_same es (Admit seat role) found h = elim h [ ]
+seats_same es (Leave seat) found h = elim h [ ]
+seats_same es e found h = refl
+
 -- nobody begins to read, hotplug stays enabled, no processor is armed
 pub quiet_more : (es : List Event) (e : Event) → IsOurs es e → IsQuiet es → IsQuiet (es ++ e ∷ [])
 quiet_more es e ours quiet = record {
@@ -128,4 +115,5 @@ seated_more head es e ours seated = record {
   client = role_push head.possible es e ∙ role_same head.possible es e (role_of head.possible es) ours ∙ seated.client;
   one_client = λ k is.
       seated.one_client k (sym (role_push k es e ∙ role_same k es e (role_of k es) ours) ∙ is);
+  few = rw (seats_push es e, seats_same es e (seats es) ours) seated.few;
 }

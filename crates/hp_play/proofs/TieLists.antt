@@ -1,37 +1,13 @@
--- Lists of processors and states that a test picks out of a rising row, and what a place keeps after a write.
-use Rattle.std.proofs.Common.{◌≡◌, ◌≢◌, ℕ, zero, suc, ◌<◌, ◌≤◌, Bool, true, false, cond, eqb, Option, List, [], ◌∷◌, ◌++◌, length, refl, ap, sym, ◌∙◌, subst, append_assoc, arith, ⊎_elim}
-use Rattle.std.specs.Prelude.{slice_set}
+-- Lists of processors and states that a test picks out of a rising row.
+use Rattle.std.proofs.Common.{◌≡◌, ℕ, zero, suc, ◌<◌, ◌≤◌, Bool, true, false, List, [], ◌∷◌, ◌++◌, refl, ap, ◌∙◌, append_assoc, arith, ⊎_elim}
 use Rattle.std.specs.List.{filter}
 use Rattle.std.proofs.lemmas.List.{append-nil}
 use Rattle.std.proofs.lemmas.List.Elements.{filter-append}
-use Rattle.std.proofs.lemmas.Bool.{cases_lt, cases_eq, eqb-true, eqb-false}
-use Rattle.hp_states.specs.declared.section.Dir.{Dir}
-use Rattle.hp_states.specs.declared.section.Place.{Place}
+use Rattle.std.proofs.lemmas.Bool.{cases_lt, cases_eq}
+use Rattle.hp_states.specs.declared.dir.Dir.{Dir}
+use Rattle.hp_states.specs.declared.place.Place.{Place}
 use Rattle.hp_model.specs.Lists.{numbers}
 use Rattle.hp_model.specs.RegistrationShape.{each}
-use Rattle.hp_table.specs.Step.{Step, step_at}
-use Rattle.hp_table.proofs.Places.{step_at-set_same, step_at-set_other}
-
--- a place after a write
-pub step_at-set : (places : List (Option Step)) (s : ℕ) (place : Option Step) (t : ℕ) → s < length places →
-    step_at (slice_set places s place) t ≡ cond (eqb s t) place (step_at places t)
-step_at-set places s place t below = go (eqb s t) refl
-  where
-    go : (b : Bool) → eqb s t ≡ b → step_at (slice_set places s place) t ≡ cond b place (step_at places t)
-    go true e = let same : s ≡ t = eqb-true s t e in rw (← same) (step_at-set_same places s place below)
-    go false e = step_at-set_other places s place t (eqb-false s t e)
-
--- what holds at the place that is written and at each other place
-pub at_each : (P : ℕ → Option Step → Type 0) (places : List (Option Step)) (state : ℕ) (place : Option Step) →
-    state < length places → P state place → ((s : ℕ) → state ≢ s → P s (step_at places s)) →
-    (s : ℕ) → P s (step_at (slice_set places state place) s)
-at_each P places state place below here there s =
-    ⊎_elim
-    (λ (same : state ≡ s).
-    subst (λ t. P t (step_at (slice_set places state place) t)) same
-    (subst (P state) (sym (step_at-set_same places state place below)) here))
-    (λ (other : state ≡ s → ⊥). subst (P s) (sym (step_at-set_other places state place s other)) (there s other))
-    (cases_eq state s)
 
 -- one number more, which the test takes or leaves
 filter_one_out : (p : ℕ → Bool) (xs : List ℕ) (n : ℕ) → p n ≡ false → filter p (xs ++ n ∷ []) ≡ filter p xs

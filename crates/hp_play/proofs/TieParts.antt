@@ -6,7 +6,7 @@ use Rattle.hp_event.specs.declared.head.Head.{Head}
 use Rattle.hp_event.specs.declared.event.Event.{Event}
 use Rattle.hp_states.specs.Sections.{is_ap_state}
 use Rattle.hp_states.specs.Rules.{counts_of}
-use Rattle.hp_event.specs.declared.event.How.{How}
+use Rattle.hp_event.specs.declared.how.How.{How}
 use Rattle.hp_model.specs.Caller.{caller, is_presumed}
 use Rattle.hp_play.specs.Machine.{seat_at}
 use Rattle.hp_model.specs.Seats.{IsFree}

@@ -2,20 +2,21 @@
 use Rattle.std.proofs.Common.{◌≡◌, ◌≢◌, ℕ, ◌<◌, ◌≤◌, Bool, true, false, cond, eqb, Option, Some, List, [], ◌∷◌, ◌++◌, length, slice_index, set, get_or-set_same, get_or-set_other, refl, sym, subst, ◌∙◌, arith}
 use Rattle.std.proofs.lemmas.Bool.{eq-eqb, eqb-true, eqb-false}
 use Rattle.hp_states.specs.declared.limits.TheConstants.{ONLINE}
-use Rattle.hp_event.specs.declared.event.Op.{Op}
-use Rattle.hp_event.specs.declared.event.Answer.{Answer}
-use Rattle.hp_event.specs.declared.event.Answer.TheVariants.{Ok, Refused, Fault, Stuck, LogFull}
+use Rattle.hp_event.specs.declared.op.Op.{Op}
+use Rattle.hp_event.specs.declared.answer.Answer.{Answer}
+use Rattle.hp_event.specs.declared.answer.Answer.TheVariants.{Ok, Refused, Fault, Stuck, LogFull}
 use Rattle.hp_event.specs.declared.head.Head.{Head}
 use Rattle.hp_event.specs.declared.event.Event.{Event}
 use Rattle.hp_event.specs.declared.event.Event.TheVariants.{Enter, WalkBegin, WalkEnd, OpEnd}
 use Rattle.hp_model.specs.Refusals.{Passes}
 use Rattle.hp_model.specs.Registered.{keys, registered}
+use Rattle.hp_model.specs.Room.{has_room}
 use Rattle.hp_model.specs.Settled.{settled, left_at}
 use Rattle.hp_model.specs.StandsOperations.{OpEnds}
 use Rattle.hp_model.specs.Walks.{Walk, walk, walking, walk_entries}
 use Rattle.hp_model.specs.WalkShape.{IsWholeWalk}
 use Rattle.hp_model.specs.Plan.{direction, plan}
-use Rattle.hp_model.proofs.Laws.{walk_push, walk_entries_push, walking_push, registration_push, operation_push, registered_push, settled_push}
+use Rattle.hp_model.proofs.Laws.{walk_push, walk_entries_push, walking_push, registration_push, operation_push, registered_push, settled_push, sites_push, answers_push}
 use Rattle.hp_model.proofs.HeadlineProof.{lawful_more}
 use Rattle.hp_model.proofs.PlanBounds.{stuck_most}
 use Rattle.hp_table.specs.Step.{Step, step_at}
@@ -27,19 +28,20 @@ use Rattle.hp_walk.specs.Keys.{keys_by}
 use Rattle.hp_walk.proofs.Alike.{after_alike}
 use Rattle.hp_play.specs.declared.due.Due.{Due}
 use Rattle.hp_play.specs.declared.due.Due.TheVariants.{Operation as Idle, Walk as ToWalk, Walking, End}
-use Rattle.hp_play.specs.Machine.{stands_after}
+use Rattle.hp_event.specs.Leaves.{leaves_at}
 use Rattle.hp_play.specs.Tied.{IsTied, IsEntered, Leads, registered_by}
-use Rattle.hp_play.proofs.TieFolds.{sites_push, answers_push, quiet_more, seated_more}
+use Rattle.hp_play.proofs.TieFolds.{quiet_more, seated_more}
 use Rattle.hp_play.proofs.TieParts.{kept_same, entered_more, tied_more}
 use Rattle.hp_play.proofs.WalkRows.{enter_stands, walk_stands, walked_whole, walked_stands, insts_same}
 
 pub enters : (head : Head) (es : List Event) (stands : List ℕ) (places : List (Option Step)) (op : Op) (c to : ℕ) →
     IsTied head es stands places Idle → Leads op c to → Passes head es head.possible op →
+    has_room head es (Enter head.possible op) ≡ true →
     IsTied head (es ++ Enter head.possible op ∷ []) stands places (ToWalk c to)
-enters head es stands places op c to t leads passes =
+enters head es stands places op c to t leads passes room =
     let e : Event = Enter head.possible op in
     tied_more head es stands places Idle (ToWalk c to) e t (c, to, leads)
-    (enter_stands head es stands places op c to t leads passes) (λ d. settled_push d es e) (λ s. sites_push s es e)
+    (enter_stands head es stands places op c to t leads passes room) (λ d. settled_push d es e) (λ s. sites_push s es e)
     (λ s. registered_push head s es e ∙ t.registered_is s)
     (record {
       entered =
@@ -63,14 +65,15 @@ keys_registered head es places s is = rw is (insts_same (step_at places s))
 pub walk_begins : (head : Head) (es : List Event) (stands : List ℕ) (places : List (Option Step)) (c from to : ℕ) (w : AWalk) →
     IsTied head es stands places (ToWalk c to) → c < head.possible → from ≡ slice_index stands c → (from ≡ to → ⊥) →
     IsAfter (keys_by places) [] w → (w.cpu ≡ c) × (w.from ≡ from) × (w.to ≡ to) →
+    has_room head es (WalkBegin head.possible c from to) ≡ true →
     IsTied head (es ++ WalkBegin head.possible c from to ∷ []) stands places (Walking c to w)
-walk_begins head es stands places c from to w t there is moves after walk_is =
+walk_begins head es stands places c from to w t there is moves after walk_is room =
     let e : Event = WalkBegin head.possible c from to in
     let b = t.due_is in
     let self : eqb c c ≡ true = eq-eqb c c refl in
     let entries : walk_entries c (es ++ e ∷ []) ≡ [] = walk_entries_push c es e ∙ rw self refl in
     tied_more head es stands places (ToWalk c to) (Walking c to w) e t tt
-    (walk_stands head es stands places c from to t there is moves) (λ d. settled_push d es e) (λ s. sites_push s es e)
+    (walk_stands head es stands places c from to t there is moves room) (λ d. settled_push d es e) (λ s. sites_push s es e)
     (λ s. registered_push head s es e ∙ t.registered_is s)
     (record {
       entered = entered_more head es e c to (operation_push es e) (registration_push es e) b.entered;
@@ -90,7 +93,7 @@ walk_begins head es stands places c from to w t there is moves after walk_is =
 -- where the walk leaves its processor is a state
 left_most : (answer : Answer) (c : ℕ) (K : ℕ → List ℕ) (from end to stood : ℕ) (entries : List Event) →
     IsWholeWalk c K (direction from end) (plan K from end) entries answer → from ≤ ONLINE → end ≤ ONLINE → to ≤ ONLINE →
-    stood ≤ ONLINE → stands_after answer to stood ≤ ONLINE
+    stood ≤ ONLINE → leaves_at answer to stood ≤ ONLINE
 left_most (Ok value) c K from end to stood entries whole from_most end_most to_most most = to_most
 left_most (Refused errno) c K from end to stood entries whole from_most end_most to_most most = most
 left_most (Fault code) c K from end to stood entries whole from_most end_most to_most most = most
@@ -100,7 +103,7 @@ left_most LogFull c K from end to stood entries whole from_most end_most to_most
 
 -- and is what its answer says
 left_same : (answer : Answer) (w : Walk) (flight : Option Walk) (to at stood : ℕ) → flight ≡ Some w → w.to ≡ to → at ≡ stood →
-    left_at answer flight at ≡ stands_after answer to stood
+    left_at answer flight at ≡ leaves_at answer to stood
 left_same (Ok value) w flight to at stood is goes same = rw is goes
 left_same (Refused errno) w flight to at stood is goes same = same
 left_same (Fault code) w flight to at stood is goes same = same
@@ -111,14 +114,14 @@ left_same LogFull w flight to at stood is goes same = same
 pub walk_ends : (head : Head) (es : List Event) (stands : List ℕ) (places : List (Option Step)) (c to : ℕ) (w : AWalk)
     (answer : Answer) → IsTied head es stands places (Walking c to w) → asked (keys_by places) w ≡ ask.Ended answer →
     c < length stands → c < head.possible → to ≤ ONLINE →
-    IsTied head (es ++ WalkEnd head.possible c answer ∷ []) (set stands c (stands_after answer to (slice_index stands c))) places
+    IsTied head (es ++ WalkEnd head.possible c answer ∷ []) (set stands c (leaves_at answer to (slice_index stands c))) places
     (End answer)
 walk_ends head es stands places c to w answer t ended there below most =
     let e : Event = WalkEnd head.possible c answer in
     let b = t.due_is in
     let self : eqb c c ≡ true = eq-eqb c c refl in
     record {
-      lawful = lawful_more head es e t.lawful (walked_stands head es stands places c to w answer t ended);
+      lawful = lawful_more head es e t.lawful (walked_stands head es stands places c to w answer t ended, refl);
       plain = t.plain;
       seated = seated_more head es e tt t.seated;
       quiet = quiet_more es e tt t.quiet;
@@ -138,7 +141,7 @@ walk_ends head es stands places c to w answer t ended there below most =
     }
   where
     now : ℕ
-    now = stands_after answer to (slice_index stands c)
+    now = leaves_at answer to (slice_index stands c)
 
     settled_after : (d : ℕ) → settled d es ≡ slice_index stands d → (b : Bool) → eqb c d ≡ b →
         cond b (left_at answer (walk d es) (settled d es)) (settled d es) ≡ slice_index (set stands c now) d
@@ -176,7 +179,7 @@ pub op_ends : (head : Head) (es : List Event) (stands : List ℕ) (places : List
     IsEntered head es c to → walking es ≡ [] → IsTied head (es ++ OpEnd head.possible answer ∷ []) stands places Idle
 op_ends head es stands places due c to answer t elsewhere stand entered still =
     let e : Event = OpEnd head.possible answer in
-    tied_more head es stands places due Idle e t (entered.of, c, to, entered.held, entered.leads) stand
+    tied_more head es stands places due Idle e t (entered.of, c, to, entered.held, entered.leads) (stand, refl)
     (λ d. settled_push d es e) (λ s. sites_push s es e)
     (λ s. registered_push head s es e ∙ elsewhere s)
     (record {

@@ -1,9 +1,11 @@
 -- Turns after one another.
-use Rattle.std.proofs.Common.{◌≡◌, Bool, true, false, ap, refl, ◌∙◌, arith}
+use Rattle.std.proofs.Common.{◌≡◌, Bool, true, false, not, ap, refl, ◌∙◌, arith}
 use Rattle.std.proofs.lemmas.Bool.{false≢true}
-use Rattle.hp_event.specs.declared.event.Op.{Op}
+use Rattle.hp_event.specs.declared.op.Op.{Op}
 use Rattle.hp_play.specs.declared.machine.Machine.{Machine}
-use Rattle.hp_play.specs.Machine.{is_of}
+use Rattle.hp_play.specs.declared.due.Due.{Due}
+use Rattle.hp_play.specs.declared.due.Due.TheVariants.{Operation}
+use Rattle.hp_play.specs.Machine.{is_of, is_in_flight}
 use Rattle.hp_play.specs.Parts.{Ready, Tied, Advances, Enters, is_entry_of}
 use Rattle.hp_play.proofs.PlaysLaws.{plays_more}
 
@@ -71,3 +73,9 @@ both_turn op answers a b c of enters idle turns waits = go (is_entry_of a) refl
     go true is = then (is_entry_of b) refl (entered op a b of (enters is))
     go false is =
         let same = idle is in rw same at (turns (ap (λ (m : Machine _). is_entry_of m) same ∙ is))
+
+-- an operation is in flight while it isn't answered
+pub flies : (due : Due) (answered : Bool) → (answered ≡ true → due ≡ Operation) → (answered ≡ false → is_in_flight due ≡ true) →
+    is_in_flight due ≡ not answered
+flies due true free flight = ap is_in_flight (free refl)
+flies due false free flight = flight refl

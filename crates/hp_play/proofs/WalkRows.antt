@@ -1,14 +1,15 @@
 -- The events of an `up` or a `down` stand: its begin or its refusal, its walk, and its ends.
-use Rattle.std.proofs.Common.{◌≡◌, ℕ, ◌<◌, false, nat_eq, Some, None, Option, List, slice_index, pos, refl, sym, ap, subst, ◌∙◌, arith}
+use Rattle.std.proofs.Common.{◌≡◌, ℕ, ◌<◌, true, false, nat_eq, Some, None, Option, List, slice_index, pos, inl, refl, sym, ap, subst, ◌∙◌, arith}
 use Rattle.std.proofs.lemmas.Bool.{eq-eqb}
 use Rattle.std.proofs.lemmas.Bool.Decides.{nat_tests}
-use Rattle.hp_event.specs.declared.event.Op.{Op}
-use Rattle.hp_event.specs.declared.event.Answer.{Answer}
-use Rattle.hp_event.specs.declared.event.Answer.TheVariants.{Ok}
+use Rattle.hp_event.specs.declared.op.Op.{Op}
+use Rattle.hp_event.specs.declared.answer.Answer.{Answer}
+use Rattle.hp_event.specs.declared.answer.Answer.TheVariants.{Ok}
 use Rattle.hp_event.specs.declared.head.Head.{Head}
 use Rattle.hp_event.specs.declared.event.Event.{Event}
 use Rattle.hp_event.specs.declared.event.Event.TheVariants.{Enter, WalkBegin}
 use Rattle.hp_model.specs.Lawful.{Stands}
+use Rattle.hp_model.specs.Room.{has_room}
 use Rattle.hp_model.specs.Refusals.{Passes}
 use Rattle.hp_model.specs.Registered.{keys, insts_of as insts_of_registered}
 use Rattle.hp_model.specs.Settled.{settled}
@@ -30,30 +31,32 @@ use Rattle.hp_play.proofs.Leading.{leads_map, leads_next}
 use Rattle.hp_play.proofs.TieParts.{idle_free}
 
 pub enter_stands : (head : Head) (es : List Event) (stands : List ℕ) (places : List (Option Step)) (op : Op) (c to : ℕ) →
-    IsTied head es stands places Idle → Leads op c to → Passes head es head.possible op → Stands head es (Enter head.possible op)
-enter_stands head es stands places op c to t leads passes =
-    record { free = idle_free head es t.seated t.due_is; takes_map = leads_map op c to leads; passes = passes }
+    IsTied head es stands places Idle → Leads op c to → Passes head es head.possible op →
+    has_room head es (Enter head.possible op) ≡ true → Stands head es (Enter head.possible op)
+enter_stands head es stands places op c to t leads passes room =
+    (record { free = idle_free head es t.seated t.due_is; takes_map = leads_map op c to leads; passes = passes }, room)
 
 differ : (a b : ℕ) → (a ≡ b → ⊥) → nat_eq a b ≡ false
 differ a b h = grind (arith, nat_tests)
 
 pub walk_stands : (head : Head) (es : List Event) (stands : List ℕ) (places : List (Option Step)) (c from to : ℕ) →
     IsTied head es stands places (ToWalk c to) → c < head.possible → from ≡ slice_index stands c → (from ≡ to → ⊥) →
-    Stands head es (WalkBegin head.possible c from to)
-walk_stands head es stands places c from to t there is moves =
+    has_room head es (WalkBegin head.possible c from to) ≡ true → Stands head es (WalkBegin head.possible c from to)
+walk_stands head es stands places c from to t there is moves room =
     let b = t.due_is in
-    let at : settled c es ≡ from = t.settled_is c there ∙ sym is in
-    record {
-      of = b.entered.of;
-      held = b.entered.held;
-      seat_is = b.entered.by_client;
-      no_walk = rw b.no_walk refl;
-      gives =
-          leads_next head es b.entered.of.before b.entered.of.op c to b.entered.leads ∙ rw (b.unanswered, at, differ from to moves) refl;
-      from_is = sym at;
-      no_reader = rw t.quiet.no_readers refl;
-      no_registration = rw b.entered.no_registration refl;
-    }
+    let at : settled c es ≡ from = t.settled_is c there ∙ sym is in (
+      record {
+        of = b.entered.of;
+        held = b.entered.held;
+        seat_is = b.entered.by_client;
+        no_walk = rw b.no_walk refl;
+        gives =
+            leads_next head es b.entered.of.before b.entered.of.op c to b.entered.leads ∙ rw (b.unanswered, at, differ from to moves) refl;
+        from_is = sym at;
+        no_wait = rw (t.quiet.no_readers, b.entered.no_registration) refl;
+      },
+      room,
+    )
 
 -- a processor that stands there already doesn't walk
 pub still_ends : (head : Head) (es : List Event) (stands : List ℕ) (places : List (Option Step)) (c to : ℕ) →
@@ -62,7 +65,7 @@ pub still_ends : (head : Head) (es : List Event) (stands : List ℕ) (places : L
 still_ends head es stands places c to t there is =
     let b = t.due_is in
     let at : settled c es ≡ to = t.settled_is c there ∙ is in
-    record {
+    inl (record {
       of = b.entered.of;
       held = b.entered.held;
       seat_is = b.entered.by_client;
@@ -70,19 +73,19 @@ still_ends head es stands places c to t there is =
       gives =
           leads_next head es b.entered.of.before b.entered.of.op c to b.entered.leads
           ∙ rw (b.unanswered, at, eq-eqb to to refl) refl;
-    }
+    })
 
 pub end_stands : (head : Head) (es : List Event) (stands : List ℕ) (places : List (Option Step)) (answer : Answer) →
     IsTied head es stands places (End answer) → OpEnds head es head.possible answer
 end_stands head es stands places answer t =
     let b = t.due_is in
-    record {
+    inl (record {
       of = b.entered.of;
       held = b.entered.held;
       seat_is = b.entered.by_client;
       no_walk = rw b.no_walk refl;
       gives = leads_next head es b.entered.of.before b.entered.of.op b.cpu b.to b.entered.leads ∙ rw b.answered refl;
-    }
+    })
 
 -- the keys of the table are those at the walk's begin
 pub insts_same : (place : Option Step) → insts_of_registered (registered_by place) ≡ insts_of place

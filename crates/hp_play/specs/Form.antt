@@ -1,13 +1,14 @@
 -- The form of script that is played today: processors, subsystems with the rules by which their callbacks answer,
 -- and one actor that registers and deregisters, adds and deletes instances, and brings processors up and takes them
 -- down, in any order. This project's own.
-use Rattle.std.specs.Prelude.{◌≡◌, ℕ, ◌≤◌, Bool, true, false, ◌&&◌, ◌||◌, ◌==◌, nat_le, IsTrue, List, [], ◌∷◌, ◌++◌, length, codes, decimal, All}
+use Rattle.std.specs.Prelude.{◌≡◌, ℕ, ◌≤◌, Bool, true, false, IsTrue, List, [], ◌∷◌, ◌++◌, length, codes, decimal, All}
 use Rattle.std.specs.List.{flat_map, count_by}
 use Rattle.hp_states.specs.declared.limits.TheConstants.{MAX_CPUS, MAX_SUBS, MAX_NAME_LEN, MAX_INSTANCE, MAX_SCRIPT_BYTES}
+use Rattle.hp_states.specs.Names.{is_name_byte}
 use Rattle.hp_play.specs.declared.limits.TheConstants.{MAX_NAMED_CPU, MAX_PLAYED, MAX_NAMED_STATE}
-use Rattle.hp_event.specs.declared.event.Op.{Op}
-use Rattle.hp_event.specs.declared.event.Op.TheVariants.{Up, Down, Setup, Remove, Add, Del}
-use Rattle.hp_event.specs.declared.event.Form.{Form}
+use Rattle.hp_event.specs.declared.op.Op.{Op}
+use Rattle.hp_event.specs.declared.op.Op.TheVariants.{Up, Down, Setup, Remove, Add, Del}
+use Rattle.hp_event.specs.declared.op.Form.{Form}
 use Rattle.hp_event.specs.declared.head.Sub.{Sub}
 use Rattle.hp_event.specs.declared.head.Head.{Head}
 use Rattle.hp_model.specs.Words.{line}
@@ -22,14 +23,7 @@ pub record Lines : Type 0 where
   pub actor : List ℕ
   pub ops : List Op
 
--- letters, digits and `:` `_` `/` `.` `-`
-abbrev pub is_name_byte : ℕ → Bool
-is_name_byte b =
-    (nat_le 97 b && nat_le b 122)
-    || (nat_le 65 b && nat_le b 90)
-    || (nat_le 45 b && nat_le b 58) || b == 95
-
--- the actor's name is 1 to 32 such bytes
+-- the actor's name is 1 to 32 bytes that can stand in one; a dash alone is one too
 pub record IsName (name : List ℕ) : Type 0 where
   pub some : 1 ≤ length name
   pub few : length name ≤ MAX_NAME_LEN

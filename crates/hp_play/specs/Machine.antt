@@ -1,21 +1,20 @@
 -- What the machine keeps true of its parts between two turns. This project's own.
-use Rattle.std.specs.Prelude.{◌≡◌, ℕ, ◌+◌, ◌*◌, ◌-◌, ◌<◌, ◌≤◌, Bool, true, false, Option, Some, None, IsSome, if◌then◌else◌, List, [], ◌∷◌, ◌++◌, length, sum_by, not, ◌&&◌, slice_set, AllPairs}
-use Rattle.hp_states.specs.declared.limits.TheConstants.{MAX_CPUS, ONLINE}
+use Rattle.std.specs.Prelude.{◌≡◌, ℕ, ◌+◌, ◌*◌, ◌-◌, ◌<◌, ◌≤◌, Bool, true, false, Option, Some, None, IsSome, if◌then◌else◌, List, [], ◌∷◌, ◌++◌, length, not, ◌&&◌, slice_set, AllPairs}
+use Rattle.hp_states.specs.declared.limits.TheConstants.{MAX_CPUS, MAX_EVENTS, ONLINE}
 use Rattle.hp_states.specs.Sections.{is_ap_state}
-use Rattle.hp_states.specs.declared.section.Dir.{Dir}
-use Rattle.hp_states.specs.declared.section.Dir.TheVariants.{Up, Down}
+use Rattle.hp_states.specs.declared.dir.Dir.{Dir}
+use Rattle.hp_states.specs.declared.dir.Dir.TheVariants.{Up, Down}
 use Rattle.hp_states.specs.Rules.{Site, counts_of}
-use Rattle.hp_states.specs.declared.section.Place.{Place}
-use Rattle.hp_event.specs.declared.event.Key.{Key}
-use Rattle.hp_event.specs.declared.event.Answer.{Answer}
-use Rattle.hp_event.specs.declared.event.Answer.TheVariants.{Ok, Refused, Fault, Stuck, LogFull}
-use Rattle.hp_event.specs.declared.event.How.{How}
-use Rattle.hp_event.specs.declared.event.How.TheVariants.{Empty}
+use Rattle.hp_states.specs.declared.place.Place.{Place}
+use Rattle.hp_event.specs.declared.key.Key.{Key}
+use Rattle.hp_event.specs.declared.answer.Answer.{Answer}
+use Rattle.hp_event.specs.declared.how.How.{How}
+use Rattle.hp_event.specs.declared.how.How.TheVariants.{Empty}
 use Rattle.hp_model.specs.How.{how_answered}
 use Rattle.hp_event.specs.Story.{Story}
 use Rattle.hp_event.specs.declared.event.Event.{Event}
 use Rattle.hp_event.specs.declared.head.Sub.{Sub}
-use Rattle.hp_event.specs.declared.event.Op.{Op}
+use Rattle.hp_event.specs.declared.op.Op.{Op}
 use Rattle.hp_model.specs.Events.{is_registration_op}
 use Rattle.hp_model.specs.MapLock.{is_map_op}
 use Rattle.hp_play.specs.declared.due.Due.{Due}
@@ -23,14 +22,14 @@ use Rattle.hp_play.specs.declared.due.Due.TheVariants.{Operation, Registering, W
 use Rattle.hp_play.specs.Form.{IsOp, is_setup}
 use Rattle.hp_play.specs.declared.limits.TheConstants.{MAX_PLAYED}
 use Rattle.hp_model.specs.How.{is_nocalls}
-use Rattle.hp_table.specs.Keys.{keys_of}
+use Rattle.hp_table.specs.Totals.{key_total}
 use Rattle.hp_reg.specs.declared.step.RegStep.{RegStep as RegAsk}
 use Rattle.hp_reg.specs.declared.step.RegStep.TheVariants as regask
 use Rattle.hp_reg.specs.Asked.{asked as asked_of}
 use Rattle.hp_reg.specs.Concerned.{key_at, cpus_at}
 use Rattle.hp_reg.specs.CallsLeft.{calls_left}
 use Rattle.hp_table.specs.Kept.{Kept, answer_at}
-use Rattle.hp_event.specs.declared.event.Op.TheVariants as op
+use Rattle.hp_event.specs.declared.op.Op.TheVariants as op
 use Rattle.hp_model.specs.RegistrationShape.{is_adding}
 use Rattle.hp_model.specs.Suspend.{is_ok}
 use Rattle.hp_table.specs.Instances.{without_instance}
@@ -80,13 +79,14 @@ abbrev pub IsCounted : ℕ → Option Step → Type 0
 IsCounted events None = Unit {0}
 IsCounted events (Some step) = step.kept.made ≤ events
 
--- how many keys the states of the table have
-abbrev pub key_total : List (Option Step) → ℕ
-key_total places = sum_by keys_of places
-
 -- the most entries of a walk, with the most keys that the operations of a script can make
 abbrev pub walk_room : ℕ
 walk_room = 3 * MAX_PLAYED
+
+-- what a journal keeps free beside what the machine promised: the leave of each seat, the end of an operation, and the
+-- need of one event more, which is a walk's at most
+abbrev pub margin : ℕ
+margin = MAX_CPUS + 2 + (walk_room + 4)
 
 -- how many events the operation in flight makes at most from here on
 abbrev pub events_left : Due → (absent settled : List ℕ) → List (Option Step) → ℕ
@@ -129,14 +129,6 @@ is_entry (End answer) absent settled places = false
 abbrev pub Asks : Ask → Key → Dir → Place → Type 0
 Asks step key d place = (first : Bool) × (step ≡ ask.Call key d place first)
 
--- where a processor stands after its walk: where that went to, where it got stuck, or where it stood
-abbrev pub stands_after : Answer → (to stood : ℕ) → ℕ
-stands_after (Ok value) to stood = to
-stands_after (Refused errno) to stood = stood
-stands_after (Fault code) to stood = stood
-stands_after (Stuck first second at) to stood = at
-stands_after LogFull to stood = stood
-
 -- whether an operation is in flight
 abbrev pub is_in_flight : Due → Bool
 is_in_flight Operation = false
@@ -169,6 +161,7 @@ pub record IsReady (journal : Story) (settled : List ℕ) (places : List (Option
   pub states : length places ≡ ONLINE + 1
   pub in_range : IsInRange due (length settled) places
   pub room : events_left due journal.head.absent settled places ≤ journal.promised
+  pub fits : length journal.events + journal.promised + margin ≤ MAX_EVENTS
   pub few_keys : key_total places ≤ MAX_PLAYED
   pub counted : (s : ℕ) → IsCounted (length journal.events) (step_at places s)
 

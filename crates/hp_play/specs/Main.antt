@@ -4,7 +4,7 @@ use Rattle.std.specs.Io.KnownBytes.{prepend_known, append_known, IsAtEnd}
 use Rattle.hp_states.specs.declared.limits.TheConstants.{MAX_SCRIPT_BYTES, ONLINE}
 use Rattle.hp_event.specs.declared.event.Event.{Event}
 use Rattle.hp_event.specs.declared.head.Head.{Head}
-use Rattle.hp_event.specs.declared.event.Op.{Op}
+use Rattle.hp_event.specs.declared.op.Op.{Op}
 use Rattle.hp_play.specs.declared.command.Command.{Command}
 use Rattle.hp_play.specs.Commands.{IsCommand, output}
 use Rattle.hp_play.specs.declared.error.ScriptKind.TheVariants.{NotBuilt}
@@ -16,9 +16,9 @@ use Rattle.hp_play.specs.Form.{Lines, IsScript, head_of}
 abbrev pub usage_line : List ℕ
 usage_line = codes "usage: hp play|replay|states|report|gen|bench [--seed N] [--size N]" ++ 10 ∷ []
 
--- What is written of a head and the operations of its actor, and what the rack then holds: there is one journal of them,
--- of which the command's output is written. The rack has as many hooks as before, and the last of them, those of the
--- registered states in rising number, were called as often as the journal says.
+-- What is written of a head and the operations of its actor, and how often the rack's hooks were called then: there is one
+-- journal of them, of which the command's output is written. The rack has as many hooks as before, and the last of them, one
+-- for each registered state, were called as often as the journal says of these states, in rising number.
 pub record WasPlayed (command : Command) (head : Head) (ops : List Op) (hooks : ℕ) (made written : List ℕ) : Type 0 where
   pub events : List Event
   pub journal : IsJournalOf head ops events

@@ -1,7 +1,7 @@
 -- What the reader of scripts answers. This project's own.
 use Rattle.std.specs.Prelude.{◌≡◌, ℕ, List, Result, Ok, Err, Option, Some, None}
 use Rattle.std.specs.Global.{Vec}
-use Rattle.hp_event.specs.declared.event.Op.{Op}
+use Rattle.hp_event.specs.declared.op.Op.{Op}
 use Rattle.hp_play.specs.declared.error.ScriptKind.TheVariants.{NotBuilt}
 use Rattle.hp_play.specs.declared.error.ParseError.{ParseError}
 use Rattle.hp_play.specs.declared.error.ParseError.TheVariants.{Bad, NoMemory}

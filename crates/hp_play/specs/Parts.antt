@@ -1,21 +1,21 @@
 -- What is so of a machine, and what a turn makes of it. This project's own.
 use Rattle.std.specs.Prelude.{◌≡◌, ℕ, ◌+◌, ◌<◌, ◌≤◌, Bool, true, false, is_some, if◌then◌else◌, Option, Some, None, List, [], length}
-use Rattle.hp_event.specs.declared.event.Op.{Op}
+use Rattle.hp_event.specs.declared.op.Op.{Op}
 use Rattle.hp_model.specs.Resolved.{resolved}
 use Rattle.hp_model.specs.Registered.{registered}
 use Rattle.hp_table.specs.Step.{step_at}
 use Rattle.hp_model.specs.Refusals.{refusal}
 use Rattle.hp_play.specs.declared.due.Due.TheVariants.{Operation}
 use Rattle.hp_play.specs.declared.machine.Machine.{Machine}
-use Rattle.hp_play.specs.Machine.{IsReady, work, is_entry, is_of, is_in_flight, key_total}
+use Rattle.hp_play.specs.Machine.{IsReady, work, is_entry, is_of, is_in_flight}
 use Rattle.hp_play.specs.Tied.{IsTied, IsEntered, registered_by}
 use Rattle.hp_model.specs.Walks.{walking}
 use Rattle.hp_model.specs.StandsOperations.{OpEnds}
-use Rattle.hp_event.specs.declared.event.Answer.{Answer}
+use Rattle.hp_event.specs.declared.answer.Answer.{Answer}
 use Rattle.hp_play.specs.Plays.{Plays}
 use Rattle.hp_event.specs.declared.head.Head.{Head}
 use Rattle.hp_play.specs.Played.{IsJournalOf}
-use Rattle.hp_play.specs.Racked.{made_of}
+use Rattle.hp_table.specs.Totals.{key_total, made_of}
 
 -- ready for a turn
 abbrev pub Ready : {H : Type 0} → Machine H → Type 0

@@ -1,4 +1,4 @@
--- What the rack holds at the end: the hooks of the registered states, each called as often as the journal says. This
+-- How often the rack's last hooks were called, at the end: as often as the journal says of the registered states. This
 -- project's own.
 use Rattle.std.specs.Prelude.{◌≡◌, ℕ, Option, Some, None, List, [], ◌∷◌, ◌++◌, length}
 use Rattle.std.specs.List.{flat_map}
@@ -7,7 +7,6 @@ use Rattle.hp_event.specs.declared.head.Head.{Head}
 use Rattle.hp_model.specs.Lists.{numbers}
 use Rattle.hp_model.specs.Calls.{sites}
 use Rattle.hp_model.specs.Registered.{Registered, registered}
-use Rattle.hp_table.specs.Step.{Step}
 
 abbrev pub calls_of : (calls : ℕ) → Option Registered → List ℕ
 calls_of n None = []
@@ -20,14 +19,6 @@ calls_at head events s = calls_of (length (sites s events)) (registered head s e
 -- of the registered states below a number, in rising number
 unfoldable pub calls_below : Head → List Event → ℕ → List ℕ
 calls_below head events n = flat_map (calls_at head events) (numbers n)
-
--- how often the hook of a place was called
-abbrev pub made_at : Option Step → List ℕ
-made_at None = []
-made_at (Some step) = step.kept.made ∷ []
-
-abbrev pub made_of : List (Option Step) → List ℕ
-made_of places = flat_map made_at places
 
 -- the item, if there is one
 abbrev pub listed : {A : Type 0} → Option A → List A

@@ -4,15 +4,16 @@ use Rattle.std.specs.Prelude.{ℕ, suc, zero, ◌+◌, ◌-◌, ◌*◌, Bool, t
 use Rattle.std.specs.List.{list_all, count_by}
 use Rattle.std.specs.Option.{option_or}
 use Rattle.hp_states.specs.declared.limits.TheConstants.{MAX_CPUS, MAX_SUBS, MAX_RULES, MAX_RULE_CPU, MAX_NAME_LEN, MAX_INSTANCE, MAX_EVENTS, MAX_CODE, MAX_SCRIPT_BYTES}
-use Rattle.hp_states.specs.declared.section.Dir.{Dir}
-use Rattle.hp_states.specs.declared.section.Dir.TheVariants as dir
+use Rattle.hp_states.specs.declared.dir.Dir.{Dir}
+use Rattle.hp_states.specs.declared.dir.Dir.TheVariants as dir
 use Rattle.hp_states.specs.declared.plan.Rule.{Rule}
-use Rattle.hp_event.specs.declared.event.Op.{Op}
-use Rattle.hp_event.specs.declared.event.Op.TheVariants.{Up, Down, Setup, Remove, Add, Del}
-use Rattle.hp_event.specs.declared.event.Form.{Form}
+use Rattle.hp_event.specs.declared.op.Op.{Op}
+use Rattle.hp_event.specs.declared.op.Op.TheVariants.{Up, Down, Setup, Remove, Add, Del}
+use Rattle.hp_event.specs.declared.op.Form.{Form}
 use Rattle.hp_event.specs.declared.head.Sub.{Sub}
 use Rattle.hp_play.specs.declared.limits.TheConstants.{MAX_NAMED_CPU, MAX_PLAYED, MAX_NAMED_STATE, MAX_DIGITS}
-use Rattle.hp_play.specs.Form.{Lines, is_name_byte, is_setup}
+use Rattle.hp_states.specs.Names.{is_name_byte}
+use Rattle.hp_play.specs.Form.{Lines, is_setup}
 
 infixl 10 ◌>>=◌
 abbrev pub ◌>>=◌ : {A B : Type 0} → Option A → (A → Option B) → Option B

@@ -1,18 +1,18 @@
 -- What the parts of the machine say of the events of its journal: where processors stand, what is registered, who
 -- sits, and what is in flight. This project's own.
-use Rattle.std.specs.Prelude.{◌≡◌, ℕ, ◌<◌, ◌≤◌, true, ◌==◌, if◌then◌else◌, Option, Some, None, IfSome, List, [], ◌∷◌, length, slice_index}
+use Rattle.std.specs.Prelude.{◌≡◌, ℕ, ◌+◌, ◌<◌, ◌≤◌, true, ◌==◌, if◌then◌else◌, Option, Some, None, IfSome, List, [], ◌∷◌, length, slice_index}
 use Rattle.hp_states.specs.declared.limits.TheConstants.{ONLINE, OFFLINE}
 use Rattle.hp_states.specs.Rules.{counts_of}
-use Rattle.hp_event.specs.declared.event.Op.TheVariants as op
+use Rattle.hp_event.specs.declared.op.Op.TheVariants as op
 use Rattle.hp_event.specs.declared.event.Role.TheVariants.{Client}
-use Rattle.hp_event.specs.declared.event.Op.{Op}
-use Rattle.hp_event.specs.declared.event.Answer.{Answer}
+use Rattle.hp_event.specs.declared.op.Op.{Op}
+use Rattle.hp_event.specs.declared.answer.Answer.{Answer}
 use Rattle.hp_event.specs.declared.head.Sub.{Sub}
 use Rattle.hp_event.specs.declared.head.Head.{Head}
 use Rattle.hp_event.specs.declared.event.Event.{Event}
 use Rattle.hp_model.specs.Lists.{without}
 use Rattle.hp_model.specs.Lawful.{IsLawful}
-use Rattle.hp_model.specs.Seats.{role_of, ap_seat}
+use Rattle.hp_model.specs.Seats.{role_of, ap_seat, seats}
 use Rattle.hp_model.specs.Readers.{readers, reading_since}
 use Rattle.hp_model.specs.Suspend.{disabled}
 use Rattle.hp_model.specs.Armed.{armed}
@@ -35,7 +35,7 @@ use Rattle.hp_walk.specs.Cursor.{cpu_of, from_of, to_of}
 use Rattle.hp_walk.specs.After.{IsAfter}
 use Rattle.hp_reg.specs.Progress.{Progress}
 use Rattle.hp_reg.specs.After.{IsAfter as IsAfter_of}
-use Rattle.hp_reg.proofs.Callers.{IsKnown}
+use Rattle.hp_reg.specs.Known.{IsKnown}
 use Rattle.hp_model.specs.Subsystems.{sub_numbered}
 
 -- a head of the form: every possible processor is present
@@ -47,6 +47,7 @@ pub record IsSeated (head : Head) (events : List Event) : Type 0 where
   pub aps : (c : ℕ) → c < head.possible → ap_seat c events ≡ Some c
   pub client : role_of head.possible events ≡ Some Client
   pub one_client : (k : ℕ) → role_of k events ≡ Some Client → k ≡ head.possible
+  pub few : length (seats events) ≤ head.possible + 1
 
 -- nobody reads, hotplug is enabled, no processor is armed
 pub record IsQuiet (events : List Event) : Type 0 where

@@ -1,7 +1,13 @@
-//! The words of the command line.
+//! The commands: the words of the command line, and what each writes.
 
-ghost use Rattle.std.specs.Prelude.{◌≡◌, IfSome, IfNone, map, string_bytes};
-ghost use Rattle.hp_play.specs.Commands.{IsCommand, word_of};
+ghost use Rattle.std.specs.Prelude.{◌≡◌, IfOk, IfSome, IfNone, map, string_bytes};
+ghost use Rattle.hp_play.specs.Commands.{HasSubsOf, IsCommand, output, word_of};
+
+use hp_event::Journal;
+use hp_hook::Hook;
+use hp_states::NoMemory;
+use hp_table::Table;
+use std::alloc::Global;
 
 /// What the program is asked for.
 #[derive(Clone, Copy, Debug)]
@@ -35,4 +41,47 @@ fn command_named(word: &str) -> Option<Command>
         return Some(Command::States);
     }
     None
+}
+
+/// What a command writes of a journal: its text and its summary, or the states file after it.
+///
+/// The table has the subsystem at each state that the journal has. Takes memory for the text; where
+/// there is none: `NoMemory`.
+pub fn output<H: Hook>(
+    alloc: Global,
+    command: Command,
+    journal: &Journal,
+    table: &Table<H>,
+) -> Result<Vec<u8>, NoMemory>
+    requires { HasSubsOf journal.now.head journal.now.events table.now }
+    ensures { IfOk result (λ text. text.items ≡ output command journal.now.head journal.now.events) }
+{
+    match command {
+        Command::Play => journal_and_summary(alloc, journal),
+        Command::States => states_file(alloc, journal, table),
+    }
+}
+
+/// The text of the journal, and then its summary.
+fn journal_and_summary(alloc: Global, journal: &Journal) -> Result<Vec<u8>, NoMemory>
+    ensures { IfOk result (λ text. text.items
+        ≡ output Command.Play journal.now.head journal.now.events) }
+{
+    let mut text = hp_print::journal_text(alloc, journal)?;
+    let summary = hp_print::summary(alloc, journal)?;
+    text.extend_from_slice(&summary)?;
+    Ok(text)
+}
+
+/// The states file after the journal.
+fn states_file<H: Hook>(
+    alloc: Global,
+    journal: &Journal,
+    table: &Table<H>,
+) -> Result<Vec<u8>, NoMemory>
+    requires { HasSubsOf journal.now.head journal.now.events table.now }
+    ensures { IfOk result (λ text. text.items
+        ≡ output Command.States journal.now.head journal.now.events) }
+{
+    hp_files::show_states(alloc, journal.head(), table)
 }

@@ -4,7 +4,7 @@ ghost use Rattle.std.specs.Prelude.{◌≡◌, Some, IfOk};
 ghost use Rattle.hp_play.specs.declared.error.ParseError.TheVariants.{NoMemory};
 ghost use Rattle.hp_play.specs.Refusals.{error_text, kind_text, refusal_line};
 
-use hp_event::NoMemory;
+use hp_states::NoMemory;
 use std::alloc::{AllocError, AllocFailed, Global};
 use std::error::Error;
 use std::fmt;

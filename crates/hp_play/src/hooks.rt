@@ -2,12 +2,14 @@
 
 ghost use Rattle.std.specs.Prelude.{◌≡◌, ◌≢◌, ℕ, ◌<◌, ◌++◌, [], ◌∷◌, OnOk, IfSome, IfNone, None, is_some, map, length, slice_set, true};
 ghost use Rattle.hp_table.specs.Step.{step_at};
-ghost use Rattle.hp_table.specs.Instances.{has_instance, instances_at, is_multi_at};
+ghost use Rattle.hp_table.specs.Instances.{instances_at};
+ghost use Rattle.hp_table.specs.Totals.{made_at};
 ghost use Rattle.hp_play.specs.Form.{is_setup};
-ghost use Rattle.hp_play.specs.Racked.{listed, made_at};
+ghost use Rattle.hp_play.specs.Racked.{listed};
 
-use hp_event::{NoMemory, Op};
+use hp_event::Op;
 use hp_hook::{Hook, Rack};
+use hp_states::NoMemory;
 use hp_table::Table;
 
 /// The hook of an operation: a setup takes the rack's last.
@@ -52,27 +54,6 @@ pub fn retire_hook<H: Hook>(table: &mut Table<H>, state: u32) -> Option<H>
     ensures made { map (λ h. H.made h) (listed result) ≡ made_at (step_at table.old state) }
     ensures others { (s : ℕ) → s ≢ state → step_at table.new s ≡ step_at table.old s }
 {
-    clear(table, state);
+    table.clear_instances(state);
     take_hook(table, state)
-}
-
-/// Takes the instances of a state out of the table.
-fn clear<H: Hook>(table: &mut Table<H>, state: u32)
-    ensures bare { instances_at table.new state ≡ [] }
-    ensures made { made_at (step_at table.new state) ≡ made_at (step_at table.old state) }
-    ensures others { (s : ℕ) → s ≢ state → step_at table.new s ≡ step_at table.old s }
-{
-    while let Some(inst) = newest(table, state) {
-        if table.remove_instance(state, inst).is_err() {
-            unreachable!();
-        }
-    }
-}
-
-/// The newest instance of a state, if it has one.
-fn newest<H: Hook>(table: &Table<H>, state: u32) -> Option<u32>
-    ensures some { IfSome result (λ inst. (is_multi_at table.now state ≡ true) × (has_instance table.now state inst ≡ true)) }
-    ensures none { IfNone result (instances_at table.now state ≡ []) }
-{
-    table.instances(state).first().copied()
 }

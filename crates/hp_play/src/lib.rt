@@ -22,6 +22,8 @@ mod tests_downs;
 #[cfg(test)]
 mod tests_faults;
 #[cfg(test)]
+mod tests_memory;
+#[cfg(test)]
 mod tests_operations;
 #[cfg(test)]
 mod tests_reader;

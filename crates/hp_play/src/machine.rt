@@ -5,26 +5,24 @@
 
 ghost use Rattle.std.specs.Prelude.{◌≡◌, ℕ, ◌+◌, ◌-◌, ◌<◌, ◌≤◌, Some, None, true, false, IfOk, IfSome, IfNone, IsSome, IsTrue, OnOk, OnErr, List, [], ◌∷◌, ◌++◌, map, length, slice_index};
 ghost use Rattle.hp_states.specs.Rules.{site_at};
-ghost use Rattle.hp_event.specs.declared.event.Op.{Op as AnOp};
+ghost use Rattle.hp_event.specs.declared.op.Op.{Op as AnOp};
 ghost use Rattle.hp_model.specs.Subsystems.{names_sub};
 ghost use Rattle.hp_model.specs.Refusals.{refusal};
 ghost use Rattle.hp_states.specs.Sections.{can_fail};
-ghost use Rattle.hp_play.specs.Machine.{IsCounted, entered_step, has_callback_by, how_by, is_in_flight, key_total, pushed, seat_at};
+ghost use Rattle.hp_play.specs.Machine.{IsCounted, entered_step, has_callback_by, how_by, is_in_flight, margin, pushed, seat_at};
 ghost use Rattle.hp_table.specs.Step.{step_at, changed_at};
 ghost use Rattle.hp_play.specs.Tied.{IsPlainHead, IsNew};
 ghost use Rattle.hp_model.specs.Heads.{IsHead};
 ghost use Rattle.hp_model.specs.Run.{admissions};
-ghost use Rattle.hp_play.specs.Commands.{output};
-ghost use Rattle.hp_play.specs.Racked.{made_of};
+ghost use Rattle.hp_table.specs.Totals.{key_total, made_of};
 ghost use Rattle.hp_play.specs.Parts.{Ready, Tied, Advances, hooks_of};
 
-use crate::command::Command;
 use crate::due::Due;
 use crate::hooks::{keep, retire_hook};
 use crate::limits::MAX_PLAYED;
-use hp_event::{Event, Head, How, Journal, JournalError, Key, NoMemory, Op, Role};
+use hp_event::{Event, Head, How, Journal, JournalError, Key, Op, Role};
 use hp_hook::{Hook, Rack};
-use hp_states::{Dir, MAX_CPUS, MAX_EVENTS, OFFLINE, ONLINE, Place, is_ap, may_fail};
+use hp_states::{Dir, MAX_CPUS, MAX_EVENTS, NoMemory, ONLINE, Place, first_state, is_ap};
 use hp_table::Table;
 use std::alloc::Global;
 
@@ -58,7 +56,7 @@ impl<H: Hook> Machine<H> {
     {
         let mut settled = Vec::new(alloc);
         for cpu in 0..head.possible {
-            settled.push(if cpu == 0 { ONLINE } else { OFFLINE })?;
+            settled.push(first_state(cpu))?;
         }
         Ok(Machine {
             journal: Journal::new(alloc, head),
@@ -120,8 +118,7 @@ impl<H: Hook> Machine<H> {
 
     /// Who makes an entry on a processor at a state: at an AP state its own seat, else the client's.
     fn seat_at(&self, cpu: u32, state: u32) -> u32
-        requires cpus { length self.now.settled.items ≤ MAX_CPUS }
-        requires state { state ≤ ONLINE }
+        requires { length self.now.settled.items ≤ MAX_CPUS }
         ensures { result ≡ seat_at (length self.now.settled.items) cpu state }
     {
         if is_ap(state) { cpu } else { self.client() }
@@ -156,11 +153,8 @@ impl<H: Hook> Machine<H> {
         if !self.has_callback(key.state, dir) {
             return How::Empty;
         }
-        match self.table.call(key.state, cpu, key.inst, dir) {
-            0 => How::RanOk,
-            code if may_fail(dir, key.state, place) => How::RanFault(code),
-            code => How::Overruled(code),
-        }
+        let code = self.table.call(key.state, cpu, key.inst, dir);
+        How::of_answer(code, dir, key.state, place)
     }
 
     /// Makes one entry and writes it down.
@@ -210,7 +204,7 @@ impl<H: Hook> Machine<H> {
     /// Promises room to so many events more, which the journal has.
     fn promise(&mut self, events: u32) -> Result<(), NoMemory>
         requires ready { Ready self.old }
-        requires room { length self.old.journal.events + self.old.journal.promised + events ≤ MAX_EVENTS }
+        requires room { length self.old.journal.events + self.old.journal.promised + events + margin ≤ MAX_EVENTS }
         ensures ready { Ready self.new }
         ensures ok { OnOk result (self.new.journal
             ≡ record self.old.journal { promised = self.old.journal.promised + events }) }
@@ -237,37 +231,18 @@ impl<H: Hook> Machine<H> {
         self.journal.give_back(self.journal.promised());
     }
 
-    /// What a command writes.
-    pub fn text(&self, alloc: Global, command: Command) -> Result<Vec<u8>, NoMemory>
-        requires tied { Tied self.now }
-        requires free { self.now.due ≡ Due.Operation }
-        ensures { IfOk result (λ text. text.items ≡ output command self.now.journal.head self.now.journal.events) }
+    /// The journal so far.
+    pub fn journal(&self) -> &Journal
+        ensures { result.now ≡ self.now.journal }
     {
-        match command {
-            Command::Play => self.journal_and_summary(alloc),
-            Command::States => self.states_file(alloc),
-        }
+        &self.journal
     }
 
-    /// The text of the journal, and then its summary.
-    fn journal_and_summary(&self, alloc: Global) -> Result<Vec<u8>, NoMemory>
-        ensures { IfOk result (λ text. text.items
-            ≡ output Command.Play self.now.journal.head self.now.journal.events) }
+    /// What is registered.
+    pub fn table(&self) -> &Table<H>
+        ensures { result.now ≡ self.now.table }
     {
-        let mut text = hp_print::journal_text(alloc, &self.journal)?;
-        let summary = hp_print::summary(alloc, &self.journal)?;
-        text.extend_from_slice(&summary)?;
-        Ok(text)
-    }
-
-    /// The states file.
-    fn states_file(&self, alloc: Global) -> Result<Vec<u8>, NoMemory>
-        requires tied { Tied self.now }
-        requires free { self.now.due ≡ Due.Operation }
-        ensures { IfOk result (λ text. text.items
-            ≡ output Command.States self.now.journal.head self.now.journal.events) }
-    {
-        hp_files::show_states(alloc, self.journal.head(), &self.table)
+        &self.table
     }
 
     /// The hooks of the registered states go behind those of the rack, in rising state.

@@ -5,17 +5,17 @@ ghost use Rattle.hp_model.specs.Heads.{IsHead};
 ghost use Rattle.hp_play.specs.Form.{IsOp, is_setup};
 ghost use Rattle.hp_play.specs.Main.{WasPlayed};
 ghost use Rattle.hp_play.specs.Parts.{HasRun, Tied, hooks_of};
-ghost use Rattle.hp_play.specs.Racked.{EndsWith, made_of};
+ghost use Rattle.hp_play.specs.Racked.{EndsWith};
 ghost use Rattle.hp_play.specs.Tied.{IsPlainHead};
+ghost use Rattle.hp_table.specs.Totals.{made_of};
 
-use crate::command::Command;
+use crate::command::{Command, output};
 use crate::hooks::{hook_for, keep};
 use crate::limits::MAX_PLAYED;
 use crate::machine::Machine;
 use crate::script::Script;
-use hp_event::NoMemory;
 use hp_hook::{Hook, Rack};
-use hp_states::{MAX_CPUS, ONLINE};
+use hp_states::{MAX_CPUS, NoMemory, ONLINE};
 use std::alloc::Global;
 
 /// Plays a script on a machine of its own, by rounds: the machine, and the hooks that came back.
@@ -84,7 +84,7 @@ pub fn play<H: Hook>(
         (map (λ h. H.made h) rack.new.hooks.items) text.items) }
 {
     let (machine, spent) = run(alloc, script, rack)?;
-    let text = machine.text(alloc, command)?;
+    let text = output(alloc, command, machine.journal(), machine.table())?;
     put_back(machine, spent, rack)?;
     Ok(text)
 }

@@ -21,7 +21,7 @@ pub(crate) const TWO_STARTUPS: &[u8] = b"\
     setup 150 2\n\
     up 1\n";
 
-const TWO_STARTUPS_PLAYED: &[u8] = b"\
+pub(crate) const TWO_STARTUPS_PLAYED: &[u8] = b"\
     cpuhp journal 1\n\
     cpus 2\n\
     absent -\n\
@@ -135,14 +135,14 @@ pub(crate) fn some_hooks(alloc: Global, count: u32) -> Result<Rack<ScriptHook>, 
 }
 
 /// A source of these bytes.
-fn source_of(alloc: Global, bytes: &[u8]) -> Result<MemSource, AllocError>
+pub(crate) fn source_of(alloc: Global, bytes: &[u8]) -> Result<MemSource, AllocError>
     ensures { IfOk result (λ source. source.faults ≡ 0) }
 {
     Ok(MemSource::new(alloc, Vec::from_slice(alloc, bytes)?))
 }
 
 /// A sink that has room for what is written here, so that it takes no more memory.
-fn ample_sink(alloc: Global) -> Result<MemSink, AllocError>
+pub(crate) fn ample_sink(alloc: Global) -> Result<MemSink, AllocError>
     ensures { IfOk result (λ sink. sink.faults ≡ 0) }
 {
     let mut sink = MemSink::new(alloc);
@@ -303,20 +303,16 @@ fn hooks_of_the_caller_are_called(rt: HostRuntime) -> Result<(), Fail> {
 #[test]
 fn each_failing_read_is_told(rt: HostRuntime) -> Result<(), Fail> {
     let failed = fail_reads(&rt, rt.alloc(), TWO_STARTUPS)?;
-    assert!(rt;
-        9 <= failed && failed < 20,
-        "88 bytes are read by tens, not in {failed} calls"
-    );
+    // 88 bytes by tens, and the end
+    assert_eq!(rt; failed, 10);
     Ok(())
 }
 
 #[test]
 fn each_failing_write_is_told(rt: HostRuntime) -> Result<(), Fail> {
     let failed = fail_writes(&rt, rt.alloc(), TWO_STARTUPS, TWO_STARTUPS_PLAYED)?;
-    assert!(rt;
-        6 <= failed && failed < 20,
-        "579 bytes are written by hundreds, not in {failed} calls"
-    );
+    // 579 bytes by hundreds
+    assert_eq!(rt; failed, 6);
     Ok(())
 }
 

@@ -265,19 +265,15 @@ fn a_walk_back_calls_what_its_journal_says(rt: HostRuntime) -> Result<(), Fail> 
 #[test]
 fn a_failing_read_of_a_walk_back_is_told(rt: HostRuntime) -> Result<(), Fail> {
     let failed = fail_reads(&rt, rt.alloc(), ROLLBACK_OF_UP)?;
-    assert!(rt;
-        11 <= failed && failed < 22,
-        "104 bytes are read by tens, not in {failed} calls"
-    );
+    // 104 bytes by tens, and the end
+    assert_eq!(rt; failed, 12);
     Ok(())
 }
 
 #[test]
 fn a_failing_write_of_a_walk_back_is_told(rt: HostRuntime) -> Result<(), Fail> {
     let failed = fail_writes(&rt, rt.alloc(), ROLLBACK_OF_UP, ROLLBACK_OF_UP_PLAYED)?;
-    assert!(rt;
-        7 <= failed && failed < 21,
-        "619 bytes are written by hundreds, not in {failed} calls"
-    );
+    // 619 bytes by hundreds
+    assert_eq!(rt; failed, 7);
     Ok(())
 }

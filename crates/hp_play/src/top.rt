@@ -11,10 +11,9 @@ use crate::error::{ParseError, refusal_line};
 use crate::limits::MAX_PLAYED;
 use crate::reader::parse;
 use crate::run::play;
-use hp_event::NoMemory;
 use hp_hook::{Hook, Rack};
 use hp_io::{Failed, ReadError, Sink, Source, read_up_to, write_all};
-use hp_states::MAX_SCRIPT_BYTES;
+use hp_states::{MAX_SCRIPT_BYTES, NoMemory};
 use std::alloc::Global;
 
 /// Why nothing is written but perhaps a line.
@@ -140,10 +139,10 @@ fn played<S: Source, H: Hook>(
 /// | 5 | memory was wanting | nothing |
 ///
 /// For the statuses 0 and 2 the source was read to its end, or to one byte past the most bytes that
-/// a script has. What is written under status 0 is of one journal. It is the run of the script's actor by rounds, and lawful:
-/// `specs/Played.antt` says what is so of it. The rack then has as many hooks as before; the last are
-/// those of the registered states, in rising state, each called as often as the journal says. The
-/// statuses are this project's own.
+/// a script has. What is written under status 0 is of one journal. It is a run of the script's actor
+/// by rounds, and lawful: `specs/Played.antt` says what is so of it. The rack then has as many hooks
+/// as before; the last, one for each registered state, were called as often as the journal says of
+/// these states, in rising number. The statuses are this project's own.
 pub fn hp_main<S: Source, K: Sink, H: Hook>(
     alloc: Global,
     words: &Vec<String>,

@@ -5,13 +5,13 @@
 ghost use Rattle.std.specs.Prelude.{◌≡◌, ◌≤◌, length};
 ghost use Rattle.std.specs.List.{list_all};
 ghost use Rattle.std.specs.Option.{option_map};
-ghost use Rattle.hp_play.specs.Form.{is_name_byte};
+ghost use Rattle.hp_states.specs.Names.{is_name_byte};
 ghost use Rattle.hp_play.specs.Reading.{behind, dir_at, flags, flags_at, word_to, digits_of, read_on, number_of, is_name, is_byte, named, is_within, any_of, number_to, number_within, number_at, any_within, name_to};
 ghost use Rattle.hp_play.specs.declared.limits.TheConstants.{MAX_DIGITS};
 
 use crate::limits::MAX_DIGITS;
 use hp_event::Form;
-use hp_states::{Dir, MAX_NAME_LEN};
+use hp_states::{Dir, MAX_NAME_LEN, is_name_byte};
 
 /// The bytes behind this front, where they begin so.
 pub fn behind<'a>(front: &[u8], bytes: &'a [u8]) -> Option<&'a [u8]>
@@ -103,12 +103,6 @@ fn number_of(word: &[u8]) -> Option<u32>
         return None;
     }
     value_of(word)
-}
-
-fn is_name_byte(byte: u8) -> bool
-    ensures { result ≡ is_name_byte byte }
-{
-    matches!(byte, b'a'..=b'z' | b'A'..=b'Z' | b'-'..=b':' | b'_')
 }
 
 fn are_name_bytes(word: &[u8]) -> bool

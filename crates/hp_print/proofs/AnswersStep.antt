@@ -4,7 +4,7 @@ use Rattle.std.proofs.lemmas.List.Sums.{count_by-le-length, sum_by_push}
 use Rattle.hp_event.specs.declared.event.Event.{Event}
 use Rattle.hp_model.specs.Summary.{Kind, ok, refused, fault, stuck, full, is_some_kind, answered_by}
 use Rattle.hp_model.specs.Events.{answer_by}
-use Rattle.hp_print.specs.declared.answers.Answers.{Answers}
+use Rattle.hp_print.specs.declared.answers.AnswerCounts.{AnswerCounts}
 use Rattle.hp_print.specs.Counts.{one_more}
 use Rattle.hp_print.specs.Steps.{answers_after}
 use Rattle.hp_print.specs.Tallies.{IsAnswers}
@@ -26,7 +26,7 @@ answered_as k n xs e l h = rw (answered_push, h) (go (is_some_kind k (answer_by 
   go true = one_more_is (answered_by k xs) (length xs) (answered_few k xs) l
   go false = omega arith
 
-pub answers_step : (xs : List Event) (e : Event) (a b : Answers) → length xs < 2 ^ 63 → IsAnswers xs a →
+pub answers_step : (xs : List Event) (e : Event) (a b : AnswerCounts) → length xs < 2 ^ 63 → IsAnswers xs a →
     b.ok ≡ answers_after ok a.ok e → b.refused ≡ answers_after refused a.refused e →
     b.fault ≡ answers_after fault a.fault e → b.stuck ≡ answers_after stuck a.stuck e →
     b.full ≡ answers_after full a.full e → IsAnswers (xs ++ e ∷ []) b

@@ -10,8 +10,8 @@ use Rattle.hp_model.specs.Registered.{registered}
 use Rattle.hp_model.specs.Calls.{sites}
 use Rattle.hp_model.specs.Net.{entered}
 use Rattle.hp_model.specs.Summary.{hook_faults}
-use Rattle.hp_print.specs.declared.walks.Walks.{Walks}
-use Rattle.hp_print.specs.declared.states.States.{States}
+use Rattle.hp_print.specs.declared.walks.ProcessorTally.{ProcessorTally}
+use Rattle.hp_print.specs.declared.states.StateTally.{StateTally}
 use Rattle.hp_print.specs.Counts.{AreInOrder}
 use Rattle.hp_print.specs.Tallies.{counts_of, IsWalks, IsStates}
 use Rattle.hp_print.proofs.WalksStep.{get_or-set}
@@ -33,7 +33,7 @@ in_order_first zero c = tt
 in_order_first (suc n) zero = tt
 in_order_first (suc n) (suc c) = in_order_first n c
 
-pub first_walks : (n : ℕ) (w : Walks) → w.settled.items ≡ set (replicate n 0) 0 200 →
+pub first_walks : (n : ℕ) (w : ProcessorTally) → w.settled.items ≡ set (replicate n 0) 0 200 →
     w.targets.items ≡ replicate n None → w.keys.items ≡ replicate n [] → IsWalks n [] w
 unfolding walk
 first_walks n w p q r = record {
@@ -46,7 +46,7 @@ first_walks n w p q r = record {
   order = λ c. rw r (in_order_first n c);
 }
 
-pub first_states : (head : Head) (n : ℕ) (t : States) → t.asked ≡ None → t.subs.items ≡ replicate n None →
+pub first_states : (head : Head) (n : ℕ) (t : StateTally) → t.asked ≡ None → t.subs.items ≡ replicate n None →
     t.insts.items ≡ replicate n [] → t.made.items ≡ replicate n 0 → t.faults.items ≡ replicate n 0 →
     IsStates head n [] t
 unfolding registration registered sites hook_faults

@@ -1,12 +1,12 @@
 -- The order of keys, and their places in a list that rises.
 use Rattle.std.proofs.Common.{◌≡◌, ℕ, zero, suc, ◌-◌, ◌<◌, ◌≤◌, Bool, true, false, List, [], ◌∷◌, length, get_or, refl, ap, sym, arith, set, if◌then◌else◌, insert}
 use Rattle.std.proofs.lemmas.Bool.Decides.{nat_tests}
-use Rattle.hp_event.specs.declared.event.Key.{Key}
+use Rattle.hp_event.specs.declared.key.Key.{Key}
 use Rattle.hp_model.specs.Net.{is_before}
 use Rattle.hp_model.proofs.KeyOrder.{before_after, before_self}
 use Rattle.hp_print.specs.declared.keys.KeyCount.{KeyCount}
-use Rattle.hp_states.specs.declared.section.Dir.{Dir}
-use Rattle.hp_states.specs.declared.section.Dir.TheVariants.{Up, Down}
+use Rattle.hp_states.specs.declared.dir.Dir.{Dir}
+use Rattle.hp_states.specs.declared.dir.Dir.TheVariants.{Up, Down}
 use Rattle.hp_print.specs.Counts.{place, is_key, with_count, no_count, raised, raised_at, counted, IsBeforeAll, AreInOrder}
 
 pub neither : (a b : Key) → is_before a b ≡ false → is_before b a ≡ false → is_key a b ≡ true

@@ -1,9 +1,9 @@
 -- Lists of words that are appended one by one, with a dash where there is none.
-use Rattle.std.proofs.Common.{◌≡◌, ℕ, ◌+◌, Bool, true, false, ◌||◌, ◌==◌, nat_lt, if◌then◌else◌, List, [], ◌∷◌, ◌++◌, map, filter, length, refl, ap, arith, decimal}
+use Rattle.std.proofs.Common.{◌≡◌, ℕ, Bool, true, false, ◌==◌, if◌then◌else◌, List, [], ◌∷◌, ◌++◌, map, filter, length, refl, ap, arith, decimal}
 use Rattle.std.proofs.lemmas.List.{length-append, append-nil}
 use Rattle.std.proofs.lemmas.Bool.Decides.{nat_tests}
-use Rattle.std.specs.List.{flat_map, list_any}
-use Rattle.hp_model.specs.Lists.{among, occurs}
+use Rattle.std.specs.List.{flat_map}
+use Rattle.hp_model.specs.Lists.{among}
 use Rattle.hp_model.specs.Words.{spaced, list_words}
 use Rattle.hp_model.specs.Summary.{key_word}
 use Rattle.hp_print.specs.declared.keys.KeyCount.{KeyCount}
@@ -42,11 +42,3 @@ spaced-frozen frozen (c ∷ cs) = go (among c frozen) (spaced-frozen frozen cs) 
       ≡ spaced (map decimal (if b then c ∷ filter (λ x. among x frozen) cs else filter (λ x. among x frozen) cs))
   go true h = ap (λ ys. (32 ∷ decimal c) ++ ys) h
   go false h = h
-
-pub among_any : (c : ℕ) (xs : List ℕ) → list_any (λ y. y == c) xs ≡ among c xs
-among_any c [] = refl
-among_any c (x ∷ xs) = go (x == c) (among_any c xs) where
-  go : (b : Bool) → list_any (λ y. y == c) xs ≡ among c xs →
-      (b || list_any (λ y. y == c) xs) ≡ nat_lt 0 ((if b then 1 else 0) + occurs c xs)
-  go true h = grind (arith, nat_tests)
-  go false h = rw h (grind (arith, nat_tests))

@@ -3,10 +3,10 @@ use Rattle.std.proofs.Common.{◌≡◌, ℕ, ◌+◌, ◌<◌, ◌≤◌, ◌^�
 use Rattle.std.proofs.lemmas.List.{length-set, length_push}
 use Rattle.std.proofs.lemmas.Bool.Decides.{nat_tests}
 use Rattle.hp_states.specs.Rules.{Site}
-use Rattle.hp_event.specs.declared.event.Op.{Op}
-use Rattle.hp_event.specs.declared.event.Op.TheVariants.{Setup, Remove, Add, Del}
-use Rattle.hp_event.specs.declared.event.How.{How}
-use Rattle.hp_event.specs.declared.event.Answer.TheVariants.{Ok, Refused, Fault, Stuck, LogFull}
+use Rattle.hp_event.specs.declared.op.Op.{Op}
+use Rattle.hp_event.specs.declared.op.Op.TheVariants.{Setup, Remove, Add, Del}
+use Rattle.hp_event.specs.declared.how.How.{How}
+use Rattle.hp_event.specs.declared.answer.Answer.TheVariants.{Ok, Refused, Fault, Stuck, LogFull}
 use Rattle.hp_event.specs.declared.head.Head.{Head}
 use Rattle.hp_event.specs.declared.event.Event.{Event}
 use Rattle.hp_event.specs.declared.event.Event.TheVariants.{RegBegin, RegEnd, Call}
@@ -16,9 +16,9 @@ use Rattle.hp_model.specs.Registrations.{Registration, registration, registratio
 use Rattle.hp_model.specs.Registered.{Registered, registered, registered_step, applied, after_ok, instances}
 use Rattle.hp_model.specs.Calls.{is_called, sites, sites_step}
 use Rattle.hp_model.specs.Summary.{is_hook_fault, hook_faults, faults_step}
-use Rattle.hp_model.proofs.Laws.{over_from_push, registration_push, registered_push}
+use Rattle.hp_model.proofs.Laws.{over_from_push, registration_push, registered_push, sites_push}
 use Rattle.hp_print.specs.declared.states.Asked.{Asked}
-use Rattle.hp_print.specs.declared.states.States.{States}
+use Rattle.hp_print.specs.declared.states.StateTally.{StateTally}
 use Rattle.hp_print.specs.Counts.{one_more}
 use Rattle.hp_print.specs.Steps.{asked_after, sub_after, insts_after, subs_applied, all_insts_applied, subs_after, all_insts_after, calls_after}
 use Rattle.hp_print.specs.Tallies.{asked_of, sub_of, IsStates}
@@ -93,10 +93,6 @@ insts_as head s subs insts xs (RegEnd seat (Fault code)) h p q = q
 insts_as head s subs insts xs (RegEnd seat (Stuck first second at)) h p q = q
 insts_as head s subs insts xs (RegEnd seat LogFull) h p q = q
 insts_as head s subs insts xs e h p q = q
-
-sites_push : (s : ℕ) (xs : List Event) (e : Event) → sites s (xs ++ e ∷ []) ≡ sites_step s (sites s xs) xs e
-unfolding sites
-sites_push s xs e = over_from_push (sites_step s) [] [] xs e
 
 faults_push : (s : ℕ) (xs : List Event) (e : Event) → hook_faults s (xs ++ e ∷ []) ≡ faults_step s (hook_faults s xs) xs e
 unfolding hook_faults
@@ -219,7 +215,7 @@ calls_many test counts (Call seat cpu state inst dir how) = go (test how) where
   go false = refl
 calls_many test counts e = refl
 
-pub states_step : (head : Head) (n : ℕ) (xs : List Event) (e : Event) (t u : States) → length xs < 2 ^ 63 →
+pub states_step : (head : Head) (n : ℕ) (xs : List Event) (e : Event) (t u : StateTally) → length xs < 2 ^ 63 →
     IsStates head n xs t → u.asked ≡ asked_after t.asked e → u.subs.items ≡ subs_after t.asked t.subs.items e →
     u.insts.items ≡ all_insts_after t.asked t.subs.items t.insts.items e →
     u.made.items ≡ calls_after is_called t.made.items e → u.faults.items ≡ calls_after is_hook_fault t.faults.items e →

@@ -1,13 +1,13 @@
 -- One event more, for what an operation of the map lock left behind.
 use Rattle.std.proofs.Common.{◌≡◌, ℕ, ◌+◌, ◌<◌, ◌≤◌, ◌^◌, Bool, Option, Some, None, List, [], ◌∷◌, ◌++◌, length, refl, ap, sym, ◌∙◌, arith}
-use Rattle.hp_event.specs.declared.event.Op.{Op}
+use Rattle.hp_event.specs.declared.op.Op.{Op}
 use Rattle.hp_event.specs.declared.event.Event.{Event}
 use Rattle.hp_event.specs.declared.event.Event.TheVariants.{Enter, WalkEnd, OpEnd}
 use Rattle.hp_model.specs.MapLock.{Operation, operation, operation_step}
 use Rattle.hp_model.specs.Suspend.{disabled, disabled_step, frozen, frozen_step, held_by, is_freeze, is_thaw, is_disabling, is_enabling}
 use Rattle.hp_model.specs.Journal.{over_from}
-use Rattle.hp_model.proofs.Laws.{over_from_push, operation_push, frozen_push}
-use Rattle.hp_print.specs.declared.suspended.Suspended.{Suspended}
+use Rattle.hp_model.proofs.Laws.{operation_push, frozen_push, disabled_push}
+use Rattle.hp_print.specs.declared.suspended.SuspendTally.{SuspendTally}
 use Rattle.hp_print.specs.Counts.{one_more}
 use Rattle.hp_print.specs.Steps.{op_after, disabled_after, frozen_after, is_held}
 use Rattle.hp_print.specs.Tallies.{op_held, IsSuspended}
@@ -15,10 +15,6 @@ use Rattle.hp_print.specs.Tallies.{op_held, IsSuspended}
 -- as far as events are counted, a count doesn't end
 pub one_more_is : (n m : ℕ) → n ≤ m → m < 2 ^ 63 → one_more n ≡ n + 1
 one_more_is n m h k = omega arith
-
-disabled_push : (xs : List Event) (e : Event) → disabled (xs ++ e ∷ []) ≡ disabled_step (disabled xs) xs e
-unfolding disabled
-disabled_push xs e = over_from_push disabled_step 0 [] xs e
 
 op_step : (o : Option Operation) (xs : List Event) (e : Event) → op_held (operation_step o xs e) ≡ op_after (op_held o) e
 op_step o xs (Enter seat op) = refl
@@ -58,7 +54,7 @@ disabled_few : (xs : List Event) → disabled xs ≤ length xs
 unfolding disabled
 disabled_few xs = omega (arith, disabled_from 0 [] xs)
 
-pub suspended_step : (xs : List Event) (e : Event) (s t : Suspended) → length xs < 2 ^ 63 → IsSuspended xs s →
+pub suspended_step : (xs : List Event) (e : Event) (s t : SuspendTally) → length xs < 2 ^ 63 → IsSuspended xs s →
     t.op ≡ op_after s.op e → t.disabled ≡ disabled_after s.op s.disabled e →
     t.frozen.items ≡ frozen_after s.op s.frozen.items e → IsSuspended (xs ++ e ∷ []) t
 suspended_step xs e s t l h p q r = record {
@@ -69,6 +65,6 @@ suspended_step xs e s t l h p q r = record {
   frozen_is = rw frozen_push (rw (h.op, h.frozen_is) at r ∙ sym (frozen_as (frozen xs) xs e));
 }
 
-pub none_suspended : (s : Suspended) → s.op ≡ None → s.disabled ≡ 0 → s.frozen.items ≡ [] → IsSuspended [] s
+pub none_suspended : (s : SuspendTally) → s.op ≡ None → s.disabled ≡ 0 → s.frozen.items ≡ [] → IsSuspended [] s
 unfolding disabled frozen operation
 none_suspended s p q r = record { op = p; disabled_is = q; frozen_is = r }

@@ -3,13 +3,13 @@ use Rattle.std.proofs.Common.{◌≡◌, ℕ, zero, suc, ◌+◌, ◌<◌, ◌�
 use Rattle.std.proofs.lemmas.List.{length-set, get_or-set_same, get_or-set_other, append-nil, append_assoc}
 use Rattle.std.proofs.lemmas.List.Sums.{count_by-le-length, fold-append}
 use Rattle.std.proofs.lemmas.Bool.Decides.{nat_tests}
-use Rattle.hp_states.specs.declared.section.Dir.{Dir}
-use Rattle.hp_states.specs.declared.section.Dir.TheVariants.{Up, Down}
+use Rattle.hp_states.specs.declared.dir.Dir.{Dir}
+use Rattle.hp_states.specs.declared.dir.Dir.TheVariants.{Up, Down}
 use Rattle.hp_states.specs.Rules.{same_dir}
-use Rattle.hp_event.specs.declared.event.Key.{Key}
-use Rattle.hp_event.specs.declared.event.How.{How}
-use Rattle.hp_event.specs.declared.event.Answer.{Answer}
-use Rattle.hp_event.specs.declared.event.Answer.TheVariants.{Ok, Refused, Fault, Stuck, LogFull}
+use Rattle.hp_event.specs.declared.key.Key.{Key}
+use Rattle.hp_event.specs.declared.how.How.{How}
+use Rattle.hp_event.specs.declared.answer.Answer.{Answer}
+use Rattle.hp_event.specs.declared.answer.Answer.TheVariants.{Ok, Refused, Fault, Stuck, LogFull}
 use Rattle.hp_event.specs.declared.event.Event.{Event}
 use Rattle.hp_event.specs.declared.event.Event.TheVariants.{WalkBegin, Call, WalkEnd}
 use Rattle.hp_model.specs.Entries.{is_done}
@@ -19,7 +19,7 @@ use Rattle.hp_model.specs.Settled.{settled, settled_step, left_at}
 use Rattle.hp_model.specs.Net.{is_before, with_key, entered, entered_step}
 use Rattle.hp_model.proofs.Laws.{walk_push, settled_push}
 use Rattle.hp_model.proofs.Counts.{done_entries_push}
-use Rattle.hp_print.specs.declared.walks.Walks.{Walks}
+use Rattle.hp_print.specs.declared.walks.ProcessorTally.{ProcessorTally}
 use Rattle.hp_print.specs.declared.keys.KeyCount.{KeyCount}
 use Rattle.hp_print.specs.Counts.{one_more, is_key, no_count, with_count, raised, raised_at, counted, AreInOrder}
 use Rattle.hp_print.specs.Steps.{targets_after, settled_after, keys_after, stands_after}
@@ -362,7 +362,7 @@ keys_many ks (Call seat cpu state inst dir how) =
     length-set ks cpu (counted (record { state = state; inst = inst }) dir (is_done how) (get_or ks cpu []))
 keys_many ks e = refl
 
-pub walks_step : (n : ℕ) (xs : List Event) (e : Event) (w v : Walks) → length xs < 2 ^ 63 → IsWalks n xs w →
+pub walks_step : (n : ℕ) (xs : List Event) (e : Event) (w v : ProcessorTally) → length xs < 2 ^ 63 → IsWalks n xs w →
     v.targets.items ≡ targets_after w.targets.items e →
     v.settled.items ≡ settled_after w.targets.items w.settled.items e →
     v.keys.items ≡ keys_after w.keys.items e → IsWalks n (xs ++ e ∷ []) v

@@ -1,8 +1,8 @@
 -- How often the entries of each key are done, as a list in the order of the keys. This project's own.
 use Rattle.std.specs.Prelude.{ℕ, ◌+◌, ◌-◌, ◌^◌, min, suc, ◌≡◌, Bool, true, ◌&&◌, ◌==◌, if◌then◌else◌, List, [], ◌∷◌, map}
-use Rattle.hp_states.specs.declared.section.Dir.{Dir}
-use Rattle.hp_states.specs.declared.section.Dir.TheVariants.{Up, Down}
-use Rattle.hp_event.specs.declared.event.Key.{Key}
+use Rattle.hp_states.specs.declared.dir.Dir.{Dir}
+use Rattle.hp_states.specs.declared.dir.Dir.TheVariants.{Up, Down}
+use Rattle.hp_event.specs.declared.key.Key.{Key}
 use Rattle.hp_model.specs.Net.{is_before}
 use Rattle.hp_print.specs.declared.keys.KeyCount.{KeyCount}
 

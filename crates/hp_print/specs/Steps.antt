@@ -1,10 +1,10 @@
 -- What one event more makes of each part of a tally. This project's own.
 use Rattle.std.specs.Prelude.{ℕ, ◌-◌, Bool, false, ◌&&◌, if◌then◌else◌, unwrap_or, Option, Some, None, List, [], ◌∷◌, ◌++◌, slice_set, slice_index_or}
-use Rattle.hp_event.specs.declared.event.Op.{Op}
-use Rattle.hp_event.specs.declared.event.Op.TheVariants.{Setup, Remove, Add, Del}
-use Rattle.hp_event.specs.declared.event.How.{How}
-use Rattle.hp_event.specs.declared.event.Answer.{Answer}
-use Rattle.hp_event.specs.declared.event.Answer.TheVariants as answer
+use Rattle.hp_event.specs.declared.op.Op.{Op}
+use Rattle.hp_event.specs.declared.op.Op.TheVariants.{Setup, Remove, Add, Del}
+use Rattle.hp_event.specs.declared.how.How.{How}
+use Rattle.hp_event.specs.declared.answer.Answer.{Answer}
+use Rattle.hp_event.specs.Leaves.{leaves_at}
 use Rattle.hp_event.specs.declared.event.Event.{Event}
 use Rattle.hp_event.specs.declared.event.Event.TheVariants.{Enter, WalkBegin, Call, WalkEnd, OpEnd, RegBegin, RegEnd}
 use Rattle.hp_model.specs.Lists.{without}
@@ -47,11 +47,7 @@ targets_after targets _ = targets
 
 -- where a walk leaves its processor
 abbrev pub stands_after : Answer → Option ℕ → (at : ℕ) → ℕ
-stands_after (answer.Ok value) target at = unwrap_or target at
-stands_after (answer.Refused errno) target at = at
-stands_after (answer.Fault code) target at = at
-stands_after (answer.Stuck first second stuck_at) target at = stuck_at
-stands_after answer.LogFull target at = at
+stands_after given target at = leaves_at given (unwrap_or target at) at
 
 abbrev pub settled_after : List (Option ℕ) → List ℕ → Event → List ℕ
 settled_after targets settled (WalkEnd seat cpu given) =

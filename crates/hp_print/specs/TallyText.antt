@@ -2,16 +2,16 @@
 use Rattle.std.specs.Prelude.{ℕ, ◌+◌, Bool, nat_lt, if◌then◌else◌, Option, Some, None, List, [], ◌∷◌, ◌++◌, map, filter, codes, decimal, slice_index_or}
 use Rattle.std.specs.List.{flat_map}
 use Rattle.hp_states.specs.declared.limits.TheConstants.{ONLINE}
-use Rattle.hp_event.specs.declared.event.Key.{Key}
+use Rattle.hp_event.specs.declared.key.Key.{Key}
 use Rattle.hp_event.specs.declared.head.Head.{Head}
 use Rattle.hp_model.specs.Lists.{among, numbers}
 use Rattle.hp_model.specs.Processors.{is_present}
 use Rattle.hp_model.specs.Words.{line, name_word, list_words}
 use Rattle.hp_model.specs.Summary.{key_word, presence_word, name_of}
 use Rattle.hp_print.specs.declared.keys.KeyCount.{KeyCount}
-use Rattle.hp_print.specs.declared.answers.Answers.{Answers}
-use Rattle.hp_print.specs.declared.walks.Walks.{Walks}
-use Rattle.hp_print.specs.declared.states.States.{States}
+use Rattle.hp_print.specs.declared.answers.AnswerCounts.{AnswerCounts}
+use Rattle.hp_print.specs.declared.walks.ProcessorTally.{ProcessorTally}
+use Rattle.hp_print.specs.declared.states.StateTally.{StateTally}
 use Rattle.hp_print.specs.declared.tally.Tally.{Tally}
 
 abbrev pub is_counted : KeyCount → Bool
@@ -33,12 +33,12 @@ cpu_words c present settled counts =
     ∷ decimal settled
     ∷ codes "keys" ∷ list_words (map key_word (keys_of counts))
 
-unfoldable pub cpu_text : Head → Walks → (cpu : ℕ) → List ℕ
+unfoldable pub cpu_text : Head → ProcessorTally → (cpu : ℕ) → List ℕ
 cpu_text head w c =
     line
     (cpu_words c (is_present head c) (slice_index_or w.settled.items c 0) (slice_index_or w.keys.items c []))
 
-unfoldable pub cpus_text : Head → Walks → List ℕ
+unfoldable pub cpus_text : Head → ProcessorTally → List ℕ
 cpus_text head w = flat_map (cpu_text head w) (numbers head.possible)
 
 unfoldable pub disabled_text : ℕ → List ℕ
@@ -59,20 +59,20 @@ sub_words s name made faults insts =
     ∷ codes "made"
     ∷ decimal made ∷ codes "faults" ∷ decimal faults ∷ codes "instances" ∷ list_words (map decimal insts)
 
-abbrev pub registered_text : Head → States → (state : ℕ) → Option ℕ → List ℕ
+abbrev pub registered_text : Head → StateTally → (state : ℕ) → Option ℕ → List ℕ
 registered_text head t s None = []
 registered_text head t s (Some sub) =
     line
     (sub_words s (name_of head sub) (slice_index_or t.made.items s 0) (slice_index_or t.faults.items s 0)
     (slice_index_or t.insts.items s []))
 
-unfoldable pub sub_text : Head → States → (state : ℕ) → List ℕ
+unfoldable pub sub_text : Head → StateTally → (state : ℕ) → List ℕ
 sub_text head t s = registered_text head t s (slice_index_or t.subs.items s None)
 
-unfoldable pub subs_text : Head → States → (many : ℕ) → List ℕ
+unfoldable pub subs_text : Head → StateTally → (many : ℕ) → List ℕ
 subs_text head t n = flat_map (sub_text head t) (numbers n)
 
-unfoldable pub ops_text : Answers → List ℕ
+unfoldable pub ops_text : AnswerCounts → List ℕ
 ops_text a =
     line
     (codes "ops"

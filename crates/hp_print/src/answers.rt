@@ -9,7 +9,7 @@ use hp_event::{Answer, Event};
 
 /// How many operations were answered in each of the five ways.
 #[derive(Clone, Copy, Debug)]
-pub struct Answers {
+pub struct AnswerCounts {
     pub ok: usize,
     pub refused: usize,
     pub fault: usize,
@@ -24,21 +24,21 @@ fn answer_of(event: &Event) -> Option<Answer>
     match *event {
         Event::Refused { errno, .. } => Some(Answer::Refused(errno)),
         Event::OpEnd { answer, .. } | Event::RegEnd { answer, .. } => Some(answer),
+        Event::Shown { value, .. } => Some(Answer::Ok(value)),
         Event::ReadLock { .. }
         | Event::ReadUnlock { .. }
         | Event::Armed { .. }
-        | Event::Shown { .. }
         | Event::Wakeup { .. } => Some(Answer::Ok(0)),
         _ => None,
     }
 }
 
-impl Answers {
-    /// Of no events.
-    pub fn new() -> Answers
+impl AnswerCounts {
+    /// The counts before any event.
+    pub fn new() -> AnswerCounts
         ensures { result ≡ record { ok = 0; refused = 0; fault = 0; stuck = 0; full = 0 } }
     {
-        Answers {
+        AnswerCounts {
             ok: 0,
             refused: 0,
             fault: 0,

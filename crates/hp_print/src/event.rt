@@ -1,93 +1,15 @@
 //! The line of an event.
 
 ghost use Rattle.std.specs.Prelude.{◌≡◌, ◌++◌, ◌∷◌, [], OnOk, IfOk, decimal};
+ghost use Rattle.hp_event.specs.declared.event.Event.TheVariants as event;
 ghost use Rattle.hp_model.specs.Words.{spaced, joined};
-ghost use Rattle.hp_model.specs.EventLine.{event_line as line_of, event_words, op_words, form_words, how_words, answer_words, walk_answer_words, role_words, file_words};
+ghost use Rattle.hp_model.specs.EventLine.{event_line as line_of, event_words, how_words, answer_words, walk_answer_words, role_words, file_words};
 
-use crate::words::{append, append_dir, append_number, append_signed, end_line};
-use hp_event::{Answer, Event, File, Form, How, NoMemory, Op, Role};
+use crate::op::append_op;
+use crate::words::{append, append_dir, append_number, append_of, append_signed, end_line};
+use hp_event::{Answer, Event, File, How, Key, Op, Role};
+use hp_states::{Dir, NoMemory};
 use std::alloc::{AllocError, Global};
-
-/// Appends the flags of a form.
-fn append_form(out: &mut Vec<u8>, form: Form) -> Result<(), AllocError>
-    ensures { OnOk result (out.new.items ≡ out.old.items ++ spaced (form_words form)) }
-{
-    if form.nocalls {
-        append(out, b" nocalls")?;
-    }
-    if form.locked {
-        append(out, b" locked")?;
-    }
-    Ok(())
-}
-
-/// Appends a word and the number that it is of.
-fn append_of(out: &mut Vec<u8>, word: &[u8], number: u32) -> Result<(), AllocError>
-    ensures { OnOk result (out.new.items ≡ out.old.items ++ (word.now ++ 32 ∷ decimal number)) }
-{
-    append(out, word)?;
-    append_number(out, number)
-}
-
-/// Appends an operation, as a script has it.
-fn append_op(out: &mut Vec<u8>, op: Op) -> Result<(), AllocError>
-    ensures { OnOk result (out.new.items ≡ out.old.items ++ spaced (op_words op)) }
-{
-    match op {
-        Op::Up(cpu) => append_of(out, b" up", cpu),
-        Op::Down(cpu) => append_of(out, b" down", cpu),
-        Op::Target(cpu, value) => {
-            append_of(out, b" target", cpu)?;
-            append_signed(out, value)
-        }
-        Op::Arm(cpu, value) => {
-            append_of(out, b" fail", cpu)?;
-            append_signed(out, value)
-        }
-        Op::ShowState(cpu) => append_of(out, b" show state", cpu),
-        Op::ShowTarget(cpu) => append_of(out, b" show target", cpu),
-        Op::ShowFail(cpu) => append_of(out, b" show fail", cpu),
-        Op::ShowStates => append(out, b" show states"),
-        Op::Setup { state, sub, form } => append_registering(out, b" setup", state, sub, form),
-        Op::Remove { state, form } => {
-            append(out, b" remove")?;
-            append_number(out, state)?;
-            append_form(out, form)
-        }
-        Op::Add { state, inst, form } => append_registering(out, b" add", state, inst, form),
-        Op::Del { state, inst, form } => append_registering(out, b" del", state, inst, form),
-        Op::Lock => append(out, b" lock"),
-        Op::Unlock => append(out, b" unlock"),
-        Op::Boot(most) => {
-            append(out, b" boot")?;
-            append_number(out, most)
-        }
-        Op::Disable => append(out, b" disable"),
-        Op::Enable => append(out, b" enable"),
-        Op::Freeze(primary) => {
-            append(out, b" freeze")?;
-            append_signed(out, primary)
-        }
-        Op::Thaw => append(out, b" thaw"),
-        Op::Wakeup => append(out, b" wakeup"),
-    }
-}
-
-/// Appends a word, two numbers and the flags of a form.
-fn append_registering(
-    out: &mut Vec<u8>,
-    word: &[u8],
-    state: u32,
-    which: u32,
-    form: Form,
-) -> Result<(), AllocError>
-    ensures { OnOk result (out.new.items ≡ out.old.items ++ (word.now ++ spaced (decimal state ∷ decimal which ∷ form_words form))) }
-{
-    append(out, word)?;
-    append_number(out, state)?;
-    append_number(out, which)?;
-    append_form(out, form)
-}
 
 /// Appends how an entry was made.
 fn append_how(out: &mut Vec<u8>, how: How) -> Result<(), AllocError>
@@ -168,36 +90,133 @@ fn append_file(out: &mut Vec<u8>, file: File, cpu: u32) -> Result<(), AllocError
     }
 }
 
+/// Appends the words of a seat that comes in.
+fn append_admit(out: &mut Vec<u8>, seat: u32, role: Role) -> Result<(), AllocError>
+    ensures { OnOk result (out.new.items ≡ out.old.items ++ joined (event_words (event.Admit seat role))) }
+{
+    append_of(out, b"admit", seat)?;
+    append_role(out, role)
+}
+
+/// Appends the words of an operation that takes the map lock.
+fn append_enter(out: &mut Vec<u8>, seat: u32, op: Op) -> Result<(), AllocError>
+    ensures { OnOk result (out.new.items ≡ out.old.items ++ joined (event_words (event.Enter seat op))) }
+{
+    append_of(out, b"enter", seat)?;
+    append_op(out, op)
+}
+
+/// Appends the words of an operation that gives the map lock back.
+fn append_done(out: &mut Vec<u8>, seat: u32, answer: Answer) -> Result<(), AllocError>
+    ensures { OnOk result (out.new.items ≡ out.old.items ++ joined (event_words (event.OpEnd seat answer))) }
+{
+    append_of(out, b"done", seat)?;
+    append_answer(out, answer)
+}
+
+/// Appends the words of a registration that ends.
+fn append_regged(out: &mut Vec<u8>, seat: u32, answer: Answer) -> Result<(), AllocError>
+    ensures { OnOk result (out.new.items ≡ out.old.items ++ joined (event_words (event.RegEnd seat answer))) }
+{
+    append_of(out, b"regged", seat)?;
+    append_answer(out, answer)
+}
+
+/// Appends the words of an operation that is refused.
+fn append_refused(out: &mut Vec<u8>, seat: u32, errno: u32, op: Op) -> Result<(), AllocError>
+    ensures { OnOk result (out.new.items ≡ out.old.items ++ joined (event_words (event.Refused seat errno op))) }
+{
+    append_of(out, b"refused", seat)?;
+    append_number(out, errno)?;
+    append_op(out, op)
+}
+
+/// Appends the words of a walk that begins.
+fn append_walk(out: &mut Vec<u8>, seat: u32, cpu: u32, from: u32, to: u32) -> Result<(), AllocError>
+    ensures { OnOk result (out.new.items ≡ out.old.items ++ joined (event_words (event.WalkBegin seat cpu from to))) }
+{
+    append_of(out, b"walk", seat)?;
+    append_number(out, cpu)?;
+    append_number(out, from)?;
+    append_number(out, to)
+}
+
+/// Appends the words of an entry of a key.
+fn append_call(
+    out: &mut Vec<u8>,
+    seat: u32,
+    cpu: u32,
+    key: Key,
+    dir: Dir,
+    how: How,
+) -> Result<(), AllocError>
+    ensures { OnOk result (out.new.items ≡ out.old.items ++ joined (event_words (event.Call seat cpu key.state key.inst dir how))) }
+{
+    append_of(out, b"call", seat)?;
+    append_number(out, cpu)?;
+    append_number(out, key.state)?;
+    append_number(out, key.inst)?;
+    append_dir(out, dir)?;
+    append_how(out, how)
+}
+
+/// Appends the words of a walk that ends.
+fn append_walked(out: &mut Vec<u8>, seat: u32, cpu: u32, answer: Answer) -> Result<(), AllocError>
+    ensures { OnOk result (out.new.items ≡ out.old.items ++ joined (event_words (event.WalkEnd seat cpu answer))) }
+{
+    append_of(out, b"walked", seat)?;
+    append_number(out, cpu)?;
+    append_walk_answer(out, answer)
+}
+
+/// Appends the words of a registration that begins.
+fn append_reg(out: &mut Vec<u8>, seat: u32, state: u32, op: Op) -> Result<(), AllocError>
+    ensures { OnOk result (out.new.items ≡ out.old.items ++ joined (event_words (event.RegBegin seat state op))) }
+{
+    append_of(out, b"reg", seat)?;
+    append_number(out, state)?;
+    append_op(out, op)
+}
+
+/// Appends the words of a `fail` file that was written.
+fn append_armed(out: &mut Vec<u8>, seat: u32, cpu: u32, value: i32) -> Result<(), AllocError>
+    ensures { OnOk result (out.new.items ≡ out.old.items ++ joined (event_words (event.Armed seat cpu value))) }
+{
+    append_of(out, b"armed", seat)?;
+    append_number(out, cpu)?;
+    append_signed(out, value)
+}
+
+/// Appends the words of a file that was shown.
+fn append_shown(
+    out: &mut Vec<u8>,
+    seat: u32,
+    file: File,
+    cpu: u32,
+    value: i32,
+) -> Result<(), AllocError>
+    ensures { OnOk result (out.new.items ≡ out.old.items ++ joined (event_words (event.Shown seat file cpu value))) }
+{
+    append_of(out, b"shown", seat)?;
+    append_file(out, file, cpu)?;
+    append_signed(out, value)
+}
+
 /// Appends the words of an event.
 fn append_words(out: &mut Vec<u8>, event: &Event) -> Result<(), AllocError>
     ensures { OnOk result (out.new.items ≡ out.old.items ++ joined (event_words event.now)) }
 {
     match *event {
-        Event::Admit { seat, role } => {
-            append_of(out, b"admit", seat)?;
-            append_role(out, role)
-        }
+        Event::Admit { seat, role } => append_admit(out, seat, role),
         Event::Leave { seat } => append_of(out, b"leave", seat),
-        Event::Enter { seat, op } => {
-            append_of(out, b"enter", seat)?;
-            append_op(out, op)
-        }
-        Event::Refused { seat, errno, op } => {
-            append_of(out, b"refused", seat)?;
-            append_number(out, errno)?;
-            append_op(out, op)
-        }
+        Event::Enter { seat, op } => append_enter(out, seat, op),
+        Event::Refused { seat, errno, op } => append_refused(out, seat, errno, op),
         Event::WalkBegin {
             seat,
             cpu,
             from,
             to,
-        } => {
-            append_of(out, b"walk", seat)?;
-            append_number(out, cpu)?;
-            append_number(out, from)?;
-            append_number(out, to)
-        }
+        } => append_walk(out, seat, cpu, from, to),
         Event::Call {
             seat,
             cpu,
@@ -205,49 +224,20 @@ fn append_words(out: &mut Vec<u8>, event: &Event) -> Result<(), AllocError>
             inst,
             dir,
             how,
-        } => {
-            append_of(out, b"call", seat)?;
-            append_number(out, cpu)?;
-            append_number(out, state)?;
-            append_number(out, inst)?;
-            append_dir(out, dir)?;
-            append_how(out, how)
-        }
-        Event::WalkEnd { seat, cpu, answer } => {
-            append_of(out, b"walked", seat)?;
-            append_number(out, cpu)?;
-            append_walk_answer(out, answer)
-        }
-        Event::OpEnd { seat, answer } => {
-            append_of(out, b"done", seat)?;
-            append_answer(out, answer)
-        }
-        Event::RegBegin { seat, state, op } => {
-            append_of(out, b"reg", seat)?;
-            append_number(out, state)?;
-            append_op(out, op)
-        }
-        Event::RegEnd { seat, answer } => {
-            append_of(out, b"regged", seat)?;
-            append_answer(out, answer)
-        }
+        } => append_call(out, seat, cpu, Key { state, inst }, dir, how),
+        Event::WalkEnd { seat, cpu, answer } => append_walked(out, seat, cpu, answer),
+        Event::OpEnd { seat, answer } => append_done(out, seat, answer),
+        Event::RegBegin { seat, state, op } => append_reg(out, seat, state, op),
+        Event::RegEnd { seat, answer } => append_regged(out, seat, answer),
         Event::ReadLock { seat } => append_of(out, b"lock", seat),
         Event::ReadUnlock { seat } => append_of(out, b"unlock", seat),
-        Event::Armed { seat, cpu, value } => {
-            append_of(out, b"armed", seat)?;
-            append_number(out, cpu)?;
-            append_signed(out, value)
-        }
+        Event::Armed { seat, cpu, value } => append_armed(out, seat, cpu, value),
         Event::Shown {
             seat,
             file,
             cpu,
             value,
-        } => {
-            append_of(out, b"shown", seat)?;
-            append_file(out, file, cpu)?;
-            append_signed(out, value)
-        }
+        } => append_shown(out, seat, file, cpu, value),
         Event::Wakeup { seat } => append_of(out, b"wakeup", seat),
     }
 }

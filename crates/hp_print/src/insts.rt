@@ -8,11 +8,11 @@ use std::marker::Model;
 
 /// The instances of a state, newest first.
 #[derive(Drop)]
-pub struct Insts {
+pub struct InstanceList {
     items: Vec<u32>,
 }
 
-impl Model for Insts {
+impl Model for InstanceList {
     ghost use Rattle.std.specs.Prelude.{ℕ, List};
 
     ghost Value = { List ℕ };
@@ -20,12 +20,12 @@ impl Model for Insts {
     ghost view = { λ i. i.items.items };
 }
 
-impl Insts {
+impl InstanceList {
     /// No instances.
-    pub fn new(alloc: Global) -> Insts
+    pub fn new(alloc: Global) -> InstanceList
         ensures { result ≡ [] }
     {
-        Insts {
+        InstanceList {
             items: Vec::new(alloc),
         }
     }

@@ -11,8 +11,8 @@ use crate::words::{
     append, append_any, append_count, append_dir, append_name, append_number, append_numbers,
     end_line,
 };
-use hp_event::{Event, Head, Journal, NoMemory, Sub};
-use hp_states::Rule;
+use hp_event::{Event, Head, Journal, Sub};
+use hp_states::{NoMemory, Rule};
 use std::alloc::{AllocError, Global};
 
 /// Appends the line of a rule.

@@ -17,11 +17,11 @@ pub struct KeyCount {
     pub downs: usize,
 }
 
-/// Whether a key is before another: by state, and then by instance.
+/// Whether a key is before another, as keys are ordered.
 fn is_before(key: Key, other: Key) -> bool
     ensures { result ≡ is_before_of key other }
 {
-    key.state < other.state || (key.state == other.state && key.inst < other.inst)
+    key < other
 }
 
 /// How many keys of a list that rises are before a key, found by halves.

@@ -12,6 +12,7 @@ mod event;
 mod insts;
 mod journal;
 mod keys;
+mod op;
 mod states;
 mod summary_lines;
 mod suspended;

@@ -1,15 +1,18 @@
 //! What is registered at each state, and what its hook did.
 
-ghost use Rattle.std.specs.Prelude.{◌≡◌, ◌<◌, ◌∷◌, OnOk, List, [], length, slice_set, slice_index_or, if◌then◌else◌};
+ghost use Rattle.std.specs.Prelude.{◌≡◌, ◌+◌, ◌<◌, ◌∷◌, IfOk, OnOk, List, [], length, slice_set, slice_index_or, if◌then◌else◌};
 ghost use Rattle.hp_model.specs.Calls.{is_called};
 ghost use Rattle.hp_model.specs.Suspend.{is_ok};
 ghost use Rattle.hp_model.specs.Summary.{is_hook_fault};
+ghost use Rattle.hp_event.specs.declared.head.Head.{Head};
 ghost use Rattle.hp_print.specs.Counts.{one_more};
+ghost use Rattle.hp_print.specs.Tallies.{IsStates};
 ghost use Rattle.hp_print.specs.Steps.{asked_after, subs_after, subs_applied, sub_after, all_insts_after, all_insts_applied, insts_after, begun_anew, calls_after};
 
-use crate::insts::Insts;
+use crate::insts::InstanceList;
 use hp_event::{Answer, Event, How, Op};
-use std::alloc::AllocError;
+use hp_states::ONLINE;
+use std::alloc::{AllocError, Global};
 
 /// The registration in flight: its resolved state and its operation.
 #[derive(Clone, Copy, Debug)]
@@ -18,29 +21,19 @@ pub struct Asked {
     pub op: Op,
 }
 
-/// The states of a journal, each at its number.
+/// What is tallied of the states of a journal, each at its number.
 #[derive(Drop)]
-pub struct States {
+pub struct StateTally {
     /// The registration in flight.
     pub asked: Option<Asked>,
     /// The number of the subsystem that is registered.
     pub subs: Vec<Option<u32>>,
     /// The instances.
-    pub insts: Vec<Insts>,
+    pub insts: Vec<InstanceList>,
     /// How often the hook was called since its setup began.
     pub made: Vec<usize>,
     /// How often it answered a code.
     pub faults: Vec<usize>,
-}
-
-/// Whether an entry called the hook.
-fn is_hook_called(how: How) -> bool
-    ensures { result ≡ is_called how }
-{
-    match how {
-        How::RanOk | How::RanFault(_) | How::Overruled(_) => true,
-        How::Injected | How::Empty | How::Presumed => false,
-    }
 }
 
 /// Whether the hook answered a code.
@@ -75,7 +68,7 @@ fn reset(counts: &mut Vec<usize>, state: u32)
 }
 
 /// Makes of the instances of a state what an operation makes of them.
-fn apply_to(insts: &mut Insts, found: Option<u32>, op: Op) -> Result<(), AllocError>
+fn apply_to(insts: &mut InstanceList, found: Option<u32>, op: Op) -> Result<(), AllocError>
     ensures { OnOk result (insts.new ≡ insts_after op found insts.old) }
 {
     match op {
@@ -102,7 +95,29 @@ fn sub_of(op: Op, found: Option<u32>) -> Option<u32>
     }
 }
 
-impl States {
+impl StateTally {
+    /// The states before any event: nothing is registered.
+    pub fn new(alloc: Global) -> Result<StateTally, AllocError>
+        ensures { IfOk result (λ t. (head : Head) → IsStates head (ONLINE + 1) [] t) }
+    {
+        let many = ONLINE as usize + 1;
+        let mut subs = Vec::new(alloc);
+        let mut insts = Vec::new(alloc);
+        for count in 0..many {
+            subs.push(None)?;
+            insts.push(InstanceList::new(alloc))?;
+        }
+        let made = vec![in alloc; 0; many]?;
+        let faults = vec![in alloc; 0; many]?;
+        Ok(StateTally {
+            asked: None,
+            subs,
+            insts,
+            made,
+            faults,
+        })
+    }
+
     /// Counts one event more.
     pub fn count(&mut self, event: &Event) -> Result<(), AllocError>
         ensures asked { OnOk result (self.new.asked ≡ asked_after self.old.asked event.now) }
@@ -156,7 +171,7 @@ impl States {
             then slice_set self.old.faults.items state (one_more (slice_index_or self.old.faults.items state 0))
             else self.old.faults.items) }
     {
-        if is_hook_called(how) {
+        if how.is_called() {
             raise(&mut self.made, state);
         }
         if is_fault(how) {

@@ -3,36 +3,21 @@
 ghost use Rattle.std.specs.Prelude.{◌≡◌, ℕ, ◌+◌, ◌<◌, ◌++◌, ◌∷◌, ◌==◌, [], List, map, OnOk, IfOk, length, filter, decimal, if◌then◌else◌};
 ghost use Rattle.std.specs.List.{flat_map};
 ghost use Rattle.hp_model.specs.Lists.{among, numbers};
-ghost use Rattle.hp_model.specs.Processors.{is_present};
 ghost use Rattle.hp_model.specs.Words.{line, spaced, list_words};
 ghost use Rattle.hp_model.specs.Summary.{key_word, presence_word, name_of as name_of_sub, summary as summary_of};
 ghost use Rattle.hp_print.specs.Tallies.{IsTally};
 ghost use Rattle.hp_print.specs.TallyText.{keys_of, key_text, cpu_words, cpu_text, cpus_text, disabled_text, frozen_word, frozen_text, sub_words, registered_text, sub_text, subs_text, ops_text, events_text, tally_text};
 
-use crate::answers::Answers;
+use crate::answers::AnswerCounts;
 use crate::keys::KeyCount;
-use crate::states::States;
+use crate::states::StateTally;
 use crate::tally::{Tally, tally_of};
-use crate::walks::Walks;
+use crate::walks::ProcessorTally;
 use crate::words::{append, append_count, append_name, append_number, append_numbers, end_line};
-use hp_event::{Head, Journal, NoMemory};
-use hp_states::ONLINE;
+use hp_event::{Head, Journal};
+use hp_states::{NoMemory, ONLINE};
 use itoa::Buffer;
 use std::alloc::{AllocError, Global};
-
-/// How many bytes there are.
-fn length_of(out: &Vec<u8>) -> usize
-    ensures { result ≡ length out.now.items }
-{
-    out.len()
-}
-
-/// Whether a number is among some.
-fn is_among(numbers: &[u32], number: u32) -> bool
-    ensures { result ≡ among number numbers.now }
-{
-    numbers.contains(&number)
-}
 
 /// Appends a word and a count, behind a space.
 fn append_count_of(out: &mut Vec<u8>, word: &[u8], count: usize) -> Result<(), AllocError>
@@ -48,7 +33,7 @@ fn end_list(out: &mut Vec<u8>, start: usize) -> Result<(), AllocError>
         (out.new.items
         ≡ (if length out.old.items == start then out.old.items ++ 32 ∷ 45 ∷ [] else out.old.items)) }
 {
-    if length_of(out) == start {
+    if out.len() == start {
         append(out, b" -")
     } else {
         Ok(())
@@ -82,7 +67,7 @@ fn append_each_key(out: &mut Vec<u8>, counts: &[KeyCount]) -> Result<(), AllocEr
 fn append_keys(out: &mut Vec<u8>, counts: &[KeyCount]) -> Result<(), AllocError>
     ensures { OnOk result (out.new.items ≡ out.old.items ++ spaced (list_words (map key_word (keys_of counts.now)))) }
 {
-    let start = length_of(out);
+    let start = out.len();
     append_each_key(out, counts)?;
     end_list(out, start)?;
     Ok(())
@@ -119,17 +104,9 @@ fn append_cpu(
     end_line(out)
 }
 
-/// Whether a processor that is possible is present.
-fn is_cpu_present(head: &Head, cpu: u32) -> bool
-    requires { cpu < head.now.possible }
-    ensures { result ≡ is_present head.now cpu }
-{
-    !is_among(head.absent.as_slice(), cpu)
-}
-
 /// Appends a line for each processor.
 #[tactic(auto, unfolding(crate::specs::TallyText::cpus_text))]
-fn append_cpus(out: &mut Vec<u8>, head: &Head, walks: &Walks) -> Result<(), AllocError>
+fn append_cpus(out: &mut Vec<u8>, head: &Head, walks: &ProcessorTally) -> Result<(), AllocError>
     requires settled { length walks.now.settled.items ≡ head.now.possible }
     requires keys { length walks.now.keys.items ≡ head.now.possible }
     ensures { OnOk result (out.new.items ≡ out.old.items ++ cpus_text head.now walks.now) }
@@ -142,13 +119,18 @@ fn append_cpus(out: &mut Vec<u8>, head: &Head, walks: &Walks) -> Result<(), Allo
 
 /// Appends the line of a processor as it is tallied.
 #[tactic(auto, unfolding(crate::specs::TallyText::cpu_text))]
-fn append_cpu_of(out: &mut Vec<u8>, head: &Head, walks: &Walks, cpu: u32) -> Result<(), AllocError>
+fn append_cpu_of(
+    out: &mut Vec<u8>,
+    head: &Head,
+    walks: &ProcessorTally,
+    cpu: u32,
+) -> Result<(), AllocError>
     requires possible { cpu < head.now.possible }
     requires settled { length walks.now.settled.items ≡ head.now.possible }
     requires keys { length walks.now.keys.items ≡ head.now.possible }
     ensures { OnOk result (out.new.items ≡ out.old.items ++ cpu_text head.now walks.now cpu) }
 {
-    let present = is_cpu_present(head, cpu);
+    let present = head.is_present(cpu);
     let settled = walks.settled[cpu as usize];
     append_cpu(
         out,
@@ -172,7 +154,7 @@ fn append_disabled(out: &mut Vec<u8>, disabled: usize) -> Result<(), AllocError>
 fn append_if_frozen(out: &mut Vec<u8>, frozen: &[u32], cpu: u32) -> Result<(), AllocError>
     ensures { OnOk result (out.new.items ≡ out.old.items ++ frozen_word frozen.now cpu) }
 {
-    if is_among(frozen, cpu) {
+    if frozen.contains(&cpu) {
         append_number(out, cpu)
     } else {
         Ok(())
@@ -196,7 +178,7 @@ fn append_frozen_list(out: &mut Vec<u8>, frozen: &[u32], possible: u32) -> Resul
         ≡ out.old.items
         ++ spaced (list_words (map decimal (filter (λ c. among c frozen.now) (numbers possible))))) }
 {
-    let start = length_of(out);
+    let start = out.len();
     append_each_frozen(out, frozen, possible)?;
     end_list(out, start)?;
     Ok(())
@@ -237,10 +219,7 @@ fn append_registered(
 fn name_of(head: &Head, number: u32) -> &[u8]
     ensures { result.now ≡ name_of_sub head.now number }
 {
-    if number == 0 {
-        return &[];
-    }
-    match head.subs.as_slice().get(number as usize - 1) {
+    match head.sub(number) {
         Some(sub) => sub.name.as_slice(),
         None => &[],
     }
@@ -251,7 +230,7 @@ fn name_of(head: &Head, number: u32) -> &[u8]
 fn append_state(
     out: &mut Vec<u8>,
     head: &Head,
-    states: &States,
+    states: &StateTally,
     state: u32,
 ) -> Result<(), AllocError>
     requires subs { state < length states.now.subs.items }
@@ -279,7 +258,7 @@ fn append_state(
 fn append_states(
     out: &mut Vec<u8>,
     head: &Head,
-    states: &States,
+    states: &StateTally,
     many: u32,
 ) -> Result<(), AllocError>
     requires subs { length states.now.subs.items ≡ many }
@@ -296,7 +275,7 @@ fn append_states(
 
 /// Appends how operations were answered.
 #[tactic(auto, unfolding(crate::specs::TallyText::ops_text))]
-fn append_ops(out: &mut Vec<u8>, answers: &Answers) -> Result<(), AllocError>
+fn append_ops(out: &mut Vec<u8>, answers: &AnswerCounts) -> Result<(), AllocError>
     ensures { OnOk result (out.new.items ≡ out.old.items ++ ops_text answers.now) }
 {
     append_count_of(out, b"ops ok", answers.ok)?;

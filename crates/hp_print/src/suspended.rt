@@ -8,9 +8,9 @@ ghost use Rattle.hp_print.specs.Steps.{op_after, disabled_after, frozen_after, i
 use hp_event::{Answer, Event, Op};
 use std::alloc::{AllocError, Global};
 
-/// What operations of the map lock left behind.
+/// What is tallied of what operations of the map lock left behind.
 #[derive(Drop)]
-pub struct Suspended {
+pub struct SuspendTally {
     /// The operation that holds the map lock.
     pub op: Option<Op>,
     /// How often hotplug is disabled.
@@ -19,14 +19,14 @@ pub struct Suspended {
     pub frozen: Vec<u32>,
 }
 
-impl Suspended {
-    /// Of no events.
-    pub fn new(alloc: Global) -> Suspended
+impl SuspendTally {
+    /// What is left behind before any event.
+    pub fn new(alloc: Global) -> SuspendTally
         ensures op { result.op ≡ None }
         ensures disabled { result.disabled ≡ 0 }
         ensures frozen { result.frozen.items ≡ [] }
     {
-        Suspended {
+        SuspendTally {
             op: None,
             disabled: 0,
             frozen: Vec::new(alloc),

@@ -1,17 +1,19 @@
 //! Where processors stand, and how often the entries of their keys are done.
 
-ghost use Rattle.std.specs.Prelude.{◌≡◌, ℕ, OnOk, List, [], slice_set, slice_index_or};
-ghost use Rattle.hp_model.specs.Entries.{is_done};
+ghost use Rattle.std.specs.Prelude.{◌≡◌, ℕ, IfOk, OnOk, List, [], slice_set, slice_index_or, replicate};
+ghost use Rattle.hp_states.specs.declared.limits.TheConstants.{ONLINE};
+ghost use Rattle.hp_print.specs.Tallies.{IsWalks};
 ghost use Rattle.hp_print.specs.Counts.{AreInOrder};
 ghost use Rattle.hp_print.specs.Steps.{targets_after, settled_after, keys_after, stands_after};
 
 use crate::keys::KeyCounts;
-use hp_event::{Answer, Event, How, Key};
-use std::alloc::AllocError;
+use hp_event::{Answer, Event, Key};
+use hp_states::{OFFLINE, first_state};
+use std::alloc::{AllocError, Global};
 
-/// The processors of a journal, each at its number.
+/// What is tallied of the processors of a journal, each at its number.
 #[derive(Drop)]
-pub struct Walks {
+pub struct ProcessorTally {
     /// The settled states.
     pub settled: Vec<u32>,
     /// The targets of the walks in flight.
@@ -20,28 +22,37 @@ pub struct Walks {
     pub keys: Vec<KeyCounts>,
 }
 
-/// Whether an entry is done.
-fn is_entry_done(how: How) -> bool
-    ensures { result ≡ is_done how }
+/// The settled states before any event: processor 0 is up, the others are down.
+fn first_settled(alloc: Global, many: usize) -> Result<Vec<u32>, AllocError>
+    ensures { IfOk result (λ v. v.items ≡ slice_set (replicate many OFFLINE) 0 ONLINE) }
 {
-    match how {
-        How::RanOk | How::Empty | How::Presumed | How::Overruled(_) => true,
-        How::RanFault(_) | How::Injected => false,
+    let mut settled = vec![in alloc; OFFLINE; many]?;
+    if many > 0 {
+        settled[0] = first_state(0);
     }
+    Ok(settled)
 }
 
-/// Where a walk leaves its processor.
-fn left_at(answer: Answer, target: Option<u32>, at: u32) -> u32
-    ensures { result ≡ stands_after answer target at }
-{
-    match answer {
-        Answer::Ok(_) => target.unwrap_or(at),
-        Answer::Stuck { at: stuck_at, .. } => stuck_at,
-        Answer::Refused(_) | Answer::Fault(_) | Answer::LogFull => at,
+impl ProcessorTally {
+    /// The processors before any event.
+    pub fn new(alloc: Global, possible: u32) -> Result<ProcessorTally, AllocError>
+        ensures { IfOk result (λ w. IsWalks possible [] w) }
+    {
+        let many = possible as usize;
+        let settled = first_settled(alloc, many)?;
+        let mut targets = Vec::new(alloc);
+        let mut keys = Vec::new(alloc);
+        for count in 0..many {
+            targets.push(None)?;
+            keys.push(KeyCounts::new(alloc))?;
+        }
+        Ok(ProcessorTally {
+            settled,
+            targets,
+            keys,
+        })
     }
-}
 
-impl Walks {
     /// Counts one event more.
     pub fn count(&mut self, event: &Event) -> Result<(), AllocError>
         requires order { (c : ℕ) → AreInOrder (slice_index_or self.old.keys.items c []) }
@@ -65,7 +76,7 @@ impl Walks {
             } => {
                 let at = cpu as usize;
                 if at < self.keys.len() {
-                    self.keys[at].count(Key { state, inst }, dir, is_entry_done(how))
+                    self.keys[at].count(Key { state, inst }, dir, how.is_done())
                 } else {
                     Ok(())
                 }
@@ -103,7 +114,8 @@ impl Walks {
         let at = cpu as usize;
         let target = self.targets.get(at).copied().unwrap_or(None);
         if at < self.settled.len() {
-            self.settled[at] = left_at(answer, target, self.settled[at]);
+            let stood = self.settled[at];
+            self.settled[at] = answer.leaves_at(target.unwrap_or(stood), stood);
         }
         if at < self.targets.len() {
             self.targets[at] = None;

@@ -73,6 +73,14 @@ pub fn append_number(out: &mut Vec<u8>, number: u32) -> Result<(), AllocError>
     }
 }
 
+/// Appends a word and, behind a space, the number that it is of.
+pub fn append_of(out: &mut Vec<u8>, word: &[u8], number: u32) -> Result<(), AllocError>
+    ensures { OnOk result (out.new.items ≡ out.old.items ++ (word.now ++ 32 ∷ decimal number)) }
+{
+    append(out, word)?;
+    append_number(out, number)
+}
+
 /// Appends a signed number, behind a space.
 pub fn append_signed(out: &mut Vec<u8>, number: i32) -> Result<(), AllocError>
     ensures { OnOk result (out.new.items ≡ out.old.items ++ 32 ∷ signed_decimal number) }

@@ -4,28 +4,28 @@ use Rattle.std.proofs.Common.{◌≡◌, ℕ, zero, suc, ◌+◌, ◌<◌, ◌�
 use Rattle.std.specs.Prelude.{AllPairs, slice_index}
 use Rattle.std.proofs.lemmas.Bool.{lt-ltb}
 use Rattle.std.proofs.lemmas.List.Elements.{filter-append}
-use Rattle.hp_states.specs.declared.section.Dir.{Dir}
-use Rattle.hp_states.specs.declared.section.Place.{Place}
-use Rattle.hp_event.specs.declared.event.Op.{Op}
-use Rattle.hp_event.specs.declared.event.Op.TheVariants.{Setup, Remove, Add, Del}
-use Rattle.hp_event.specs.declared.event.Answer.{Answer}
-use Rattle.hp_event.specs.declared.event.How.{How}
+use Rattle.hp_states.specs.declared.dir.Dir.{Dir}
+use Rattle.hp_states.specs.declared.place.Place.{Place}
+use Rattle.hp_event.specs.declared.op.Op.{Op}
+use Rattle.hp_event.specs.declared.op.Op.TheVariants.{Setup, Remove, Add, Del}
+use Rattle.hp_event.specs.declared.answer.Answer.{Answer}
+use Rattle.hp_event.specs.declared.how.How.{How}
 use Rattle.hp_event.specs.declared.head.Head.{Head}
 use Rattle.hp_event.specs.declared.event.Event.{Event}
 use Rattle.hp_event.specs.declared.event.Event.TheVariants.{Call}
 use Rattle.hp_model.specs.Lists.{numbers}
 use Rattle.hp_model.specs.Settled.{settled}
-use Rattle.hp_model.specs.Subsystems.{is_multi}
 use Rattle.hp_model.specs.Processors.{is_present, processors}
 use Rattle.hp_model.specs.Registered.{Registered}
 use Rattle.hp_model.specs.Registrations.{Registration, registration, registration_entries}
-use Rattle.hp_model.specs.RegistrationShape.{single, single_at, key_of_op, key_of}
+use Rattle.hp_model.specs.RegistrationShape.{key_of_op, key_of}
 use Rattle.hp_model.specs.How.{how_in_registration}
 use Rattle.hp_model.specs.Caller.{caller}
 use Rattle.hp_model.specs.StandsCalls.{InRegistration}
 use Rattle.hp_model.specs.StandsRegistrations.{RegEnds}
 use Rattle.hp_table.specs.Step.{Step}
-use Rattle.hp_reg.specs.Concerned.{is_concerned, concerned, single_in, key_in}
+use Rattle.hp_reg.specs.Concerned.{is_concerned, concerned, key_in}
+pub use Rattle.hp_reg.specs.Known.{IsKnown}
 use Rattle.hp_reg.specs.Progress.{Progress}
 use Rattle.hp_reg.specs.Asked.{asked}
 use Rattle.hp_reg.specs.After.{IsNextEntry, IsWhole}
@@ -68,12 +68,6 @@ concerned_few s stands absent = few (is_concerned s stands absent) (length stand
         last true h = omega arith
         last false h = omega arith
 
--- the key is that of the events, where the table says of the state what they say
-abbrev pub IsKnown : Head → Op → Option Registered → Option Step → Type 0
-IsKnown head (Setup state sub form) found place = single (is_multi head sub) ≡ single_in place
-IsKnown head (Remove state form) found place = single_at found ≡ single_in place
-IsKnown head _ found place = Unit {0}
-
 pub key_known : (head : Head) (op : Op) (found : Option Registered) (place : Option Step) → IsKnown head op found place →
     key_of_op head op found ≡ key_in op place
 key_known head (Setup state sub form) found place h = h
@@ -94,15 +88,17 @@ pub in_registration : (head : Head) (before : List Event) (of : Registration) (p
     how ≡ how_in_registration head before of.op cpu state inst dir place → caller before cpu state how of.seat ≡ Some seat →
     InRegistration head before seat cpu state inst dir how
 in_registration head before of p seat cpu state inst dir how place f o s n h c = record {
-  of = of;
-  in_flight = f;
-  outcome = n.outcome;
-  slots = n.slots;
-  shape = rw (o, s) at n.shape;
-  slot = n.slot;
-  is_next = n.is_next;
-  fits = n.fits;
-  how_is = rw n.place_is h;
+  entry = record {
+    of = of;
+    in_flight = f;
+    outcome = n.outcome;
+    slots = n.slots;
+    shape = rw (o, s) at n.shape;
+    slot = n.slot;
+    is_next = n.is_next;
+    fits = n.fits;
+    how_is = rw n.place_is h;
+  };
   caller_is = c;
 }
 

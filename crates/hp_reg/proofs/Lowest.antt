@@ -1,12 +1,12 @@
 -- The lowest processor that is left, found by looking at the numbers in turn.
-use Rattle.std.proofs.Common.{◌≡◌, ℕ, zero, suc, ◌+◌, ◌<◌, ◌≤◌, Bool, true, false, cond, ◌&&◌, leb, ltb, min, eqb, ◌||◌, zero-add, Option, Some, None, IfSome, IfNone, List, [], ◌∷◌, ◌++◌, filter, length, get_or, refl, ap, sym, ◌∙◌, arith}
-use Rattle.std.proofs.lemmas.Bool.{le-leb, leb-true, lt-ltb, ltb-true, ltb-false, le-ltb}
-use Rattle.std.specs.List.{list_any}
+use Rattle.std.proofs.Common.{◌≡◌, ℕ, zero, suc, ◌<◌, ◌≤◌, Bool, true, false, cond, ◌&&◌, leb, ltb, min, Option, Some, None, IfSome, IfNone, List, [], ◌∷◌, ◌++◌, filter, length, get_or, refl, ap, ◌∙◌, arith}
+use Rattle.std.proofs.lemmas.Bool.{le-leb, leb-true, lt-ltb, ltb-true, ltb-false}
 use Rattle.std.specs.Prelude.{All, AllPairs}
 use Rattle.std.proofs.lemmas.List.Elements.{filter-append, All-append}
 use Rattle.std.proofs.lemmas.List.Kept.{AllPairs-filter}
 use Rattle.std.proofs.lemmas.List.Quantifiers.{all_pairs_push}
-use Rattle.hp_model.specs.Lists.{numbers, occurs, among}
+use Rattle.hp_model.specs.Lists.{numbers}
+pub use Rattle.hp_event.proofs.Among.{among_any as any_among}
 use Rattle.hp_reg.specs.declared.phase.Phase.{Phase}
 use Rattle.hp_reg.specs.declared.phase.Phase.TheVariants.{Making, Undoing}
 use Rattle.hp_reg.specs.Concerned.{is_concerned, concerned}
@@ -151,13 +151,3 @@ lowest_undone ph from failed code to s settled absent (Some c) e t h k =
       h.2,
       rw e (undoing_some (is_concerned s settled absent) (length settled) from failed c h.0 within h.2 k),
     )
-
--- whether a number is in a list, by looking
-pub any_among : (c : ℕ) (xs : List ℕ) → list_any (λ x. eqb x c) xs ≡ among c xs
-any_among c [] = sym (le-ltb 0 0 (omega arith))
-any_among c (x ∷ xs) = go (eqb x c) (any_among c xs)
-  where
-    go : (b : Bool) → list_any (λ x. eqb x c) xs ≡ among c xs →
-        (b || list_any (λ x. eqb x c) xs) ≡ ltb 0 (cond b 1 0 + occurs c xs)
-    go true h = sym (lt-ltb 0 (1 + occurs c xs) (omega arith))
-    go false h = rw zero-add h

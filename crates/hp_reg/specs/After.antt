@@ -2,22 +2,21 @@
 -- by another entry of a registration shape, or by the end of one. This project's own; the shapes are those of
 -- `RegistrationShape.antt` of hp_model.
 use Rattle.std.specs.Prelude.{◌≡◌, ℕ, ◌<◌, Bool, true, false, Option, Some, None, List, [], ◌∷◌, AllPairs}
-use Rattle.hp_states.specs.declared.section.Dir.{Dir}
-use Rattle.hp_states.specs.declared.section.Place.{Place}
-use Rattle.hp_states.specs.declared.section.Place.TheVariants.{Undo, Remove}
-use Rattle.hp_event.specs.declared.event.Answer.{Answer}
-use Rattle.hp_event.specs.declared.event.How.{How}
+use Rattle.hp_states.specs.declared.dir.Dir.{Dir}
+use Rattle.hp_states.specs.declared.place.Place.{Place}
+use Rattle.hp_states.specs.declared.place.Place.TheVariants.{Undo, Remove}
+use Rattle.hp_event.specs.declared.answer.Answer.{Answer}
+use Rattle.hp_event.specs.declared.how.How.{How}
 use Rattle.hp_event.specs.declared.event.Event.{Event}
 use Rattle.hp_event.specs.declared.event.Event.TheVariants as event
-use Rattle.hp_event.specs.declared.event.Key.{Key}
+use Rattle.hp_event.specs.declared.key.Key.{Key}
 use Rattle.hp_model.specs.Entries.{codes_of_faults}
 use Rattle.hp_model.specs.Crossing.{Slot, Fits, Fill}
 use Rattle.hp_model.specs.How.{fits}
 use Rattle.hp_model.specs.RegistrationShape.{is_adding, ok_value, Registering, IsRegistrationShape, IsRegistrationAnswer}
 use Rattle.hp_model.specs.StandsCalls.{IsNext}
-use Rattle.hp_model.proofs.NextSlot.{Tree, stop}
-use Rattle.hp_model.proofs.NextRegistration.{down_tree, add_tree, registration_tree}
-use Rattle.hp_model.proofs.Cursor.{Runs}
+use Rattle.hp_model.specs.Trees.{Tree, stop, down_tree, add_tree, registration_tree}
+use Rattle.hp_model.specs.Runs.{Runs}
 use Rattle.hp_reg.specs.declared.phase.Phase.{Phase}
 use Rattle.hp_reg.specs.declared.phase.Phase.TheVariants.{Making, Undoing}
 use Rattle.hp_reg.specs.declared.step.RegStep.{RegStep}

@@ -2,8 +2,8 @@
 -- processors stand, and which are absent. After the loops over the present processors of
 -- `__cpuhp_setup_state_cpuslocked` and its kin of `kernel/cpu.c`.
 use Rattle.std.specs.Prelude.{ℕ, Bool, not, ◌&&◌, nat_le, Option, Some, None, List, filter, length, slice_index}
-use Rattle.hp_event.specs.declared.event.Op.{Op}
-use Rattle.hp_event.specs.declared.event.Op.TheVariants.{Setup, Remove, Add, Del}
+use Rattle.hp_event.specs.declared.op.Op.{Op}
+use Rattle.hp_event.specs.declared.op.Op.TheVariants.{Setup, Remove, Add, Del}
 use Rattle.hp_model.specs.Lists.{among, numbers}
 use Rattle.hp_model.specs.RegistrationShape.{single}
 use Rattle.hp_table.specs.Step.{Step, step_at}

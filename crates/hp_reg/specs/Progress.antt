@@ -1,6 +1,6 @@
 -- How far a registration has come. This project's own.
 use Rattle.std.specs.Prelude.{ℕ, ◌+◌, nat_le, nat_lt, Option, Some, None, List, filter}
-use Rattle.hp_event.specs.declared.event.Op.{Op}
+use Rattle.hp_event.specs.declared.op.Op.{Op}
 use Rattle.hp_reg.specs.declared.phase.Phase.{Phase}
 use Rattle.hp_reg.specs.declared.phase.Phase.TheVariants.{Making, Undoing}
 

@@ -1,16 +1,17 @@
 //! A registration in flight.
 
 ghost use Rattle.std.specs.Prelude.{◌≡◌, ℕ, ◌-◌, ◌*◌, ◌<◌, ◌≤◌, true, false, Option, IfSome, IfNone, List, [], ◌∷◌, ◌++◌, AllPairs, length};
-ghost use Rattle.hp_states.specs.declared.section.Dir.{Dir as ADir};
-ghost use Rattle.hp_states.specs.declared.section.Place.{Place as APlace};
-ghost use Rattle.hp_event.specs.declared.event.Key.{Key as AKey};
+ghost use Rattle.hp_states.specs.declared.dir.Dir.{Dir as ADir};
+ghost use Rattle.hp_states.specs.declared.place.Place.{Place as APlace};
+ghost use Rattle.hp_event.specs.declared.key.Key.{Key as AKey};
 ghost use Rattle.hp_event.specs.declared.event.Event.{Event};
 ghost use Rattle.hp_event.specs.declared.event.Event.TheVariants as event;
 ghost use Rattle.hp_model.specs.Events.{is_registration_op};
 ghost use Rattle.hp_model.specs.Lists.{among};
 ghost use Rattle.hp_model.specs.Entries.{fault_of};
 ghost use Rattle.hp_model.specs.How.{fits};
-ghost use Rattle.hp_model.specs.RegistrationShape.{is_adding, ok_value};
+ghost use Rattle.hp_event.specs.Ops.{is_adding};
+ghost use Rattle.hp_model.specs.RegistrationShape.{ok_value};
 ghost use Rattle.hp_reg.specs.Concerned.{is_concerned, key_at, cpus_at};
 ghost use Rattle.hp_reg.specs.Progress.{cpus_left, past};
 ghost use Rattle.hp_reg.specs.Asked.{direction, place, answer, asked, IfCall};
@@ -21,7 +22,7 @@ use crate::phase::Phase;
 use crate::step::RegStep;
 use hp_event::{Answer, How, Key, Op};
 use hp_hook::Hook;
-use hp_states::{Dir, EAGAIN, MAX_CPUS, ONLINE, ONLINE_DYN, PREPARE_DYN, Place};
+use hp_states::{Dir, MAX_CPUS, ONLINE, Place, Range};
 use hp_table::Table;
 use std::marker::Model;
 
@@ -72,6 +73,23 @@ impl Reg {
         }
     }
 
+    /// The operation that registers. Takes no memory. That a registration is made one entry at a
+    /// time is this project's own.
+    pub fn op(&self) -> Op
+        ensures { result ≡ self.now.op }
+    {
+        self.op
+    }
+
+    /// The state that the operation registers or changes, at most 200. Takes no memory. Of a dynamic
+    /// setup it is the slot that was found, as in `cpuhp_reserve_state` of `kernel/cpu.c`.
+    pub fn state(&self) -> u32
+        ensures state { result ≡ self.now.state }
+        ensures within { result ≤ ONLINE }
+    {
+        self.state
+    }
+
     /// What comes next: an entry, or the end.
     ///
     /// `settled` has the state at which each possible processor stands, of at most `MAX_CPUS`, and
@@ -81,11 +99,12 @@ impl Reg {
     ///
     /// - `Call`: the entry on the lowest processor that is left. A setup and an add go upwards over
     ///   the present processors that stand at the state or above it, in rising number (`Add`); after
-    ///   a fault, downwards over those of them below the one that failed, in rising number (`Undo`).
-    ///   A remove and a del go downwards over all of them (`Remove`). The key has the instance of an
+    ///   a fault they are rolled back, downwards over those of them below the one that failed, in
+    ///   rising number (`Undo`). A remove and a del go downwards over all of them (`Remove`). The key has the instance of an
     ///   add or a del, else 0. A setup or a remove of a state with an instance list has no key and
     ///   makes no entry.
-    /// - `Ended(Fault)`, with the code of the fault, where an entry faulted and the others are undone.
+    /// - `Ended(Fault)`, with the code of the fault, where an entry faulted and the others are rolled
+    ///   back.
     /// - `Ended(Ok)` where no entry faulted: the state for a setup of 41 or 141, else 0.
     ///
     /// After `__cpuhp_setup_state_cpuslocked`, `__cpuhp_state_add_instance_cpuslocked`,
@@ -116,12 +135,12 @@ impl Reg {
         }
     }
 
-    /// Goes on after the entry on a processor was made so.
+    /// Goes on after the entry on a processor: `how` says how it was made.
     ///
-    /// `cpu` is below `MAX_CPUS`. `next` asked for this entry, and the how fits its place: it is done,
-    /// or it is a fault and `may_fail` of hp_states holds. Of another entry or how nothing is promised
-    /// but that the operation and the state stay. After a fault the processors before this one are to
-    /// be undone, and the fault's code is kept: 11 where it was injected. Takes no memory. That an
+    /// `cpu` is below `MAX_CPUS`. `next` asked for this entry, and `how` fits its place: the entry is
+    /// done, or it is a fault and `may_fail` of hp_states holds. Otherwise nothing is promised but
+    /// that the operation and the state stay. After a fault the processors before this one are to be
+    /// rolled back, and the fault's code is kept: 11 where it was injected. Takes no memory. That an
     /// entry which must not fail goes on whatever it answers is this project's own.
     pub fn took(&mut self, cpu: u32, how: How)
         requires { cpu < MAX_CPUS }
@@ -169,19 +188,12 @@ impl Reg {
         }
     }
 
-    /// Whether the entries are upwards, as long as none faults.
-    fn is_adding(&self) -> bool
-        ensures { result ≡ is_adding self.now.op }
-    {
-        matches!(self.op, Op::Setup { .. } | Op::Add { .. })
-    }
-
     /// The direction of the entry that comes next.
     fn dir(&self) -> Dir
         ensures { result ≡ direction self.now.phase (is_adding self.now.op) }
     {
         match self.phase {
-            Phase::Making { .. } if self.is_adding() => Dir::Up,
+            Phase::Making { .. } if self.op.is_adding() => Dir::Up,
             _ => Dir::Down,
         }
     }
@@ -191,7 +203,7 @@ impl Reg {
         ensures { result ≡ place self.now.phase (is_adding self.now.op) }
     {
         match self.phase {
-            Phase::Making { .. } if self.is_adding() => Place::Add,
+            Phase::Making { .. } if self.op.is_adding() => Place::Add,
             Phase::Making { .. } => Place::Remove,
             Phase::Undoing { .. } => Place::Undo,
         }
@@ -213,10 +225,7 @@ impl Reg {
         ensures within { result ≤ ONLINE }
     {
         match self.op {
-            Op::Setup {
-                state: PREPARE_DYN | ONLINE_DYN,
-                ..
-            } => self.state,
+            Op::Setup { state, .. } if Range::asked_by(state).is_some() => self.state,
             _ => 0,
         }
     }
@@ -227,7 +236,7 @@ fn past(phase: Phase, cpu: u32, how: How) -> Phase
     requires { cpu < MAX_CPUS }
     ensures { result ≡ past phase cpu (fault_of how) }
 {
-    if let Some(code) = code_of(how) {
+    if let Some(code) = how.fault() {
         return Phase::Undoing {
             from: 0,
             failed: cpu,
@@ -238,17 +247,6 @@ fn past(phase: Phase, cpu: u32, how: How) -> Phase
     match phase {
         Phase::Making { .. } => Phase::Making { from },
         Phase::Undoing { failed, code, .. } => Phase::Undoing { from, failed, code },
-    }
-}
-
-/// The code of a fault; none of an entry that is done.
-fn code_of(how: How) -> Option<u32>
-    ensures { result ≡ fault_of how }
-{
-    match how {
-        How::RanFault(code) => Some(code),
-        How::Injected => Some(EAGAIN),
-        How::RanOk | How::Empty | How::Presumed | How::Overruled(_) => None,
     }
 }
 

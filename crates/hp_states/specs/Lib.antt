@@ -1,4 +1,6 @@
 pub mod Sections
+pub mod Crossings
+pub mod Names
 pub mod Rules
 pub mod Plans
 pub mod PlanFields

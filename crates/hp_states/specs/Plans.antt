@@ -2,7 +2,7 @@
 -- list determines the places. This project's own.
 use Rattle.std.specs.Prelude.{◌≡◌, ℕ, ◌-◌, ◌≤◌, None, List, ◌++◌, length, drop, replicate}
 use Rattle.hp_states.specs.declared.limits.TheConstants.{MAX_RULES}
-use Rattle.hp_states.specs.declared.section.Dir.TheVariants.{Up}
+use Rattle.hp_states.specs.declared.dir.Dir.TheVariants.{Up}
 use Rattle.hp_states.specs.declared.plan.Rule.{Rule}
 
 -- the rule that stands in the places past a plan's end

@@ -1,14 +1,16 @@
 -- The sections of the state table, its built-in names, and where a callback may fail. The order of the
 -- anchors is that of `cpuhotplug.h`; the numbers, the names, the states that a walk can't stop at and
 -- where a callback may fail are this project's own.
-use Rattle.std.specs.Prelude.{ℕ, Bool, true, false, not, ◌&&◌, ◌+◌, ◌==◌, nat_lt, nat_le, if◌then◌else◌, Option, Some, None, List, [], ◌∷◌, codes}
+use Rattle.std.specs.Prelude.{ℕ, Bool, true, false, not, ◌&&◌, ◌+◌, ◌==◌, nat_lt, nat_le, is_some, if◌then◌else◌, Option, Some, None, List, [], ◌∷◌, codes}
 use Rattle.hp_states.specs.declared.limits.TheConstants.{OFFLINE, PREPARE_DYN, PREPARE_DYN_END, BRINGUP_CPU, AP_ONLINE, TEARDOWN_CPU, ONLINE_DYN, ONLINE_DYN_END, ONLINE}
 use Rattle.hp_states.specs.declared.section.Section.{Section}
 use Rattle.hp_states.specs.declared.section.Section.TheVariants.{Prepare, Starting, Online}
-use Rattle.hp_states.specs.declared.section.Dir.{Dir}
-use Rattle.hp_states.specs.declared.section.Dir.TheVariants.{Up, Down}
-use Rattle.hp_states.specs.declared.section.Place.{Place}
-use Rattle.hp_states.specs.declared.section.Place.TheVariants.{Forward, Back, Part, Add, Undo, Remove}
+use Rattle.hp_states.specs.declared.section.Range.{Range}
+use Rattle.hp_states.specs.declared.section.Range.TheVariants as range
+use Rattle.hp_states.specs.declared.dir.Dir.{Dir}
+use Rattle.hp_states.specs.declared.dir.Dir.TheVariants.{Up, Down}
+use Rattle.hp_states.specs.declared.place.Place.{Place}
+use Rattle.hp_states.specs.declared.place.Place.TheVariants.{Forward, Back, Part, Add, Undo, Remove}
 
 -- PREPARE is 0 to 62, STARTING is 63 to 100, ONLINE is 101 to 200
 abbrev pub section_at : (state : ℕ) → Section
@@ -50,9 +52,29 @@ name_in (named ∷ others) s = if s == named.0 then Some named.1 else name_in ot
 abbrev pub name_of_builtin : (state : ℕ) → Option (List ℕ)
 name_of_builtin s = name_in builtins s
 
+abbrev pub is_builtin : (state : ℕ) → Bool
+is_builtin s = is_some (name_of_builtin s)
+
+-- where a processor stands before its first walk: processor 0 at the highest state, the others at the lowest
+abbrev pub first_state : (cpu : ℕ) → ℕ
+first_state c = if c == 0 then ONLINE else OFFLINE
+
 -- a dynamic range is asked for by the number of its first state
 abbrev pub is_dynamic : (state : ℕ) → Bool
 is_dynamic s = if s == PREPARE_DYN then true else s == ONLINE_DYN
+
+-- the range that is asked for, where one is
+abbrev pub range_asked_by : (state : ℕ) → Option Range
+range_asked_by s = if s == PREPARE_DYN then Some range.Prepare else (if s == ONLINE_DYN then Some range.Online else None)
+
+-- the first and the last state of a range
+abbrev pub first_slot : Range → ℕ
+first_slot range.Prepare = PREPARE_DYN
+first_slot range.Online = ONLINE_DYN
+
+abbrev pub last_slot : Range → ℕ
+last_slot range.Prepare = PREPARE_DYN_END
+last_slot range.Online = ONLINE_DYN_END
 
 -- the last state of the range that is asked for
 abbrev pub end_of_range : (asked : ℕ) → ℕ

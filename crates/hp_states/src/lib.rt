@@ -5,17 +5,23 @@
 //! answers to a call. Every limit of the project has its name here.
 //!
 //! Its contract is a set of tables, each a definition of `specs/` that a clause cites:
-//! `specs/Sections.antt` for the states, `specs/Rules.antt` for plans. `answer_by_counts` is the law
-//! that a plan's answers can be had from counts, one for each rule. No function takes memory, and
-//! none refuses anything but a ninth rule.
+//! `specs/Sections.antt` for the states, `specs/Crossings.antt` for walks across them,
+//! `specs/Names.antt` for the form of a name, `specs/Rules.antt` for plans. `answer_by_counts` is
+//! the law that a plan's answers can be had from counts, one for each rule. No function takes
+//! memory, and none refuses anything but a ninth rule.
 #![tactic(auto)]
 
+mod dir;
 mod limits;
+mod name;
+mod no_memory;
+mod place;
 mod plan;
 mod section;
 #[cfg(test)]
 mod tests;
 
+pub use dir::Dir;
 pub use limits::{
     AP_ONLINE, BRINGUP_CPU, EAGAIN, EBUSY, EDEADLK, EINVAL, ENOSPC, EPERM, MAX_ACTORS, MAX_CODE,
     MAX_CPUS, MAX_EVENTS, MAX_INSTANCE, MAX_INSTANCES, MAX_JOURNAL_BYTES, MAX_NAME_LEN,
@@ -23,7 +29,11 @@ pub use limits::{
     MAX_TABLE_INSTANCES, OFFLINE, ONLINE, ONLINE_DYN, ONLINE_DYN_END, PREPARE_DYN, PREPARE_DYN_END,
     TEARDOWN_CPU,
 };
+pub use name::{is_name, is_name_byte};
+pub use no_memory::NoMemory;
+pub use place::Place;
 pub use plan::{HookPlan, Rule, answer_by_counts};
 pub use section::{
-    Dir, Place, Range, Section, builtin_name, can_stop, is_ap, is_atomic, may_fail, section_of,
+    Range, Section, builtin_name, can_stop, first_state, is_ap, is_atomic, is_builtin, may_fail,
+    section_of,
 };

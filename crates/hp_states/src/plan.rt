@@ -1,10 +1,10 @@
 //! The plan of a callback: the rules by which it answers.
 
 ghost use Rattle.std.specs.Prelude.{◌≡◌, ◌<◌, ◌≤◌, ◌++◌, ◌∷◌, [], length, IsTrue, ◌↔◌, if◌then◌else◌, List};
-ghost use Rattle.hp_states.specs.Rules.{Site, answer_of, counted_answer, counts_of, raised};
+ghost use Rattle.hp_states.specs.Rules.{Site, site_at, matches as matches_of, answer_of, counted_answer, counts_of, raised};
 
+use crate::dir::Dir;
 use crate::limits::MAX_RULES;
-use crate::section::Dir;
 use std::marker::Model;
 
 /// One rule of a plan: at which calls the callback answers which code. An absent field matches every
@@ -21,6 +21,21 @@ pub struct Rule {
     pub nth: Option<u32>,
     /// The code that is answered, 1 to 4,095.
     pub code: u32,
+}
+
+impl Rule {
+    /// Whether the rule matches a call: it has the call's direction, and the processor and the
+    /// instance that it asks for, if it asks for one.
+    ///
+    /// Which calls matched before is not looked at: whether the rule answers is decided by `nth`
+    /// too. Takes no memory. This project's own.
+    pub fn matches(&self, cpu: u32, inst: u32, dir: Dir) -> bool
+        ensures { result ≡ matches_of self.now (site_at cpu inst dir) }
+    {
+        self.dir == dir
+            && self.cpu.is_none_or(|only| only == cpu)
+            && self.inst.is_none_or(|only| only == inst)
+    }
 }
 
 /// The places of a plan.

@@ -1,6 +1,8 @@
+//! What no clause says: that the tables come out as written by hand, and plans as they are filled.
+
 use crate::{
-    Dir, HookPlan, Place, Rule, Section, builtin_name, can_stop, is_ap, is_atomic, may_fail,
-    section_of,
+    Dir, HookPlan, Place, Range, Rule, Section, builtin_name, can_stop, first_state, is_ap,
+    is_atomic, is_builtin, is_name, is_name_byte, may_fail, section_of,
 };
 
 #[test]
@@ -59,7 +61,88 @@ fn states_lie_in_their_sections(rt: HostRuntime) {
         assert_eq!(rt; is_ap(state), ap, "at {state}");
         assert_eq!(rt; is_atomic(state), atomic, "at {state}");
         assert_eq!(rt; can_stop(state), stop, "at {state}");
+        assert_eq!(rt; is_builtin(state), name.is_some(), "at {state}");
     }
+    assert_eq!(rt; section_of(201), Section::Online);
+    assert_eq!(rt; builtin_name(u32::MAX), None);
+}
+
+#[test]
+fn a_dynamic_range_is_asked_for_by_its_first_state(rt: HostRuntime) {
+    for (state, range) in [
+        (40, None),
+        (41, Some(Range::Prepare)),
+        (42, None),
+        (141, Some(Range::Online)),
+        (171, None),
+    ] {
+        assert_eq!(rt; Range::asked_by(state), range, "at {state}");
+    }
+    assert_eq!(rt; (Range::Prepare.first(), Range::Prepare.last()), (41, 61));
+    assert_eq!(rt; (Range::Online.first(), Range::Online.last()), (141, 171));
+}
+
+#[test]
+fn processors_begin_and_cross_states(rt: HostRuntime) {
+    assert_eq!(rt;
+        (first_state(0), first_state(1), first_state(63)),
+        (200, 0, 0)
+    );
+    assert_eq!(rt;
+        (Dir::between(0, 1), Dir::between(1, 0)),
+        (Dir::Up, Dir::Down)
+    );
+    for (dir, before, after) in [(Dir::Up, 109, 110), (Dir::Down, 110, 109)] {
+        assert_eq!(rt;
+            (dir.state_before(110), dir.state_after(110)),
+            (before, after)
+        );
+        assert_eq!(rt; dir.opposite().state_before(110), after);
+    }
+}
+
+#[test]
+fn names_have_their_form(rt: HostRuntime) {
+    let long = [b'a'; 33];
+    for (name, wanted) in [
+        (b"net:queue/0_a.B-9".as_slice(), true),
+        (b"".as_slice(), true),
+        (b"-".as_slice(), false),
+        (b"--".as_slice(), true),
+        (b"a b".as_slice(), false),
+        (&long[..32], true),
+        (&long[..], false),
+    ] {
+        assert_eq!(rt; is_name(name), wanted);
+    }
+    for byte in [
+        b'a', b'z', b'A', b'Z', b'0', b'9', b':', b'_', b'/', b'.', b'-',
+    ] {
+        assert!(rt; is_name_byte(byte));
+    }
+    for byte in [b' ', b'@', b'[', b'`', b'{', b',', b';', b'*', 0, 127, 255] {
+        assert!(rt; !is_name_byte(byte));
+    }
+}
+
+#[test]
+fn a_rule_matches_the_calls_that_it_names(rt: HostRuntime) {
+    let rule = Rule {
+        dir: Dir::Up,
+        cpu: Some(3),
+        inst: None,
+        nth: Some(2),
+        code: 5,
+    };
+    assert!(rt; rule.matches(3, 7, Dir::Up));
+    assert!(rt; !rule.matches(2, 7, Dir::Up));
+    assert!(rt; !rule.matches(3, 7, Dir::Down));
+    let rule = Rule {
+        inst: Some(7),
+        ..rule
+    };
+    assert!(rt; rule.matches(3, 7, Dir::Up));
+    assert!(rt; !rule.matches(3, 3, Dir::Up));
 }
 
 /// At a PREPARE, a STARTING and an ONLINE state: may the startup fail, may the teardown.

@@ -3,3 +3,7 @@ pub mod Counts
 pub mod Steps
 pub mod Tables
 pub mod Members
+pub mod Placed
+pub mod Clearing
+pub mod HookCount
+pub mod KeyTotals

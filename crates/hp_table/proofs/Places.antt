@@ -1,8 +1,8 @@
 -- What stands at a state: read from the list of places, and after a write.
-use Rattle.std.proofs.Common.{◌≡◌, ◌≢◌, ℕ, zero, suc, ◌<◌, ◌≤◌, Option, Some, None, IsSome, List, [], ◌∷◌, length, get_or, refl, ap, sym, ◌∙◌, subst, arith, ⊎_elim}
+use Rattle.std.proofs.Common.{◌≡◌, ◌≢◌, ℕ, zero, suc, ◌<◌, ◌≤◌, Bool, true, false, cond, eqb, Option, Some, None, IsSome, List, [], ◌∷◌, length, get_or, refl, ap, sym, ◌∙◌, subst, arith, ⊎_elim}
 use Rattle.std.specs.Prelude.{slice_set, replicate}
-use Rattle.std.proofs.lemmas.Bool.{cases_eq, false≢true}
-use Rattle.hp_table.specs.Step.{Step, step_at, changed_at}
+use Rattle.std.proofs.lemmas.Bool.{cases_eq, eqb-true, eqb-false, false≢true}
+use Rattle.hp_table.specs.Step.{Step, step_at, changed, changed_at}
 
 -- the element at a state is what stands there
 pub step_at-read : (places : List (Option Step)) (s : ℕ) (place : Option Step) → s < length places →
@@ -42,23 +42,41 @@ step_at-set_other (x ∷ xs) zero place (suc t) other = refl
 step_at-set_other (x ∷ xs) (suc s) place zero other = refl
 step_at-set_other (x ∷ xs) (suc s) place (suc t) other = step_at-set_other xs s place t (λ e. other (ap suc e))
 
--- what holds at the place that is written and at each other one
+-- what holds at the place that is written and at each other place
 pub at_each : (P : ℕ → Option Step → Type 0) (places : List (Option Step)) (state : ℕ) (place : Option Step) →
-    state < length places → P state place → ((s : ℕ) → P s (step_at places s)) →
+    state < length places → P state place → ((s : ℕ) → state ≢ s → P s (step_at places s)) →
     (s : ℕ) → P s (step_at (slice_set places state place) s)
 at_each P places state place below here there s =
     ⊎_elim
     (λ (same : state ≡ s).
     subst (λ t. P t (step_at (slice_set places state place) t)) same
     (subst (P state) (sym (step_at-set_same places state place below)) here))
-    (λ (other : state ≡ s → ⊥). subst (P s) (sym (step_at-set_other places state place s other)) (there s))
+    (λ (other : state ≡ s → ⊥). subst (P s) (sym (step_at-set_other places state place s other)) (there s other))
     (cases_eq state s)
+
+-- what stands at each state after a write
+pub step_at-set : (places : List (Option Step)) (s : ℕ) (place : Option Step) (t : ℕ) → s < length places →
+    step_at (slice_set places s place) t ≡ cond (eqb s t) place (step_at places t)
+step_at-set places s place t below = go (eqb s t) refl
+  where
+    go : (b : Bool) → eqb s t ≡ b → step_at (slice_set places s place) t ≡ cond b place (step_at places t)
+    go true e = let same : s ≡ t = eqb-true s t e in rw (← same) (step_at-set_same places s place below)
+    go false e = step_at-set_other places s place t (eqb-false s t e)
 
 -- a write of what stands there already changes nothing
 pub set_same : (places : List (Option Step)) (s : ℕ) (place : Option Step) → step_at places s ≡ place → slice_set places s place ≡ places
 set_same [] s place is = refl
 set_same (x ∷ xs) zero place is = ap (λ (y : Option Step). y ∷ xs) (sym is)
 set_same (x ∷ xs) (suc s) place is = ap (λ (ys : List (Option Step)). x ∷ ys) (set_same xs s place is)
+
+-- and after a change
+pub step_at-changed_same : (places : List (Option Step)) (s : ℕ) (f : Step → Step) →
+    step_at (changed_at places s f) s ≡ changed f (step_at places s)
+step_at-changed_same places s f = go (step_at places s) refl
+  where
+    go : (place : Option Step) → step_at places s ≡ place → step_at (slice_set places s (changed f place)) s ≡ changed f place
+    go None e = ap (λ xs. step_at xs s) (set_same places s None e) ∙ e
+    go (Some step) e = step_at-set_same places s (Some (f step)) (within_places places s step e)
 
 -- nothing stands at a place of the empty table
 pub step_at-replicate : (n s : ℕ) → step_at (replicate n None) s ≡ None

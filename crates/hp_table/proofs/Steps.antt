@@ -58,7 +58,7 @@ takes_all p (x ∷ xs) all =
     let there : filter p xs ≡ xs = takes_all p xs (λ k d below. all (suc k) d (omega arith)) in
     rw here (ap (λ (ys : List ℕ). x ∷ ys) there)
 
-filter_shorter : (p : ℕ → Bool) (xs : List ℕ) → length (filter p xs) ≤ length xs
+pub filter_shorter : (p : ℕ → Bool) (xs : List ℕ) → length (filter p xs) ≤ length xs
 filter_shorter p [] = omega arith
 filter_shorter p (x ∷ xs) = go (p x) (filter_shorter p xs)
   where

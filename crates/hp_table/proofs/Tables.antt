@@ -1,11 +1,9 @@
 -- What stays so of a table when one place is written.
-use Rattle.std.proofs.Common.{◌≡◌, ℕ, ◌+◌, ◌<◌, ◌≤◌, Bool, true, false, ◌||◌, leb, Option, Some, None, IfSome, is_some, List, [], ◌∷◌, length, refl, ap, sym, ◌∙◌, subst, arith}
+use Rattle.std.proofs.Common.{◌≡◌, ℕ, ◌+◌, ◌<◌, ◌≤◌, Bool, true, false, ◌||◌, Option, Some, None, IfSome, is_some, List, [], length, refl, ap, sym, ◌∙◌, subst, arith}
 use Rattle.std.specs.Prelude.{slice_set, replicate}
-use Rattle.std.specs.List.{list_all}
 use Rattle.std.proofs.lemmas.List.{length-set, length-replicate}
-use Rattle.std.proofs.lemmas.Bool.{true≢false, false≢true, ne_eqb, leb-true, and_parts}
+use Rattle.std.proofs.lemmas.Bool.{true≢false, false≢true}
 use Rattle.hp_states.specs.declared.limits.TheConstants.{MAX_TABLE_INSTANCES, ONLINE}
-use Rattle.hp_states.specs.Sections.{name_in, builtins}
 use Rattle.hp_table.specs.Kept.{Kept}
 use Rattle.hp_table.specs.Step.{Step, step_at, bare, changed, changed_at}
 use Rattle.hp_table.specs.Named.{is_builtin, is_named}
@@ -24,8 +22,8 @@ pub sound_set : (places : List (Option Step)) (s : ℕ) (place : Option Step) �
 sound_set places s place below builtin step few sound =
     record {
       states = length-set places s place ∙ sound.states;
-      builtins = at_each (λ t p. is_builtin t ≡ true → p ≡ None) places s place below builtin sound.builtins;
-      steps = at_each (λ t p. IfSome p IsSoundStep) places s place below step sound.steps;
+      builtins = at_each (λ t p. is_builtin t ≡ true → p ≡ None) places s place below builtin (λ t other. sound.builtins t);
+      steps = at_each (λ t p. IfSome p IsSoundStep) places s place below step (λ t other. sound.steps t);
       few = few;
     }
 
@@ -106,14 +104,3 @@ counted_uninstalled places s count step there bare was =
       sound = sound_set places s None below (λ builtin. refl) tt (omega arith) was.sound;
       counts = omega (arith, was.counts, total);
     }
-
--- no state above the highest is built in
-name_past : (names : List (ℕ × List ℕ)) (s : ℕ) → list_all (λ named. leb named.0 ONLINE) names ≡ true → ONLINE < s → name_in names s ≡ None
-name_past [] s all past = refl
-name_past (named ∷ names) s all past =
-    let both : (leb named.0 ONLINE ≡ true) × (list_all (λ named. leb named.0 ONLINE) names ≡ true) = and_parts _ _ all in
-    let low : named.0 ≤ ONLINE = leb-true named.0 ONLINE both.0 in
-    rw (ne_eqb s named.0 (λ e. absurd (omega (arith, e)))) (name_past names s both.1 past)
-
-pub builtin_past : (s : ℕ) → ONLINE < s → is_builtin s ≡ false
-builtin_past s past = ap is_some (name_past builtins s refl past)

@@ -4,6 +4,7 @@ pub mod Named
 pub mod Slots
 pub mod Instances
 pub mod Keys
+pub mod Totals
 pub mod Sound
 pub mod Inside
 pub mod Errors

@@ -13,8 +13,8 @@
 #![tactic(auto)]
 
 mod error;
-mod place;
 mod record;
+mod registered;
 mod table;
 #[cfg(test)]
 mod tests;

@@ -5,22 +5,18 @@ ghost use Rattle.std.specs.Option.{option_copied};
 ghost use Rattle.hp_states.specs.Rules.{site_at};
 ghost use Rattle.hp_table.specs.Kept.{answer_at};
 ghost use Rattle.hp_table.specs.Step.{step_at, bare, changed_at, kept_of, called_step, loaded_step};
-ghost use Rattle.hp_table.specs.Named.{is_builtin, is_named};
-ghost use Rattle.hp_table.specs.Slots.{first_slot, last_slot, IsLowestFree, IsFull};
+ghost use Rattle.hp_table.specs.Named.{is_named};
+ghost use Rattle.hp_table.specs.Slots.{IsLowestFree, IsFull};
 ghost use Rattle.hp_table.specs.Instances.{instances_at};
 ghost use Rattle.hp_table.specs.Sound.{IsSound};
 
 mod instances;
 
 use crate::error::TableError;
-use crate::place::Registered;
 use crate::record::Record;
-use hp_event::NoMemory;
+use crate::registered::Registered;
 use hp_hook::Hook;
-use hp_states::{
-    Dir, HookPlan, MAX_EVENTS, OFFLINE, ONLINE, ONLINE_DYN, ONLINE_DYN_END, PREPARE_DYN,
-    PREPARE_DYN_END, Range, builtin_name,
-};
+use hp_states::{Dir, HookPlan, MAX_EVENTS, NoMemory, OFFLINE, ONLINE, Range, is_builtin};
 use std::alloc::Global;
 use std::marker::Model;
 
@@ -67,6 +63,7 @@ impl<H: Hook> Table<H> {
         ensures there { option_copied result ≡ step_at self.now state }
         ensures sound { IsSound self.now }
     {
+        // what is so of every table
         let _ = &self.places;
         if state > ONLINE {
             return None;
@@ -97,7 +94,7 @@ impl<H: Hook> Table<H> {
         ensures no_space { IsErrOf result TableError.NoSpace ↔ IsFull self.now range }
         ensures no_other { IfErr result (λ error. error ≡ TableError.NoSpace) }
     {
-        for state in first_of(range)..last_of(range) + 1 {
+        for state in range.first()..range.last() + 1 {
             if !self.is_named(state) {
                 return Ok(state);
             }
@@ -216,33 +213,5 @@ impl<H: Hook> Table<H> {
             Some(step) => step.load(plan),
             None => unreachable!(),
         }
-    }
-}
-
-/// Whether a state is built in.
-#[tactic(auto, using(crate::proofs::Tables::builtin_past))]
-fn is_builtin(state: u32) -> bool
-    ensures { result ≡ is_builtin state }
-{
-    state <= ONLINE && builtin_name(state).is_some()
-}
-
-/// The first slot of a range.
-fn first_of(range: Range) -> u32
-    ensures { result ≡ first_slot range }
-{
-    match range {
-        Range::Prepare => PREPARE_DYN,
-        Range::Online => ONLINE_DYN,
-    }
-}
-
-/// The last slot of a range.
-fn last_of(range: Range) -> u32
-    ensures { result ≡ last_slot range }
-{
-    match range {
-        Range::Prepare => PREPARE_DYN_END,
-        Range::Online => ONLINE_DYN_END,
     }
 }

@@ -1,20 +1,19 @@
 -- Keys that are alike at each state: what is so of a walk along the one is so of it along the other.
-use Rattle.std.proofs.Common.{◌≡◌, ℕ, ◌-◌, ◌<◌, Bool, true, false, cond, not, eqb, ltb, Option, List, [], ◌∷◌, ◌++◌, take, drop, reverse, fold, refl, ap, subst, sym, ◌∙◌}
-use Rattle.std.specs.Prelude.{slice_index}
-use Rattle.hp_states.specs.declared.section.Dir.{Dir}
-use Rattle.hp_states.specs.declared.section.Place.{Place}
-use Rattle.hp_states.specs.declared.section.Place.TheVariants as placed
+use Rattle.std.proofs.Common.{◌≡◌, ℕ, ◌-◌, Bool, true, false, cond, eqb, ltb, List, [], ◌∷◌, ◌++◌, take, drop, reverse, fold, refl, ap, subst, ◌∙◌}
+use Rattle.hp_states.specs.declared.dir.Dir.{Dir}
+use Rattle.hp_states.specs.declared.place.Place.{Place}
+use Rattle.hp_states.specs.declared.place.Place.TheVariants as placed
 use Rattle.hp_states.specs.Sections.{opposite}
 use Rattle.hp_event.specs.declared.event.Event.{Event}
 use Rattle.hp_event.specs.declared.event.Event.TheVariants.{Call}
-use Rattle.hp_model.specs.Lists.{is_empty, rising}
-use Rattle.hp_model.specs.Crossing.{near, far}
+use Rattle.hp_model.specs.Lists.{rising}
+use Rattle.hp_states.specs.Crossings.{state_before, state_after}
 use Rattle.hp_model.specs.Plan.{keyed, plan, direction}
 use Rattle.hp_model.specs.Shown.{shown_after}
 use Rattle.hp_model.proofs.NextSlot.{Tree, stop, visit_tree, part_tree, back_tree, walk_tree}
 use Rattle.hp_model.proofs.Cursor.{Runs}
 use Rattle.hp_walk.specs.declared.position.Position.{Position}
-use Rattle.hp_walk.specs.declared.position.Position.TheVariants.{Forward, Failed, Back, Stuck, Ended}
+use Rattle.hp_walk.specs.declared.position.Position.TheVariants.{Forward, UndoingPart, Back, RedoingPart, Ended}
 use Rattle.hp_walk.specs.declared.walk.Walk.{Walk}
 use Rattle.hp_walk.specs.Asked.{asked, asked_at}
 use Rattle.hp_walk.specs.After.{IsAfter, IsWithin, IsAt, tree_of, tree_at, entries_left}
@@ -67,34 +66,34 @@ walk_alike K L same c d stack (s ∷ ss) =
     (λ xs. part_alike c (opposite d) s xs _ _ (back_alike K L same c (opposite d) stack))
 
 behind_alike : (K L : ℕ → List ℕ) (same : (s : ℕ) → K s ≡ L s) (w : Walk) (d : Dir) (s : ℕ) →
-    back_tree w.cpu K (opposite d) (plan K (near d s) w.from) ≡ back_tree w.cpu L (opposite d) (plan L (near d s) w.from)
+    back_tree w.cpu K (opposite d) (plan K (state_before d s) w.from) ≡ back_tree w.cpu L (opposite d) (plan L (state_before d s) w.from)
 behind_alike K L same w d s =
-    ap (back_tree w.cpu K (opposite d)) (plan_alike K L same (near d s) w.from)
-    ∙ back_alike K L same w.cpu (opposite d) (plan L (near d s) w.from)
+    ap (back_tree w.cpu K (opposite d)) (plan_alike K L same (state_before d s) w.from)
+    ∙ back_alike K L same w.cpu (opposite d) (plan L (state_before d s) w.from)
 
 at_alike : (K L : ℕ → List ℕ) (same : (s : ℕ) → K s ≡ L s) (w : Walk) (d : Dir) (p : Position) → tree_at K w d p ≡ tree_at L w d p
 at_alike K L same w d (Forward s k) =
     ap
     (λ is. visit_tree w.cpu placed.Forward d s (eqb k 0) (take k is) (drop k is)
-    (walk_tree w.cpu K d (s ∷ plan K (near d s) w.from) (plan K (far d s) w.to))
-    (λ earlier. part_tree w.cpu (opposite d) s earlier (back_tree w.cpu K (opposite d) (plan K (near d s) w.from))))
+    (walk_tree w.cpu K d (s ∷ plan K (state_before d s) w.from) (plan K (state_after d s) w.to))
+    (λ earlier. part_tree w.cpu (opposite d) s earlier (back_tree w.cpu K (opposite d) (plan K (state_before d s) w.from))))
     (same s)
     ∙ visit_alike w.cpu placed.Forward d s (eqb k 0) (take k (L s)) (drop k (L s)) _ _ _ _
-    (ap (λ ss. walk_tree w.cpu K d (s ∷ ss) (plan K (far d s) w.to)) (plan_alike K L same (near d s) w.from)
-    ∙ ap (λ ss. walk_tree w.cpu K d (s ∷ plan L (near d s) w.from) ss) (plan_alike K L same (far d s) w.to)
-    ∙ walk_alike K L same w.cpu d (s ∷ plan L (near d s) w.from) (plan L (far d s) w.to))
+    (ap (λ ss. walk_tree w.cpu K d (s ∷ ss) (plan K (state_after d s) w.to)) (plan_alike K L same (state_before d s) w.from)
+    ∙ ap (λ ss. walk_tree w.cpu K d (s ∷ plan L (state_before d s) w.from) ss) (plan_alike K L same (state_after d s) w.to)
+    ∙ walk_alike K L same w.cpu d (s ∷ plan L (state_before d s) w.from) (plan L (state_after d s) w.to))
     (λ xs. part_alike w.cpu (opposite d) s xs _ _ (behind_alike K L same w d s))
-at_alike K L same w d (Failed s k n code) =
-    ap (λ is. part_tree w.cpu (opposite d) s (drop k (take n is)) (back_tree w.cpu K (opposite d) (plan K (near d s) w.from))) (same s)
+at_alike K L same w d (UndoingPart s k n code) =
+    ap (λ is. part_tree w.cpu (opposite d) s (drop k (take n is)) (back_tree w.cpu K (opposite d) (plan K (state_before d s) w.from))) (same s)
     ∙ part_alike w.cpu (opposite d) s (drop k (take n (L s))) _ _ (behind_alike K L same w d s)
 at_alike K L same w d (Back s k code) =
     ap
     (λ is. visit_tree w.cpu placed.Back (opposite d) s (eqb k 0) (take k is) (drop k is)
-    (back_tree w.cpu K (opposite d) (plan K (near d s) w.from)) (λ earlier. part_tree w.cpu (opposite (opposite d)) s earlier stop))
+    (back_tree w.cpu K (opposite d) (plan K (state_before d s) w.from)) (λ earlier. part_tree w.cpu (opposite (opposite d)) s earlier stop))
     (same s)
     ∙ visit_alike w.cpu placed.Back (opposite d) s (eqb k 0) (take k (L s)) (drop k (L s)) _ _ _ _ (behind_alike K L same w d s)
     (λ xs. refl)
-at_alike K L same w d (Stuck s k n first second) =
+at_alike K L same w d (RedoingPart s k n first second) =
     ap (λ is. part_tree w.cpu (opposite (opposite d)) s (drop k (take n is)) stop) (same s)
 at_alike K L same w d (Ended answer) = refl
 
@@ -106,9 +105,9 @@ left_alike K L same w = ap depth (tree_alike K L same w)
 
 is_at_alike : (K L : ℕ → List ℕ) (same : (s : ℕ) → K s ≡ L s) (d : Dir) (a b : ℕ) (p : Position) → IsAt K d a b p → IsAt L d a b p
 is_at_alike K L same d a b (Forward s k) h = rw (← same s) h
-is_at_alike K L same d a b (Failed s k n code) h = rw (← same s) h
+is_at_alike K L same d a b (UndoingPart s k n code) h = rw (← same s) h
 is_at_alike K L same d a b (Back s k code) h = rw (← same s) h
-is_at_alike K L same d a b (Stuck s k n first second) h = rw (← same s) h
+is_at_alike K L same d a b (RedoingPart s k n first second) h = rw (← same s) h
 is_at_alike K L same d a b (Ended answer) h = h
 
 pub within_alike : (K L : ℕ → List ℕ) (same : (s : ℕ) → K s ≡ L s) (w : Walk) → IsWithin K w → IsWithin L w
@@ -152,7 +151,7 @@ asked_alike K L same w = go (direction w.from w.to) w.position
   where
     go : (d : Dir) (p : Position) → asked_at K d p ≡ asked_at L d p
     go d (Forward s k) = rw (same s) refl
-    go d (Failed s k n code) = rw (same s) refl
+    go d (UndoingPart s k n code) = rw (same s) refl
     go d (Back s k code) = rw (same s) refl
-    go d (Stuck s k n first second) = rw (same s) refl
+    go d (RedoingPart s k n first second) = rw (same s) refl
     go d (Ended answer) = refl

@@ -1,19 +1,19 @@
 -- What a walk asks for comes next or is its answer, and an entry that it asks for is of a key that its table has.
-use Rattle.std.proofs.Common.{◌≡◌, ◌≢◌, ℕ, ◌<◌, ◌≤◌, Bool, List, [], length, refl, sym, ap, ◌∙◌, arith}
+use Rattle.std.proofs.Common.{◌≡◌, ◌≢◌, ℕ, ◌<◌, ◌≤◌, Bool, List, [], length, refl, ap, arith}
 use Rattle.hp_states.specs.declared.limits.TheConstants.{ONLINE}
-use Rattle.hp_states.specs.declared.section.Dir.{Dir}
-use Rattle.hp_states.specs.declared.section.Dir.TheVariants.{Up, Down}
-use Rattle.hp_states.specs.declared.section.Place.{Place}
-use Rattle.hp_event.specs.declared.event.Answer.{Answer}
-use Rattle.hp_event.specs.declared.event.Key.{Key}
+use Rattle.hp_states.specs.declared.dir.Dir.{Dir}
+use Rattle.hp_states.specs.declared.dir.Dir.TheVariants.{Up, Down}
+use Rattle.hp_states.specs.declared.place.Place.{Place}
+use Rattle.hp_event.specs.declared.answer.Answer.{Answer}
+use Rattle.hp_event.specs.declared.key.Key.{Key}
 use Rattle.hp_model.specs.Plan.{direction}
 use Rattle.hp_walk.specs.declared.position.Position.{Position}
-use Rattle.hp_walk.specs.declared.position.Position.TheVariants.{Forward, Failed, Back, Stuck, Ended}
+use Rattle.hp_walk.specs.declared.position.Position.TheVariants.{Forward, UndoingPart, Back, RedoingPart, Ended}
 use Rattle.hp_walk.specs.declared.step.Step.TheVariants as ask
 use Rattle.hp_walk.specs.declared.walk.Walk.{Walk}
 use Rattle.hp_walk.specs.After.{IsWithin, IsAt, IsAfter, Asks}
 use Rattle.hp_event.specs.declared.event.Event.{Event}
-use Rattle.hp_walk.proofs.Asking.{asks_forward, asks_failed, asks_back, asks_stuck, asks_ended}
+use Rattle.hp_walk.proofs.Asking.{asks_forward, asks_undoing, asks_back, asks_redoing, asks_ended}
 use Rattle.hp_walk.specs.Asked.{asked, asked_at}
 use Rattle.hp_walk.specs.Keys.{IsCrossed}
 
@@ -40,13 +40,13 @@ of_state : (keys : ℕ → List ℕ) (from to : ℕ) (p : Position) (key : Key) 
 of_state keys from to (Forward s k) key d place first f t at is =
     rw (← same_key _ key _ d _ place _ first is)
     (record { most = crossed_most (direction from to) from to s at.0 f t; some = has_key keys s k at.1 })
-of_state keys from to (Failed s k n code) key d place first f t at is =
+of_state keys from to (UndoingPart s k n code) key d place first f t at is =
     rw (← same_key _ key _ d _ place _ first is)
     (record { most = crossed_most (direction from to) from to s at.0 f t; some = has_key keys s n at.2 })
 of_state keys from to (Back s k code) key d place first f t at is =
     rw (← same_key _ key _ d _ place _ first is)
     (record { most = crossed_most (direction from to) from to s at.0 f t; some = has_key keys s k at.1 })
-of_state keys from to (Stuck s k n one two) key d place first f t at is =
+of_state keys from to (RedoingPart s k n one two) key d place first f t at is =
     rw (← same_key _ key _ d _ place _ first is)
     (record { most = crossed_most (direction from to) from to s at.0 f t; some = has_key keys s n at.2 })
 of_state keys from to (Ended answer) key d place first f t at is = absurd (no_entry answer key d place first is)
@@ -61,7 +61,7 @@ asks keys entries w h = go w.position refl
   where
     go : (p : Position) → w.position ≡ p → Asks keys entries w (asked_at keys (direction w.from w.to) p)
     go (Forward s k) e = asks_forward keys entries w s k e h
-    go (Failed s k n code) e = asks_failed keys entries w s k n code e h
+    go (UndoingPart s k n code) e = asks_undoing keys entries w s k n code e h
     go (Back s k code) e = asks_back keys entries w s k code e h
-    go (Stuck s k n one two) e = asks_stuck keys entries w s k n one two e h
+    go (RedoingPart s k n one two) e = asks_redoing keys entries w s k n one two e h
     go (Ended answer) e = asks_ended keys entries w answer e h

@@ -6,10 +6,10 @@ use Rattle.std.proofs.lemmas.List.Sums.{fold-append}
 use Rattle.std.proofs.lemmas.Bool.{ne_eqb, eq-eqb, false≢true}
 use Rattle.hp_event.specs.declared.event.Event.{Event}
 use Rattle.hp_event.specs.declared.event.Event.TheVariants.{Call}
-use Rattle.hp_event.specs.declared.event.How.{How}
-use Rattle.hp_event.specs.declared.event.How.TheVariants.{RanOk, RanFault, Injected, Empty, Presumed, Overruled}
-use Rattle.hp_states.specs.declared.section.Dir.{Dir}
-use Rattle.hp_model.specs.Crossing.{far}
+use Rattle.hp_event.specs.declared.how.How.{How}
+use Rattle.hp_event.specs.declared.how.How.TheVariants.{RanOk, RanFault, Injected, Empty, Presumed, Overruled}
+use Rattle.hp_states.specs.declared.dir.Dir.{Dir}
+use Rattle.hp_states.specs.Crossings.{state_after}
 use Rattle.hp_model.specs.Entries.{is_done, fault_of, codes_of_faults}
 use Rattle.hp_model.specs.Faults.{Faulty, faulty, faulty_at, faults}
 use Rattle.hp_model.specs.Shown.{is_last, shown_after}
@@ -110,5 +110,5 @@ pub shown_earlier : (keys : ℕ → List ℕ) (shown seat c s k : ℕ) (d : Dir)
 shown_earlier keys shown seat c s k d how done distinct before = rw (done, last_not (keys s) k distinct before) refl
 
 pub shown_last : (keys : ℕ → List ℕ) (shown seat c s k : ℕ) (d : Dir) (how : How) → is_done how ≡ true →
-    k + 1 ≡ length (keys s) → shown_after keys shown (Call seat c s (slice_index (keys s) k) d how) ≡ far d s
+    k + 1 ≡ length (keys s) → shown_after keys shown (Call seat c s (slice_index (keys s) k) d how) ≡ state_after d s
 shown_last keys shown seat c s k d how done last = rw (done, last_is (keys s) k last) refl

@@ -3,10 +3,10 @@ use Rattle.std.proofs.Common.{◌≡◌, ℕ, zero, suc, ◌+◌, ◌*◌, ◌<�
 use Rattle.std.specs.Prelude.{slice_index, sum_by}
 use Rattle.std.proofs.lemmas.List.{drop_more, take_more, length-take, get_or-take}
 use Rattle.std.proofs.lemmas.List.Sums.{sum_by-cons}
-use Rattle.hp_states.specs.declared.section.Dir.{Dir}
-use Rattle.hp_states.specs.declared.section.Dir.TheVariants.{Up, Down}
-use Rattle.hp_states.specs.declared.section.Place.{Place}
-use Rattle.hp_states.specs.declared.section.Place.TheVariants.{Forward, Back, Part}
+use Rattle.hp_states.specs.declared.dir.Dir.{Dir}
+use Rattle.hp_states.specs.declared.dir.Dir.TheVariants.{Up, Down}
+use Rattle.hp_states.specs.declared.place.Place.{Place}
+use Rattle.hp_states.specs.declared.place.Place.TheVariants.{Forward, Back, Part}
 use Rattle.hp_states.specs.Sections.{opposite}
 use Rattle.hp_event.specs.declared.event.Event.{Event}
 use Rattle.hp_model.specs.Crossing.{Slot, Fits}
@@ -45,7 +45,7 @@ pub visit_end : (c : ℕ) (p : Place) (d : Dir) (s : ℕ) (b : Bool) (xs : List 
     k ≡ length xs → visit_tree c p d s b (take k xs) (drop k xs) then else ≡ then
 visit_end c p d s b xs k then else e = rw (drop_all xs k e) refl
 
--- the keys before one that faulted, undone so far
+-- the keys before one that faulted, undone so state_after
 pub part_at : (c : ℕ) (d : Dir) (s : ℕ) (xs : List ℕ) (k n : ℕ) (then : Tree) → k < n → n < length xs →
     part_tree c d s (drop k (take n xs)) then
     ≡ step (record { cpu = c; state = s; inst = slice_index xs k; dir = d; place = Part; first = false; fails = false })
@@ -97,7 +97,7 @@ depth_back c keys d (t ∷ ts) =
     in
     omega (arith, here, sum)
 
--- each key at most there, back, and again after a fault on the way back
+-- each key at most once on the way, once in the rollback, and again after a fault of that
 pub depth_walk : (c : ℕ) (keys : ℕ → List ℕ) (d : Dir) (stack ss : List ℕ) →
     depth (walk_tree c keys d stack ss) ≤ 2 * total keys stack + 3 * total keys ss
 depth_walk c keys d stack [] = omega arith

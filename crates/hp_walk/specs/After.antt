@@ -2,22 +2,22 @@
 -- project's own.
 use Rattle.std.specs.Prelude.{◌≡◌, ◌≢◌, ℕ, ◌<◌, ◌≤◌, ◌==◌, Some, Bool, true, false, List, [], ◌∷◌, length, take, drop, fold}
 use Rattle.hp_states.specs.declared.limits.TheConstants.{ONLINE}
-use Rattle.hp_states.specs.declared.section.Dir.{Dir}
-use Rattle.hp_states.specs.declared.section.Place.{Place}
-use Rattle.hp_states.specs.declared.section.Place.TheVariants as placed
+use Rattle.hp_states.specs.declared.dir.Dir.{Dir}
+use Rattle.hp_states.specs.declared.place.Place.{Place}
+use Rattle.hp_states.specs.declared.place.Place.TheVariants as placed
 use Rattle.hp_states.specs.Sections.{opposite, can_fail}
 use Rattle.hp_event.specs.declared.event.Event.{Event}
-use Rattle.hp_event.specs.declared.event.Key.{Key}
-use Rattle.hp_model.specs.Crossing.{near, far}
+use Rattle.hp_event.specs.declared.key.Key.{Key}
+use Rattle.hp_states.specs.Crossings.{state_before, state_after}
 use Rattle.hp_model.specs.Faults.{Faulty, faults, walk_answer}
 use Rattle.hp_model.specs.Plan.{direction, plan}
 use Rattle.hp_model.specs.Shown.{shown_after}
 use Rattle.hp_model.specs.StandsCalls.{IsNextInWalk}
 use Rattle.hp_model.specs.WalkShape.{IsWholeWalk}
-use Rattle.hp_model.proofs.NextSlot.{Tree, stop, visit_tree, part_tree, back_tree, walk_tree}
-use Rattle.hp_model.proofs.Cursor.{StandsAt}
+use Rattle.hp_model.specs.Trees.{Tree, stop, visit_tree, part_tree, back_tree, walk_tree}
+use Rattle.hp_model.specs.Runs.{StandsAt}
 use Rattle.hp_walk.specs.declared.position.Position.{Position}
-use Rattle.hp_walk.specs.declared.position.Position.TheVariants.{Forward, Failed, Back, Stuck, Ended}
+use Rattle.hp_walk.specs.declared.position.Position.TheVariants.{Forward, UndoingPart, Back, RedoingPart, Ended}
 use Rattle.hp_walk.specs.declared.step.Step.{Step}
 use Rattle.hp_walk.specs.declared.step.Step.TheVariants as ask
 use Rattle.hp_walk.specs.Keys.{IsCrossed}
@@ -25,21 +25,21 @@ use Rattle.hp_walk.specs.declared.walk.Walk.{Walk}
 use Rattle.hp_walk.specs.Asked.{slot_of}
 use Rattle.hp_walk.specs.Left.{depth}
 
--- what can follow on the way back, from the state that stands before one
-abbrev pub behind : (keys : ℕ → List ℕ) → Walk → Dir → (state : ℕ) → Tree
-behind keys w d s = back_tree w.cpu keys (opposite d) (plan keys (near d s) w.from)
+-- what can follow in a rollback, from the state that stands before one
+abbrev pub rollback_tree : (keys : ℕ → List ℕ) → Walk → Dir → (state : ℕ) → Tree
+rollback_tree keys w d s = back_tree w.cpu keys (opposite d) (plan keys (state_before d s) w.from)
 
 -- what can follow
 abbrev pub tree_at : (keys : ℕ → List ℕ) → Walk → Dir → Position → Tree
 tree_at keys w d (Forward s k) =
     visit_tree w.cpu placed.Forward d s (k == 0) (take k (keys s)) (drop k (keys s))
-    (walk_tree w.cpu keys d (s ∷ plan keys (near d s) w.from) (plan keys (far d s) w.to))
-    (λ earlier. part_tree w.cpu (opposite d) s earlier (behind keys w d s))
-tree_at keys w d (Failed s k n code) = part_tree w.cpu (opposite d) s (drop k (take n (keys s))) (behind keys w d s)
+    (walk_tree w.cpu keys d (s ∷ plan keys (state_before d s) w.from) (plan keys (state_after d s) w.to))
+    (λ earlier. part_tree w.cpu (opposite d) s earlier (rollback_tree keys w d s))
+tree_at keys w d (UndoingPart s k n code) = part_tree w.cpu (opposite d) s (drop k (take n (keys s))) (rollback_tree keys w d s)
 tree_at keys w d (Back s k code) =
-    visit_tree w.cpu placed.Back (opposite d) s (k == 0) (take k (keys s)) (drop k (keys s)) (behind keys w d s)
+    visit_tree w.cpu placed.Back (opposite d) s (k == 0) (take k (keys s)) (drop k (keys s)) (rollback_tree keys w d s)
     (λ earlier. part_tree w.cpu (opposite (opposite d)) s earlier stop)
-tree_at keys w d (Stuck s k n first second) =
+tree_at keys w d (RedoingPart s k n first second) =
     part_tree w.cpu (opposite (opposite d)) s (drop k (take n (keys s))) stop
 tree_at keys w d (Ended answer) = stop
 
@@ -53,18 +53,18 @@ entries_left keys w = depth (tree_of keys w)
 -- the faults that there were, by where it stands
 abbrev pub HasFaults : Dir → Position → List Faulty → Type 0
 HasFaults d (Forward s k) found = found ≡ []
-HasFaults d (Failed s k n code) found = (t : ℕ) × (found ≡ record { code = code; state = t } ∷ [])
+HasFaults d (UndoingPart s k n code) found = (t : ℕ) × (found ≡ record { code = code; state = t } ∷ [])
 HasFaults d (Back s k code) found = (t : ℕ) × (found ≡ record { code = code; state = t } ∷ [])
-HasFaults d (Stuck s k n first second) found =
+HasFaults d (RedoingPart s k n first second) found =
     (t : ℕ) × (found ≡ record { code = first; state = t } ∷ (record { code = second; state = s } ∷ []))
 HasFaults d (Ended answer) found = walk_answer d found ≡ Some answer
 
 -- the state is one that it crosses, and the key is there
 abbrev pub IsAt : (keys : ℕ → List ℕ) → Dir → (from to : ℕ) → Position → Type 0
 IsAt keys d from to (Forward s k) = IsCrossed d from to s × (k < length (keys s))
-IsAt keys d from to (Failed s k n code) = IsCrossed d from to s × (k < n) × (n < length (keys s))
+IsAt keys d from to (UndoingPart s k n code) = IsCrossed d from to s × (k < n) × (n < length (keys s))
 IsAt keys d from to (Back s k code) = IsCrossed d from to s × (k < length (keys s))
-IsAt keys d from to (Stuck s k n first second) = IsCrossed d from to s × (k < n) × (n < length (keys s))
+IsAt keys d from to (RedoingPart s k n first second) = IsCrossed d from to s × (k < n) × (n < length (keys s))
 IsAt keys d from to (Ended answer) = Unit {0}
 
 -- it stands among the states and keys

@@ -1,18 +1,18 @@
 -- What a walk asks for next, by where it stands: an entry, or its end. This project's own.
 use Rattle.std.specs.Prelude.{◌≡◌, ℕ, Bool, false, true, ◌==◌, List, slice_index}
-use Rattle.hp_states.specs.declared.section.Dir.{Dir}
-use Rattle.hp_states.specs.declared.section.Place.{Place}
-use Rattle.hp_states.specs.declared.section.Place.TheVariants as placed
+use Rattle.hp_states.specs.declared.dir.Dir.{Dir}
+use Rattle.hp_states.specs.declared.place.Place.{Place}
+use Rattle.hp_states.specs.declared.place.Place.TheVariants as placed
 use Rattle.hp_states.specs.Sections.{opposite}
-use Rattle.hp_event.specs.declared.event.How.{How}
+use Rattle.hp_event.specs.declared.how.How.{How}
 use Rattle.hp_event.specs.declared.event.Event.{Event}
 use Rattle.hp_event.specs.declared.event.Event.TheVariants as event
-use Rattle.hp_event.specs.declared.event.Key.{Key}
+use Rattle.hp_event.specs.declared.key.Key.{Key}
 use Rattle.hp_model.specs.Crossing.{Slot}
 use Rattle.hp_model.specs.How.{fits}
 use Rattle.hp_model.specs.Plan.{direction}
 use Rattle.hp_walk.specs.declared.position.Position.{Position}
-use Rattle.hp_walk.specs.declared.position.Position.TheVariants.{Forward, Failed, Back, Stuck, Ended}
+use Rattle.hp_walk.specs.declared.position.Position.TheVariants.{Forward, UndoingPart, Back, RedoingPart, Ended}
 use Rattle.hp_walk.specs.declared.step.Step.{Step}
 use Rattle.hp_walk.specs.declared.step.Step.TheVariants as ask
 use Rattle.hp_walk.specs.declared.walk.Walk.{Walk}
@@ -23,9 +23,9 @@ call_at keys s k d place first = ask.Call (record { state = s; inst = slice_inde
 
 abbrev pub asked_at : (keys : ℕ → List ℕ) → Dir → Position → Step
 asked_at keys d (Forward s k) = call_at keys s k d placed.Forward (k == 0)
-asked_at keys d (Failed s k n code) = call_at keys s k (opposite d) placed.Part false
+asked_at keys d (UndoingPart s k n code) = call_at keys s k (opposite d) placed.Part false
 asked_at keys d (Back s k code) = call_at keys s k (opposite d) placed.Back (k == 0)
-asked_at keys d (Stuck s k n first second) = call_at keys s k d placed.Part false
+asked_at keys d (RedoingPart s k n first second) = call_at keys s k d placed.Part false
 asked_at keys d (Ended answer) = ask.Ended answer
 
 abbrev pub asked : (keys : ℕ → List ℕ) → Walk → Step

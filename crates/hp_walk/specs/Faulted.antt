@@ -1,7 +1,7 @@
 -- Whether a callback of a walk has faulted, by where it stands. This project's own.
 use Rattle.std.specs.Prelude.{Bool, true, false}
-use Rattle.hp_event.specs.declared.event.Answer.{Answer}
-use Rattle.hp_event.specs.declared.event.Answer.TheVariants.{Ok}
+use Rattle.hp_event.specs.declared.answer.Answer.{Answer}
+use Rattle.hp_event.specs.declared.answer.Answer.TheVariants.{Ok}
 use Rattle.hp_walk.specs.declared.position.Position.{Position}
 use Rattle.hp_walk.specs.declared.position.Position.TheVariants.{Forward, Ended}
 

@@ -1,6 +1,6 @@
 -- How many entries can come at most. This project's own.
 use Rattle.std.specs.Prelude.{ℕ, suc, max}
-use Rattle.hp_model.proofs.NextSlot.{Tree, stop, dead, step}
+use Rattle.hp_model.specs.Trees.{Tree, stop, dead, step}
 
 -- the longest way down a tree
 abbrev pub depth : Tree → ℕ

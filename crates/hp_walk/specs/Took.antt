@@ -1,9 +1,9 @@
 -- What it means that a walk went on past an entry, and how many keys a walk has before it. This project's own.
 use Rattle.std.specs.Prelude.{◌≡◌, ℕ, pos, ◌<◌, List, [], ◌∷◌, ◌++◌, length, sum_by}
-use Rattle.hp_states.specs.declared.section.Dir.{Dir}
-use Rattle.hp_event.specs.declared.event.Answer.TheVariants.{Ok, Fault}
+use Rattle.hp_states.specs.declared.dir.Dir.{Dir}
+use Rattle.hp_event.specs.declared.answer.Answer.TheVariants.{Ok, Fault}
 use Rattle.hp_event.specs.declared.event.Event.{Event}
-use Rattle.hp_event.specs.declared.event.How.{How}
+use Rattle.hp_event.specs.declared.how.How.{How}
 use Rattle.hp_model.specs.Plan.{plan}
 use Rattle.hp_walk.specs.declared.position.Position.{Position}
 use Rattle.hp_walk.specs.declared.position.Position.TheVariants.{Forward, Back, Ended}
@@ -26,12 +26,12 @@ pub record Took (keys : ℕ → List ℕ) (how : How) (old new : Walk) : Type 0 
   pub less : entries_left keys new < entries_left keys old
 
 -- it goes on from a state that it has reached, at the next with a key, or it is at its end
-abbrev pub IsAhead : (keys : ℕ → List ℕ) → Dir → (reached to : ℕ) → Position → Type 0
-IsAhead keys d reached to (Forward s k) = IsNextState keys d reached to s × (k ≡ 0)
-IsAhead keys d reached to (Ended answer) = IsNoState keys d reached to × (answer ≡ Ok (pos 0))
-IsAhead keys d reached to _ = ⊥
+abbrev pub IsNextOnTheWay : (keys : ℕ → List ℕ) → Dir → (reached to : ℕ) → Position → Type 0
+IsNextOnTheWay keys d reached to (Forward s k) = IsNextState keys d reached to s × (k ≡ 0)
+IsNextOnTheWay keys d reached to (Ended answer) = IsNoState keys d reached to × (answer ≡ Ok (pos 0))
+IsNextOnTheWay keys d reached to _ = ⊥
 
-abbrev pub IsBehind : (keys : ℕ → List ℕ) → Dir → (reached from code : ℕ) → Position → Type 0
-IsBehind keys d reached from code (Back s k e) = IsNextState keys d reached from s × (k ≡ 0) × (e ≡ code)
-IsBehind keys d reached from code (Ended answer) = IsNoState keys d reached from × (answer ≡ Fault code)
-IsBehind keys d reached from code _ = ⊥
+abbrev pub IsNextInRollback : (keys : ℕ → List ℕ) → Dir → (reached from code : ℕ) → Position → Type 0
+IsNextInRollback keys d reached from code (Back s k e) = IsNextState keys d reached from s × (k ≡ 0) × (e ≡ code)
+IsNextInRollback keys d reached from code (Ended answer) = IsNoState keys d reached from × (answer ≡ Fault code)
+IsNextInRollback keys d reached from code _ = ⊥

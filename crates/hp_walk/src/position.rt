@@ -10,27 +10,27 @@ use hp_event::Answer;
 /// Keys are counted from 0, in the order of the state's list. Codes are those of the faults so far.
 #[derive(Clone, Copy, Debug)]
 pub enum Position {
-    /// On the way there, at a key of a state.
+    /// On the way to the target, at a key of a state.
     Forward {
         state: u32,
         key: u32,
     },
-    /// A key of the state faulted on the way there: the first `keys` of its keys, which come before
-    /// that one, are undone.
-    Failed {
+    /// A key of the state faulted on the way to the target: the first `keys` of its keys, which come
+    /// before that one, are undone.
+    UndoingPart {
         state: u32,
         key: u32,
         keys: u32,
         code: u32,
     },
-    /// On the way back, at a key of a state.
+    /// In the rollback, at a key of a state.
     Back {
         state: u32,
         key: u32,
         code: u32,
     },
-    /// A key of the state faulted on the way back: the first `keys` of its keys are done again.
-    Stuck {
+    /// A key of the state faulted in the rollback: the first `keys` of its keys are done again.
+    RedoingPart {
         state: u32,
         key: u32,
         keys: u32,
@@ -42,7 +42,7 @@ pub enum Position {
 }
 
 impl Position {
-    /// Whether no callback has faulted.
+    /// Whether no callback of the walk has faulted.
     pub fn is_faultless(self) -> bool
         ensures { result ≡ faultless self }
     {

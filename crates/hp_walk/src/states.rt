@@ -3,7 +3,6 @@
 ghost use Rattle.std.specs.Prelude.{◌≤◌, IfSome, IfNone};
 ghost use Rattle.hp_walk.specs.Keys.{keys_by, IsNextState, IsNoState};
 
-use crate::keys::key_count;
 use hp_hook::Hook;
 use hp_states::{Dir, ONLINE};
 use hp_table::Table;
@@ -28,7 +27,7 @@ fn lowest_above<H: Hook>(table: &Table<H>, low: u32, high: u32) -> Option<u32>
     ensures none { IfNone result (IsNoState (keys_by table.now) Dir.Up low high) }
 {
     for state in low + 1..high + 1 {
-        if key_count(table, state) > 0 {
+        if table.key_count(state) > 0 {
             return Some(state);
         }
     }
@@ -43,7 +42,7 @@ fn highest_above<H: Hook>(table: &Table<H>, low: u32, high: u32) -> Option<u32>
 {
     let mut state = high;
     while state > low {
-        if key_count(table, state) > 0 {
+        if table.key_count(state) > 0 {
             return Some(state);
         }
         state -= 1;

@@ -1,25 +1,22 @@
 //! The walk.
 
 ghost use Rattle.std.specs.Prelude.{◌≡◌, ◌≢◌, ℕ, ◌*◌, ◌<◌, ◌≤◌, true, List, [], length};
-ghost use Rattle.hp_model.specs.Crossing.{near as near_of, far as far_of};
-ghost use Rattle.hp_event.specs.declared.event.Answer.{Answer as AnAnswer};
+ghost use Rattle.hp_event.specs.declared.answer.Answer.{Answer as AnAnswer};
 ghost use Rattle.hp_event.specs.declared.event.Event.{Event};
-ghost use Rattle.hp_model.specs.Entries.{fault_of as fault_in, is_done};
-ghost use Rattle.hp_model.specs.Plan.{direction as direction_of, plan};
+ghost use Rattle.hp_model.specs.Entries.{is_done};
 ghost use Rattle.hp_model.specs.Shown.{heading};
-ghost use Rattle.hp_states.specs.Sections.{opposite as opposite_of};
-ghost use Rattle.hp_walk.specs.Keys.{keys_by, IsCrossed};
+ghost use Rattle.hp_states.specs.Crossings.{state_after};
+ghost use Rattle.hp_walk.specs.Keys.{keys_by};
 ghost use Rattle.hp_walk.specs.Asked.{asked, call_at, CanTake};
 ghost use Rattle.hp_walk.specs.After.{IsWithin, IsAfter, Asks, entries_left};
-ghost use Rattle.hp_walk.specs.Took.{Took, IsAhead, IsBehind, keys_on};
+ghost use Rattle.hp_walk.specs.Took.{Took, IsNextOnTheWay, IsNextInRollback, keys_on};
 
-use crate::keys::{inst_at, key_count};
 use crate::position::Position;
 use crate::states::next_state;
 use crate::step::Step;
 use hp_event::{Answer, How, Key};
 use hp_hook::Hook;
-use hp_states::{Dir, EAGAIN, ONLINE, Place};
+use hp_states::{Dir, ONLINE, Place};
 use hp_table::Table;
 
 /// A walk of a processor from a state to another: where it stands.
@@ -53,8 +50,31 @@ impl Walk {
             from,
             to,
             shown: from,
-            position: ahead(table, direction(from, to), from, to),
+            position: next_on_the_way(table, Dir::between(from, to), from, to),
         }
+    }
+
+    /// The processor that walks. Takes no memory. After `struct cpuhp_cpu_state` of `kernel/cpu.c`.
+    pub fn cpu(&self) -> u32
+        ensures { result ≡ self.now.cpu }
+    {
+        self.cpu
+    }
+
+    /// The state that the walk began at, and to which its rollback goes. Takes no memory. After
+    /// `cpuhp_reset_state` of `kernel/cpu.c`.
+    pub fn from(&self) -> u32
+        ensures { result ≡ self.now.from }
+    {
+        self.from
+    }
+
+    /// The state that the walk was begun to. Takes no memory. After `target` of
+    /// `struct cpuhp_cpu_state` of `kernel/cpu.c`.
+    pub fn to(&self) -> u32
+        ensures { result ≡ self.now.to }
+    {
+        self.to
     }
 
     /// What comes next: an entry, or the end with the walk's answer.
@@ -62,11 +82,12 @@ impl Walk {
     /// The keys of the table are those at `begin`. The answers:
     /// - `Ended(Ok(0))` where every state of the plan is crossed;
     /// - `Ended(Fault(e))` where a callback faulted with code e, and all that was done before is
-    ///   undone, last state first;
-    /// - `Ended(Stuck)` where a callback faulted on the way back too. `at` is the state whose
-    ///   teardown faulted, or on a way back up the state below the one whose startup did.
+    ///   rolled back, last state first;
+    /// - `Ended(Stuck)` where a callback faulted in the rollback too. `at` is the state whose
+    ///   teardown faulted, or in a rollback upwards the state below the one whose startup did.
     ///
-    /// An entry of `Part` undoes one key of the state that faulted, and can't fail. Takes no memory,
+    /// An entry of `Part` undoes one key of the state that faulted, or in a rollback does it again,
+    /// and can't fail. Takes no memory,
     /// and a time that doesn't grow with the table. The order of the states is that of
     /// `core-api/cpu_hotplug.rst`; that of the instances of one, and Stuck, are this project's own.
     pub fn next<H: Hook>(&self, table: &Table<H>) -> Step
@@ -75,29 +96,29 @@ impl Walk {
         ensures means { (entries : List Event) → IsAfter (keys_by table.now) entries self.now →
             Asks (keys_by table.now) entries self.now result }
     {
-        let dir = direction(self.from, self.to);
+        let dir = Dir::between(self.from, self.to);
         match self.position {
             Position::Forward { state, key } => {
                 call(table, state, key, dir, Place::Forward, key == 0)
             }
-            Position::Failed { state, key, .. } => {
-                call(table, state, key, opposite(dir), Place::Part, false)
+            Position::UndoingPart { state, key, .. } => {
+                call(table, state, key, dir.opposite(), Place::Part, false)
             }
             Position::Back { state, key, .. } => {
-                call(table, state, key, opposite(dir), Place::Back, key == 0)
+                call(table, state, key, dir.opposite(), Place::Back, key == 0)
             }
-            Position::Stuck { state, key, .. } => {
+            Position::RedoingPart { state, key, .. } => {
                 call(table, state, key, dir, Place::Part, false)
             }
             Position::Ended(answer) => Step::Ended(answer),
         }
     }
 
-    /// Goes on past the entry that `next` asks for, which was made so.
+    /// Goes on past the entry that `next` asks for: `how` says how it was made.
     ///
-    /// `next` asks for an entry, and the how fits its place: it is done, or a fault where that may
-    /// come. The keys of the table are those at `begin`. Takes no memory, and time for the states up
-    /// to the next with a key.
+    /// `next` asks for an entry, and `how` fits its place: the entry is done, or it is a fault where
+    /// one may come. The keys of the table are those at `begin`. Takes no memory, and time for the
+    /// states up to the next with a key. After `cpuhp_invoke_callback_range` of `kernel/cpu.c`.
     pub fn took<H: Hook>(&mut self, table: &Table<H>, how: How)
         requires within { IsWithin (keys_by table.now) self.old }
         requires asked { CanTake (asked (keys_by table.now) self.old) how }
@@ -105,20 +126,20 @@ impl Walk {
     {
         match self.position {
             Position::Forward { state, key } => self.took_forward(table, state, key, how),
-            Position::Failed {
+            Position::UndoingPart {
                 state,
                 key,
                 keys,
                 code,
-            } => self.took_failed(table, state, key, keys, code),
+            } => self.took_undoing(table, state, key, keys, code),
             Position::Back { state, key, code } => self.took_back(table, state, key, code, how),
-            Position::Stuck {
+            Position::RedoingPart {
                 state,
                 key,
                 keys,
                 first,
                 second,
-            } => self.took_stuck(table, state, key, keys, first, second),
+            } => self.took_redoing(table, state, key, keys, first, second),
             Position::Ended(_) => unreachable!(),
         }
     }
@@ -145,27 +166,27 @@ impl Walk {
         }
     }
 
-    /// Past an entry on the way there.
+    /// Goes on past an entry on the way to the target.
     fn took_forward<H: Hook>(&mut self, table: &Table<H>, state: u32, key: u32, how: How)
         requires position { self.old.position ≡ Position.Forward state key }
         requires within { IsWithin (keys_by table.now) self.old }
         requires asked { CanTake (asked (keys_by table.now) self.old) how }
         ensures { Took (keys_by table.now) how self.old self.new }
     {
-        let dir = direction(self.from, self.to);
-        match fault_of(how) {
-            None if key_count(table, state) > key + 1 => {
+        let dir = Dir::between(self.from, self.to);
+        match how.fault() {
+            None if table.key_count(state) > key + 1 => {
                 self.position = Position::Forward {
                     state,
                     key: key + 1,
                 };
             }
             None => {
-                self.shown = far(dir, state);
-                self.position = ahead(table, dir, self.shown, self.to);
+                self.shown = dir.state_after(state);
+                self.position = next_on_the_way(table, dir, self.shown, self.to);
             }
             Some(code) if key > 0 => {
-                self.position = Position::Failed {
+                self.position = Position::UndoingPart {
                     state,
                     key: 0,
                     keys: key,
@@ -173,41 +194,61 @@ impl Walk {
                 };
             }
             Some(code) => {
-                self.position = behind(table, opposite(dir), near(dir, state), self.from, code);
+                self.position = next_in_rollback(
+                    table,
+                    dir.opposite(),
+                    dir.state_before(state),
+                    self.from,
+                    code,
+                );
             }
         }
     }
 
-    /// Past an entry that undoes part of the state that faulted on the way there.
-    fn took_failed<H: Hook>(&mut self, table: &Table<H>, state: u32, key: u32, keys: u32, code: u32)
-        requires position { self.old.position ≡ Position.Failed state key keys code }
+    /// Goes on past an entry that undoes one of the earlier keys of the state that faulted on the
+    /// way to the target.
+    fn took_undoing<H: Hook>(
+        &mut self,
+        table: &Table<H>,
+        state: u32,
+        key: u32,
+        keys: u32,
+        code: u32,
+    )
+        requires position { self.old.position ≡ Position.UndoingPart state key keys code }
         requires within { IsWithin (keys_by table.now) self.old }
         ensures { (how : How) → is_done how ≡ true → Took (keys_by table.now) how self.old self.new }
     {
-        prove!(keys < key_count(table, state));
-        let dir = direction(self.from, self.to);
+        prove!(keys < table.key_count(state));
+        let dir = Dir::between(self.from, self.to);
         self.position = if key + 1 < keys {
-            Position::Failed {
+            Position::UndoingPart {
                 state,
                 key: key + 1,
                 keys,
                 code,
             }
         } else {
-            behind(table, opposite(dir), near(dir, state), self.from, code)
+            next_in_rollback(
+                table,
+                dir.opposite(),
+                dir.state_before(state),
+                self.from,
+                code,
+            )
         };
     }
 
-    /// Past an entry on the way back.
+    /// Goes on past an entry of the rollback.
     fn took_back<H: Hook>(&mut self, table: &Table<H>, state: u32, key: u32, code: u32, how: How)
         requires position { self.old.position ≡ Position.Back state key code }
         requires within { IsWithin (keys_by table.now) self.old }
         requires asked { CanTake (asked (keys_by table.now) self.old) how }
         ensures { Took (keys_by table.now) how self.old self.new }
     {
-        let dir = direction(self.from, self.to);
-        match fault_of(how) {
-            None if key_count(table, state) > key + 1 => {
+        let dir = Dir::between(self.from, self.to);
+        match how.fault() {
+            None if table.key_count(state) > key + 1 => {
                 self.position = Position::Back {
                     state,
                     key: key + 1,
@@ -215,11 +256,17 @@ impl Walk {
                 };
             }
             None => {
-                self.shown = near(dir, state);
-                self.position = behind(table, opposite(dir), self.shown, self.from, code);
+                self.shown = dir.state_before(state);
+                self.position = next_in_rollback(
+                    table,
+                    dir.opposite(),
+                    self.shown,
+                    self.from,
+                    code,
+                );
             }
             Some(second) if key > 0 => {
-                self.position = Position::Stuck {
+                self.position = Position::RedoingPart {
                     state,
                     key: 0,
                     keys: key,
@@ -231,8 +278,9 @@ impl Walk {
         }
     }
 
-    /// Past an entry that does again part of the state that faulted on the way back.
-    fn took_stuck<H: Hook>(
+    /// Goes on past an entry that does again one of the earlier keys of the state that faulted in
+    /// the rollback.
+    fn took_redoing<H: Hook>(
         &mut self,
         table: &Table<H>,
         state: u32,
@@ -241,14 +289,14 @@ impl Walk {
         first: u32,
         second: u32,
     )
-        requires position { self.old.position ≡ Position.Stuck state key keys first second }
+        requires position { self.old.position ≡ Position.RedoingPart state key keys first second }
         requires within { IsWithin (keys_by table.now) self.old }
         ensures { (how : How) → is_done how ≡ true → Took (keys_by table.now) how self.old self.new }
     {
-        prove!(keys < key_count(table, state));
-        let dir = direction(self.from, self.to);
+        prove!(keys < table.key_count(state));
+        let dir = Dir::between(self.from, self.to);
         self.position = if key + 1 < keys {
-            Position::Stuck {
+            Position::RedoingPart {
                 state,
                 key: key + 1,
                 keys,
@@ -261,51 +309,7 @@ impl Walk {
     }
 }
 
-/// The direction of a walk.
-fn direction(from: u32, to: u32) -> Dir
-    ensures { result ≡ direction_of from to }
-{
-    if from < to { Dir::Up } else { Dir::Down }
-}
-
-fn opposite(dir: Dir) -> Dir
-    ensures { result ≡ opposite_of dir }
-{
-    match dir {
-        Dir::Up => Dir::Down,
-        Dir::Down => Dir::Up,
-    }
-}
-
-/// The state that stands before a crossing in a direction.
-fn near(dir: Dir, state: u32) -> u32
-    ensures { result ≡ near_of dir state }
-{
-    match dir {
-        Dir::Up => state.saturating_sub(1),
-        Dir::Down => state,
-    }
-}
-
-/// The state that stands after a crossing in a direction.
-fn far(dir: Dir, state: u32) -> u32
-    ensures { result ≡ far_of dir state }
-{
-    near(opposite(dir), state)
-}
-
-/// The code of a how that is a fault.
-fn fault_of(how: How) -> Option<u32>
-    ensures { result ≡ fault_in how }
-{
-    match how {
-        How::RanFault(code) => Some(code),
-        How::Injected => Some(EAGAIN),
-        How::RanOk | How::Empty | How::Presumed | How::Overruled(_) => None,
-    }
-}
-
-/// The entry of a key.
+/// The step that asks for the entry of a key.
 fn call<H: Hook>(
     table: &Table<H>,
     state: u32,
@@ -317,7 +321,7 @@ fn call<H: Hook>(
     requires { key < length (keys_by table.now state) }
     ensures { result ≡ call_at (keys_by table.now) state key dir place first }
 {
-    let inst = inst_at(table, state, key);
+    let inst = table.key_inst(state, key);
     Step::Call {
         key: Key { state, inst },
         dir,
@@ -326,10 +330,11 @@ fn call<H: Hook>(
     }
 }
 
-/// Where a walk stands that goes on in this direction from a state that it has reached.
-fn ahead<H: Hook>(table: &Table<H>, dir: Dir, reached: u32, to: u32) -> Position
+/// Where a walk to a target stands that has reached a state: at the next state with a key, or at its
+/// end.
+fn next_on_the_way<H: Hook>(table: &Table<H>, dir: Dir, reached: u32, to: u32) -> Position
     requires { (reached ≤ ONLINE) × (to ≤ ONLINE) }
-    ensures { IsAhead (keys_by table.now) dir reached to result }
+    ensures { IsNextOnTheWay (keys_by table.now) dir reached to result }
 {
     match next_state(table, dir, reached, to) {
         Some(state) => Position::Forward { state, key: 0 },
@@ -337,10 +342,17 @@ fn ahead<H: Hook>(table: &Table<H>, dir: Dir, reached: u32, to: u32) -> Position
     }
 }
 
-/// Where a walk stands that goes back in this direction from a state that it has reached.
-fn behind<H: Hook>(table: &Table<H>, dir: Dir, reached: u32, from: u32, code: u32) -> Position
+/// Where a rollback stands that has reached a state: at the next state with a key, in the direction
+/// of the rollback, or at its end.
+fn next_in_rollback<H: Hook>(
+    table: &Table<H>,
+    dir: Dir,
+    reached: u32,
+    from: u32,
+    code: u32,
+) -> Position
     requires { (reached ≤ ONLINE) × (from ≤ ONLINE) }
-    ensures { IsBehind (keys_by table.now) dir reached from code result }
+    ensures { IsNextInRollback (keys_by table.now) dir reached from code result }
 {
     match next_state(table, dir, reached, from) {
         Some(state) => Position::Back {
@@ -352,13 +364,13 @@ fn behind<H: Hook>(table: &Table<H>, dir: Dir, reached: u32, from: u32, code: u3
     }
 }
 
-/// Where a walk stands that can't go back.
+/// Where a walk stands whose rollback faulted too.
 fn stuck(dir: Dir, state: u32, first: u32, second: u32) -> Position
-    ensures { result ≡ Position.Ended (AnAnswer.Stuck first second (far_of dir state)) }
+    ensures { result ≡ Position.Ended (AnAnswer.Stuck first second (state_after dir state)) }
 {
     Position::Ended(Answer::Stuck {
         first,
         second,
-        at: far(dir, state),
+        at: dir.state_after(state),
     })
 }

@@ -1,30 +1,27 @@
 //! Where registrations begin: what they register or change, or why they are refused.
 
 ghost use Rattle.std.specs.Prelude.{◌≡◌, ◌+◌, ◌<◌, ◌≤◌, ◌&&◌, ◌||◌, ◌==◌, nat_le, if◌then◌else◌, Some, None, true, false, IfSome, IfNone, IfOk, IfErr, IsSome, is_some, length, slice_set};
-ghost use Rattle.hp_states.specs.Sections.{is_dynamic};
-ghost use Rattle.hp_event.specs.declared.event.Form.{Form as AForm};
-ghost use Rattle.hp_event.specs.declared.event.Op.{Op as AnOp};
+ghost use Rattle.hp_event.specs.declared.op.Form.{Form as AForm};
+ghost use Rattle.hp_event.specs.declared.op.Op.{Op as AnOp};
 ghost use Rattle.hp_model.specs.Events.{is_registration_op};
 ghost use Rattle.hp_model.specs.Subsystems.{sub_numbered, has_no_name};
 ghost use Rattle.hp_model.specs.Refusals.{refusal};
 ghost use Rattle.hp_model.specs.Resolved.{resolved};
 ghost use Rattle.hp_table.specs.Step.{bare};
 ghost use Rattle.hp_table.specs.Named.{is_named};
-ghost use Rattle.hp_table.specs.Slots.{first_slot};
 ghost use Rattle.hp_play.specs.declared.limits.TheConstants.{MAX_PLAYED};
 ghost use Rattle.hp_play.specs.Form.{IsOp, is_setup};
 ghost use Rattle.hp_table.specs.Instances.{is_multi_at, has_instance};
-ghost use Rattle.hp_play.specs.Machine.{IsStart, fresh, is_locked, key_total, pushed};
+ghost use Rattle.hp_table.specs.Totals.{key_total};
+ghost use Rattle.hp_play.specs.Machine.{IsStart, fresh, is_locked, pushed};
 ghost use Rattle.hp_play.specs.Parts.{Ready, Tied, Advances, KeepsHooks, Resolves, hooks_of};
 
 use super::{Machine, OPERATION_ROOM};
 use crate::due::Due;
-use hp_event::{Event, Form, NoMemory, Op, Sub};
+use hp_event::{Event, Form, Op, Sub};
 use hp_hook::Hook;
 use hp_reg::Reg;
-use hp_states::{
-    EBUSY, EINVAL, ENOSPC, EPERM, MAX_CPUS, OFFLINE, ONLINE, ONLINE_DYN, PREPARE_DYN, Range,
-};
+use hp_states::{EBUSY, EINVAL, ENOSPC, EPERM, MAX_CPUS, NoMemory, OFFLINE, ONLINE, Range};
 use hp_table::{Record, TableError};
 
 impl<H: Hook> Machine<H> {
@@ -33,7 +30,10 @@ impl<H: Hook> Machine<H> {
         requires { (1 ≤ number) × (number ≤ length self.now.journal.head.subs) }
         ensures { sub_numbered self.now.journal.head number ≡ Some result.now }
     {
-        &self.journal.head().subs.as_slice()[number as usize - 1]
+        match self.journal.head().sub(number) {
+            Some(sub) => sub,
+            None => unreachable!(),
+        }
     }
 
     /// Whether no state of this number can be set up, or not for this subsystem: it is 0, or 200 or
@@ -45,21 +45,11 @@ impl<H: Hook> Machine<H> {
         asked == OFFLINE || asked >= ONLINE || self.sub(sub).name.as_slice().is_empty()
     }
 
-    /// Whether what is registered at a state has an instance list.
-    fn is_multi(&self, state: u32) -> bool
-        ensures { result ≡ is_multi_at self.now.table state }
-    {
-        match self.table.step(state) {
-            Some(record) => record.multi,
-            None => false,
-        }
-    }
-
     /// Whether what is registered at a state has an instance list with this instance.
     fn has_instance(&self, state: u32, inst: u32) -> bool
         ensures { result ≡ (is_multi_at self.now.table state && has_instance self.now.table state inst) }
     {
-        self.is_multi(state) && self.table.instances(state).contains(&inst)
+        self.table.is_multi(state) && self.table.has_instance(state, inst)
     }
 
     /// The state that a setup outside of read sections registers: the lowest slot of a dynamic range,
@@ -77,7 +67,7 @@ impl<H: Hook> Machine<H> {
         if self.is_invalid(asked, sub) {
             return Err(EINVAL);
         }
-        match range_of(asked) {
+        match Range::asked_by(asked) {
             Some(range) => match self.table.slot(range) {
                 Ok(state) => Ok(state),
                 Err(_) => Err(ENOSPC),
@@ -293,27 +283,9 @@ impl<H: Hook> Machine<H> {
     }
 }
 
-/// The dynamic range that a setup of this state takes a slot of, if it asks for one.
-fn range_of(asked: u32) -> Option<Range>
-    ensures some { IfSome result (λ range. (is_dynamic asked ≡ true) × (first_slot range ≡ asked)) }
-    ensures none { IfNone result (is_dynamic asked ≡ false) }
-{
-    match asked {
-        PREPARE_DYN => Some(Range::Prepare),
-        ONLINE_DYN => Some(Range::Online),
-        _ => None,
-    }
-}
-
 /// Whether a registration has the form for callers in a read section of their own.
 fn is_locked(op: Op) -> bool
     ensures { result ≡ is_locked op }
 {
-    match op {
-        Op::Setup { form, .. }
-        | Op::Remove { form, .. }
-        | Op::Add { form, .. }
-        | Op::Del { form, .. } => { form.locked }
-        _ => false,
-    }
+    op.form().is_some_and(|form| form.locked)
 }

@@ -1,7 +1,7 @@
 //! Registrations in flight: their entries, and their ends.
 
 ghost use Rattle.std.specs.Prelude.{◌≡◌, ◌≢◌, ◌<◌, ◌≤◌, true, false, Some, None, IfSome, IsSome, is_some, length};
-ghost use Rattle.hp_event.specs.declared.event.Op.{Op as AnOp};
+ghost use Rattle.hp_event.specs.declared.op.Op.{Op as AnOp};
 ghost use Rattle.hp_model.specs.Events.{is_registration_op};
 ghost use Rattle.hp_model.specs.How.{is_nocalls};
 ghost use Rattle.hp_reg.specs.declared.step.RegStep.TheVariants as regask;
@@ -185,13 +185,7 @@ impl<H: Hook> Machine<H> {
 pub(super) fn is_nocalls(op: Op) -> bool
     ensures { result ≡ is_nocalls op }
 {
-    match op {
-        Op::Setup { form, .. }
-        | Op::Remove { form, .. }
-        | Op::Add { form, .. }
-        | Op::Del { form, .. } => { form.nocalls }
-        _ => false,
-    }
+    op.form().is_some_and(|form| form.nocalls)
 }
 
 /// Whether what an operation has in the table leaves it at its end: what a faulted one added, and what
@@ -199,8 +193,6 @@ pub(super) fn is_nocalls(op: Op) -> bool
 fn leaves(op: Op, answer: Answer) -> bool
     ensures { result ≡ leaves op answer }
 {
-    match op {
-        Op::Setup { .. } | Op::Add { .. } => !matches!(answer, Answer::Ok(_)),
-        _ => matches!(answer, Answer::Ok(_)),
-    }
+    let is_ok = matches!(answer, Answer::Ok(_));
+    if op.is_adding() { !is_ok } else { is_ok }
 }

@@ -2,16 +2,17 @@
 
 ghost use Rattle.std.specs.Prelude.{◌≡◌, ◌+◌, ◌-◌, ◌<◌, ◌≤◌, None, true, false, IfOk, is_some, length};
 ghost use Rattle.hp_play.specs.declared.limits.TheConstants.{MAX_PLAYED};
-ghost use Rattle.hp_play.specs.Machine.{IsPlayable, is_in_flight, is_of, key_total};
+ghost use Rattle.hp_play.specs.Machine.{IsPlayable, is_in_flight, is_of, margin};
 ghost use Rattle.hp_play.specs.Parts.{Ready, Tied, Advances, Enters, GoesOn, KeepsHooks, hooks_of, is_entry_of};
+ghost use Rattle.hp_table.specs.Totals.{key_total};
 
 use super::registering::is_nocalls;
 use super::{Machine, OPERATION_ROOM};
 use crate::due::Due;
-use hp_event::{NoMemory, Op};
+use hp_event::Op;
 use hp_hook::Hook;
 use hp_reg::RegStep;
-use hp_states::{MAX_EVENTS, is_ap};
+use hp_states::{MAX_EVENTS, NoMemory, is_ap};
 use hp_walk::Step;
 
 impl<H: Hook> Machine<H> {
@@ -22,7 +23,7 @@ impl<H: Hook> Machine<H> {
         requires tied { Tied self.old }
         requires free { self.old.due ≡ Due.Operation }
         requires op { IsPlayable op (length self.old.journal.head.subs) (is_some hook.old) }
-        requires room { length self.old.journal.events + OPERATION_ROOM ≤ MAX_EVENTS }
+        requires room { length self.old.journal.events + OPERATION_ROOM + margin ≤ MAX_EVENTS }
         requires none { self.old.journal.promised ≡ 0 }
         requires keys { key_total self.old.table < MAX_PLAYED }
         ensures ready { IfOk result (λ _. Ready self.new) }

@@ -2,11 +2,11 @@
 //! ends.
 
 ghost use Rattle.std.specs.Prelude.{◌≡◌, ◌≢◌, ◌<◌, ◌≤◌, ◌==◌, true, false, length, slice_index};
-ghost use Rattle.hp_event.specs.declared.event.Op.{Op as AnOp};
+ghost use Rattle.hp_event.specs.declared.op.Op.{Op as AnOp};
 ghost use Rattle.hp_model.specs.MapLock.{is_map_op};
 ghost use Rattle.hp_model.specs.Processors.{online};
 ghost use Rattle.hp_model.specs.Refusals.{Passes};
-ghost use Rattle.hp_play.specs.Machine.{Asks, stands_after};
+ghost use Rattle.hp_play.specs.Machine.{Asks};
 ghost use Rattle.hp_play.specs.Parts.{Ready, Tied, Advances, CanEnd, Enters, hooks_of, is_entry_of};
 ghost use Rattle.hp_play.specs.Tied.{Leads};
 ghost use Rattle.hp_walk.specs.declared.step.Step.TheVariants as ask;
@@ -193,7 +193,7 @@ impl<H: Hook> Machine<H> {
     {
         let seat = self.client();
         self.journal.push(Event::WalkEnd { seat, cpu, answer });
-        self.settled[cpu as usize] = stands_after(answer, to, self.state(cpu));
+        self.settled[cpu as usize] = answer.leaves_at(to, self.state(cpu));
         self.due = Due::End { answer };
     }
 
@@ -221,17 +221,5 @@ impl<H: Hook> Machine<H> {
         let seat = self.client();
         self.journal.push(Event::OpEnd { seat, answer });
         self.due = Due::Operation;
-    }
-}
-
-/// Where a processor stands after its walk: where the walk went to, or where it got stuck, or else
-/// where it stood.
-fn stands_after(answer: Answer, to: u32, stood: u32) -> u32
-    ensures { result ≡ stands_after answer to stood }
-{
-    match answer {
-        Answer::Ok(_) => to,
-        Answer::Stuck { at, .. } => at,
-        Answer::Refused(_) | Answer::Fault(_) | Answer::LogFull => stood,
     }
 }

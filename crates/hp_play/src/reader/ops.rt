@@ -13,8 +13,8 @@ use super::REFUSED;
 use crate::error::ParseError;
 use crate::limits::{MAX_NAMED_CPU, MAX_NAMED_STATE, MAX_PLAYED};
 use crate::words::{behind, dir_at, flags_at, number_at, number_within};
-use hp_event::{Form, NoMemory, Op};
-use hp_states::{Dir, MAX_INSTANCE};
+use hp_event::{Form, Op};
+use hp_states::{Dir, MAX_INSTANCE, NoMemory};
 use std::alloc::Global;
 
 /// The words `S N FLAGS` to the end of a line, N in this range, and the bytes behind the line.

@@ -6,9 +6,9 @@ ghost use Rattle.hp_play.specs.Reading.{calls_at, kind_at, rule_at, title_at, su
 ghost use Rattle.hp_states.specs.declared.limits.TheConstants.{MAX_SUBS, MAX_RULES};
 
 use crate::words::{any_within, behind, dir_at, name_to, named, number_within};
-use hp_event::{Name, NoMemory, Sub, Subs};
+use hp_event::{Name, Sub, Subs};
 use hp_states::{
-    HookPlan, MAX_CODE, MAX_EVENTS, MAX_INSTANCE, MAX_RULE_CPU, MAX_RULES, MAX_SUBS, Rule,
+    HookPlan, MAX_CODE, MAX_EVENTS, MAX_INSTANCE, MAX_RULE_CPU, MAX_RULES, MAX_SUBS, NoMemory, Rule,
 };
 use std::alloc::Global;
 

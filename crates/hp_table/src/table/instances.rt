@@ -1,9 +1,9 @@
 //! The instances of the table's states, and its keys.
 
-ghost use Rattle.std.specs.Prelude.{◌≡◌, ◌≢◌, ◌+◌, ◌≤◌, ◌↔◌, ◌&&◌, true, false, IfErr, IsErrOf, IsTrue, OnOk, OnErr};
-ghost use Rattle.hp_table.specs.Step.{step_at, changed_at};
+ghost use Rattle.std.specs.Prelude.{◌≡◌, ◌≢◌, ◌+◌, ◌<◌, ◌≤◌, ◌↔◌, ◌&&◌, true, false, AllPairs, IfErr, IsErrOf, IsSome, IsTrue, OnOk, OnErr, length, slice_index};
+ghost use Rattle.hp_table.specs.Step.{step_at, bare, changed_at};
 ghost use Rattle.hp_table.specs.Instances.{instances_at, is_multi_at, has_instance, is_full, takes, CanAdd, with_instance, without_instance};
-ghost use Rattle.hp_table.specs.Keys.{keys_of, keys_between};
+ghost use Rattle.hp_table.specs.Keys.{keys_by, keys_of, keys_between};
 ghost use Rattle.hp_table.specs.Sound.{IsSound};
 
 use crate::error::TableError;
@@ -37,23 +37,46 @@ impl<H: Hook> Table<H> {
         ensures within { result ≤ MAX_TABLE_INSTANCES + ONLINE + 1 }
         ensures sound { IsSound self.now }
     {
+        // what is so of every table
         let _ = &self.places;
         let top = high.min(ONLINE);
         let mut keys = 0;
         for state in low.min(top) + 1..top + 1 {
-            keys += self.keys_at(state);
+            keys += self.key_count(state);
         }
         keys
     }
 
-    /// How many keys a state has.
-    fn keys_at(&self, state: u32) -> u32
+    /// How many keys a state has: with an instance list one for each instance, registered without
+    /// one a single one, and not registered none.
+    ///
+    /// There is no condition; above 200 there are no keys. Takes no memory, and a time that doesn't
+    /// grow with the table. After `cpuhp_invoke_callback` of `kernel/cpu.c`.
+    pub fn key_count(&self, state: u32) -> u32
+        ensures count { result ≡ length (keys_by self.now state) }
         ensures keys { result ≡ keys_of (step_at self.now state) }
+        ensures few { result ≤ MAX_INSTANCES }
+        ensures distinct { AllPairs (λ i j. i ≢ j) (keys_by self.now state) }
         ensures sound { IsSound self.now }
     {
         match self.registered(state) {
-            Some(step) => step.keys(),
+            Some(step) => step.key_count(),
             None => 0,
+        }
+    }
+
+    /// The instance of a key of a state: the key's place is counted from 0 at the newest instance. A
+    /// state that is registered without an instance list has the instance 0.
+    ///
+    /// The state has more than `key` keys. Takes no memory, and a time that doesn't grow with the
+    /// table. The order is that of the instance list of `struct cpuhp_step` of `kernel/cpu.c`.
+    pub fn key_inst(&self, state: u32, key: u32) -> u32
+        requires { key < length (keys_by self.now state) }
+        ensures { result ≡ slice_index (keys_by self.now state) key }
+    {
+        match self.registered(state) {
+            Some(step) => step.key_inst(key),
+            None => unreachable!(),
         }
     }
 
@@ -85,7 +108,7 @@ impl<H: Hook> Table<H> {
         if inst == 0 || !self.is_multi(state) {
             return Err(TableError::Invalid);
         }
-        if self.instances(state).contains(&inst) {
+        if self.has_instance(state, inst) {
             return Err(TableError::Busy);
         }
         if self.is_full(state) {
@@ -95,13 +118,26 @@ impl<H: Hook> Table<H> {
     }
 
     /// Whether a state is registered with an instance list.
-    fn is_multi(&self, state: u32) -> bool
+    ///
+    /// There is no condition; a state above 200 isn't registered. Takes no memory. After
+    /// `multi_instance` of `struct cpuhp_step` of `kernel/cpu.c`.
+    pub fn is_multi(&self, state: u32) -> bool
         ensures { result ≡ is_multi_at self.now state }
     {
         match self.registered(state) {
             Some(step) => step.is_multi(),
             None => false,
         }
+    }
+
+    /// Whether a state has an instance.
+    ///
+    /// There is no condition; a state that isn't registered has none. Takes no memory, and time for
+    /// the state's list. After the instance list of `struct cpuhp_step` of `kernel/cpu.c`.
+    pub fn has_instance(&self, state: u32, inst: u32) -> bool
+        ensures { result ≡ has_instance self.now state inst }
+    {
+        self.instances(state).contains(&inst)
     }
 
     /// Whether a state, or the table, has as many instances as it may have.
@@ -145,11 +181,38 @@ impl<H: Hook> Table<H> {
         ensures no_other { IfErr result (λ error. error ≡ TableError.Invalid) }
         ensures err { OnErr result (self.new ≡ self.old) }
     {
-        if !self.is_multi(state) || !self.instances(state).contains(&inst) {
+        if !self.is_multi(state) || !self.has_instance(state, inst) {
             return Err(TableError::Invalid);
         }
         self.unlink(state, inst);
         Ok(())
+    }
+
+    /// Takes all instances out of a state, whose record stays. All other states stay.
+    ///
+    /// There is no condition: where nothing is registered, or there are no instances, nothing
+    /// changes. Takes no memory, and a time that doesn't grow with the table. A state with instances
+    /// isn't removed (`__cpuhp_remove_state_cpuslocked` of `kernel/cpu.c`); that they can be taken out
+    /// at once, where a table is given up, is this project's own.
+    pub fn clear_instances(&mut self, state: u32)
+        ensures { self.new ≡ changed_at self.old state (λ step. bare step.kept) }
+    {
+        if self.registered(state).is_some() {
+            self.unlink_all(state);
+        }
+    }
+
+    /// Takes out the instances of a registered state.
+    fn unlink_all(&mut self, state: u32)
+        requires { IsSome (step_at self.old state) }
+        ensures { self.new ≡ changed_at self.old state (λ step. bare step.kept) }
+    {
+        let many = self.instances(state).len() as u32;
+        match &mut self.places[state as usize] {
+            Some(step) => step.clear(),
+            None => unreachable!(),
+        }
+        self.count -= many;
     }
 
     /// Takes out an instance that is there.

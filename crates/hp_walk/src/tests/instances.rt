@@ -1,7 +1,7 @@
 //! Walks over a state with instances. They are called in list order, and the last that is added stands
 //! first.
 
-use super::{Row, stuck, table_of, walks};
+use super::{shows, stuck, table_of, walks};
 use hp_event::Answer;
 use hp_event::How::{RanFault, RanOk};
 use hp_states::Dir::{Down, Up};
@@ -12,53 +12,53 @@ use std::test::Fail;
 fn a_fault_at_the_third_instance(rt: HostRuntime) -> Result<(), Fail> {
     let table = table_of(rt.alloc(), &[110, 130, 150], 130, &[1, 2, 3])?;
     let up = [
-        Row(0, 200, 110, 0, Up, Forward, true, RanOk),
-        Row(110, 200, 130, 3, Up, Forward, true, RanOk),
-        Row(110, 200, 130, 2, Up, Forward, false, RanOk),
-        Row(110, 200, 130, 1, Up, Forward, false, RanFault(5)),
-        Row(110, 0, 130, 3, Down, Part, false, RanOk),
-        Row(110, 0, 130, 2, Down, Part, false, RanOk),
-        Row(110, 0, 110, 0, Down, Back, true, RanOk),
+        shows(0, 200).crosses(110, 0, Up, Forward, RanOk),
+        shows(110, 200).crosses(130, 3, Up, Forward, RanOk),
+        shows(110, 200).goes_on(130, 2, Up, Forward, RanOk),
+        shows(110, 200).goes_on(130, 1, Up, Forward, RanFault(5)),
+        shows(110, 0).goes_on(130, 3, Down, Part, RanOk),
+        shows(110, 0).goes_on(130, 2, Down, Part, RanOk),
+        shows(110, 0).crosses(110, 0, Down, Back, RanOk),
     ];
     walks(&rt, &table, 0, 200, &up, (109, 0, Answer::Fault(5)));
     let down = [
-        Row(200, 0, 150, 0, Down, Forward, true, RanOk),
-        Row(149, 0, 130, 3, Down, Forward, true, RanOk),
-        Row(149, 0, 130, 2, Down, Forward, false, RanOk),
-        Row(149, 0, 130, 1, Down, Forward, false, RanFault(6)),
-        Row(149, 200, 130, 3, Up, Part, false, RanOk),
-        Row(149, 200, 130, 2, Up, Part, false, RanOk),
-        Row(149, 200, 150, 0, Up, Back, true, RanOk),
+        shows(200, 0).crosses(150, 0, Down, Forward, RanOk),
+        shows(149, 0).crosses(130, 3, Down, Forward, RanOk),
+        shows(149, 0).goes_on(130, 2, Down, Forward, RanOk),
+        shows(149, 0).goes_on(130, 1, Down, Forward, RanFault(6)),
+        shows(149, 200).goes_on(130, 3, Up, Part, RanOk),
+        shows(149, 200).goes_on(130, 2, Up, Part, RanOk),
+        shows(149, 200).crosses(150, 0, Up, Back, RanOk),
     ];
     walks(&rt, &table, 200, 0, &down, (150, 200, Answer::Fault(6)));
     Ok(())
 }
 
 #[test]
-fn instances_on_a_way_back(rt: HostRuntime) -> Result<(), Fail> {
+fn instances_in_a_rollback(rt: HostRuntime) -> Result<(), Fail> {
     let table = table_of(rt.alloc(), &[110, 130, 150], 130, &[1, 2, 3])?;
     let down = [
-        Row(0, 200, 110, 0, Up, Forward, true, RanOk),
-        Row(110, 200, 130, 3, Up, Forward, true, RanOk),
-        Row(110, 200, 130, 2, Up, Forward, false, RanOk),
-        Row(110, 200, 130, 1, Up, Forward, false, RanOk),
-        Row(130, 200, 150, 0, Up, Forward, true, RanFault(5)),
-        Row(130, 0, 130, 3, Down, Back, true, RanOk),
-        Row(130, 0, 130, 2, Down, Back, false, RanOk),
-        Row(130, 0, 130, 1, Down, Back, false, RanOk),
-        Row(129, 0, 110, 0, Down, Back, true, RanOk),
+        shows(0, 200).crosses(110, 0, Up, Forward, RanOk),
+        shows(110, 200).crosses(130, 3, Up, Forward, RanOk),
+        shows(110, 200).goes_on(130, 2, Up, Forward, RanOk),
+        shows(110, 200).goes_on(130, 1, Up, Forward, RanOk),
+        shows(130, 200).crosses(150, 0, Up, Forward, RanFault(5)),
+        shows(130, 0).crosses(130, 3, Down, Back, RanOk),
+        shows(130, 0).goes_on(130, 2, Down, Back, RanOk),
+        shows(130, 0).goes_on(130, 1, Down, Back, RanOk),
+        shows(129, 0).crosses(110, 0, Down, Back, RanOk),
     ];
     walks(&rt, &table, 0, 200, &down, (109, 0, Answer::Fault(5)));
     let up = [
-        Row(200, 0, 150, 0, Down, Forward, true, RanOk),
-        Row(149, 0, 130, 3, Down, Forward, true, RanOk),
-        Row(149, 0, 130, 2, Down, Forward, false, RanOk),
-        Row(149, 0, 130, 1, Down, Forward, false, RanOk),
-        Row(129, 0, 110, 0, Down, Forward, true, RanFault(6)),
-        Row(129, 200, 130, 3, Up, Back, true, RanOk),
-        Row(129, 200, 130, 2, Up, Back, false, RanOk),
-        Row(129, 200, 130, 1, Up, Back, false, RanOk),
-        Row(130, 200, 150, 0, Up, Back, true, RanOk),
+        shows(200, 0).crosses(150, 0, Down, Forward, RanOk),
+        shows(149, 0).crosses(130, 3, Down, Forward, RanOk),
+        shows(149, 0).goes_on(130, 2, Down, Forward, RanOk),
+        shows(149, 0).goes_on(130, 1, Down, Forward, RanOk),
+        shows(129, 0).crosses(110, 0, Down, Forward, RanFault(6)),
+        shows(129, 200).crosses(130, 3, Up, Back, RanOk),
+        shows(129, 200).goes_on(130, 2, Up, Back, RanOk),
+        shows(129, 200).goes_on(130, 1, Up, Back, RanOk),
+        shows(130, 200).crosses(150, 0, Up, Back, RanOk),
     ];
     walks(&rt, &table, 200, 0, &up, (150, 200, Answer::Fault(6)));
     Ok(())
@@ -68,25 +68,25 @@ fn instances_on_a_way_back(rt: HostRuntime) -> Result<(), Fail> {
 fn stuck_at_the_second_instance(rt: HostRuntime) -> Result<(), Fail> {
     let table = table_of(rt.alloc(), &[110, 130, 150], 130, &[1, 2, 3])?;
     let down = [
-        Row(0, 200, 110, 0, Up, Forward, true, RanOk),
-        Row(110, 200, 130, 3, Up, Forward, true, RanOk),
-        Row(110, 200, 130, 2, Up, Forward, false, RanOk),
-        Row(110, 200, 130, 1, Up, Forward, false, RanOk),
-        Row(130, 200, 150, 0, Up, Forward, true, RanFault(5)),
-        Row(130, 0, 130, 3, Down, Back, true, RanOk),
-        Row(130, 0, 130, 2, Down, Back, false, RanFault(9)),
-        Row(130, 0, 130, 3, Up, Part, false, RanOk),
+        shows(0, 200).crosses(110, 0, Up, Forward, RanOk),
+        shows(110, 200).crosses(130, 3, Up, Forward, RanOk),
+        shows(110, 200).goes_on(130, 2, Up, Forward, RanOk),
+        shows(110, 200).goes_on(130, 1, Up, Forward, RanOk),
+        shows(130, 200).crosses(150, 0, Up, Forward, RanFault(5)),
+        shows(130, 0).crosses(130, 3, Down, Back, RanOk),
+        shows(130, 0).goes_on(130, 2, Down, Back, RanFault(9)),
+        shows(130, 0).goes_on(130, 3, Up, Part, RanOk),
     ];
     walks(&rt, &table, 0, 200, &down, (130, 0, stuck(5, 9, 130)));
     let up = [
-        Row(200, 0, 150, 0, Down, Forward, true, RanOk),
-        Row(149, 0, 130, 3, Down, Forward, true, RanOk),
-        Row(149, 0, 130, 2, Down, Forward, false, RanOk),
-        Row(149, 0, 130, 1, Down, Forward, false, RanOk),
-        Row(129, 0, 110, 0, Down, Forward, true, RanFault(5)),
-        Row(129, 200, 130, 3, Up, Back, true, RanOk),
-        Row(129, 200, 130, 2, Up, Back, false, RanFault(9)),
-        Row(129, 200, 130, 3, Down, Part, false, RanOk),
+        shows(200, 0).crosses(150, 0, Down, Forward, RanOk),
+        shows(149, 0).crosses(130, 3, Down, Forward, RanOk),
+        shows(149, 0).goes_on(130, 2, Down, Forward, RanOk),
+        shows(149, 0).goes_on(130, 1, Down, Forward, RanOk),
+        shows(129, 0).crosses(110, 0, Down, Forward, RanFault(5)),
+        shows(129, 200).crosses(130, 3, Up, Back, RanOk),
+        shows(129, 200).goes_on(130, 2, Up, Back, RanFault(9)),
+        shows(129, 200).goes_on(130, 3, Down, Part, RanOk),
     ];
     walks(&rt, &table, 200, 0, &up, (129, 200, stuck(5, 9, 129)));
     Ok(())
@@ -96,15 +96,15 @@ fn stuck_at_the_second_instance(rt: HostRuntime) -> Result<(), Fail> {
 fn stuck_at_the_third_instance(rt: HostRuntime) -> Result<(), Fail> {
     let table = table_of(rt.alloc(), &[130, 150], 130, &[1, 2, 3])?;
     let down = [
-        Row(129, 150, 130, 3, Up, Forward, true, RanOk),
-        Row(129, 150, 130, 2, Up, Forward, false, RanOk),
-        Row(129, 150, 130, 1, Up, Forward, false, RanOk),
-        Row(130, 150, 150, 0, Up, Forward, true, RanFault(5)),
-        Row(130, 129, 130, 3, Down, Back, true, RanOk),
-        Row(130, 129, 130, 2, Down, Back, false, RanOk),
-        Row(130, 129, 130, 1, Down, Back, false, RanFault(9)),
-        Row(130, 129, 130, 3, Up, Part, false, RanOk),
-        Row(130, 129, 130, 2, Up, Part, false, RanOk),
+        shows(129, 150).crosses(130, 3, Up, Forward, RanOk),
+        shows(129, 150).goes_on(130, 2, Up, Forward, RanOk),
+        shows(129, 150).goes_on(130, 1, Up, Forward, RanOk),
+        shows(130, 150).crosses(150, 0, Up, Forward, RanFault(5)),
+        shows(130, 129).crosses(130, 3, Down, Back, RanOk),
+        shows(130, 129).goes_on(130, 2, Down, Back, RanOk),
+        shows(130, 129).goes_on(130, 1, Down, Back, RanFault(9)),
+        shows(130, 129).goes_on(130, 3, Up, Part, RanOk),
+        shows(130, 129).goes_on(130, 2, Up, Part, RanOk),
     ];
     walks(&rt, &table, 129, 150, &down, (130, 129, stuck(5, 9, 130)));
     Ok(())
@@ -113,9 +113,9 @@ fn stuck_at_the_third_instance(rt: HostRuntime) -> Result<(), Fail> {
 #[test]
 fn one_instance(rt: HostRuntime) -> Result<(), Fail> {
     let table = table_of(rt.alloc(), &[130], 130, &[4])?;
-    let done = [Row(129, 130, 130, 4, Up, Forward, true, RanOk)];
+    let done = [shows(129, 130).crosses(130, 4, Up, Forward, RanOk)];
     walks(&rt, &table, 129, 130, &done, (130, 130, Answer::Ok(0)));
-    let fault = [Row(129, 130, 130, 4, Up, Forward, true, RanFault(5))];
+    let fault = [shows(129, 130).crosses(130, 4, Up, Forward, RanFault(5))];
     walks(&rt, &table, 129, 130, &fault, (129, 129, Answer::Fault(5)));
     Ok(())
 }
@@ -124,22 +124,22 @@ fn one_instance(rt: HostRuntime) -> Result<(), Fail> {
 fn two_instances(rt: HostRuntime) -> Result<(), Fail> {
     let table = table_of(rt.alloc(), &[130], 130, &[1, 2])?;
     let done = [
-        Row(129, 130, 130, 2, Up, Forward, true, RanOk),
-        Row(129, 130, 130, 1, Up, Forward, false, RanOk),
+        shows(129, 130).crosses(130, 2, Up, Forward, RanOk),
+        shows(129, 130).goes_on(130, 1, Up, Forward, RanOk),
     ];
     walks(&rt, &table, 129, 130, &done, (130, 130, Answer::Ok(0)));
-    let first = [Row(129, 130, 130, 2, Up, Forward, true, RanFault(5))];
+    let first = [shows(129, 130).crosses(130, 2, Up, Forward, RanFault(5))];
     walks(&rt, &table, 129, 130, &first, (129, 129, Answer::Fault(5)));
     let second = [
-        Row(129, 130, 130, 2, Up, Forward, true, RanOk),
-        Row(129, 130, 130, 1, Up, Forward, false, RanFault(5)),
-        Row(129, 129, 130, 2, Down, Part, false, RanOk),
+        shows(129, 130).crosses(130, 2, Up, Forward, RanOk),
+        shows(129, 130).goes_on(130, 1, Up, Forward, RanFault(5)),
+        shows(129, 129).goes_on(130, 2, Down, Part, RanOk),
     ];
     walks(&rt, &table, 129, 130, &second, (129, 129, Answer::Fault(5)));
     let down = [
-        Row(130, 129, 130, 2, Down, Forward, true, RanOk),
-        Row(130, 129, 130, 1, Down, Forward, false, RanFault(5)),
-        Row(130, 130, 130, 2, Up, Part, false, RanOk),
+        shows(130, 129).crosses(130, 2, Down, Forward, RanOk),
+        shows(130, 129).goes_on(130, 1, Down, Forward, RanFault(5)),
+        shows(130, 130).goes_on(130, 2, Up, Part, RanOk),
     ];
     walks(&rt, &table, 130, 129, &down, (130, 130, Answer::Fault(5)));
     Ok(())
@@ -149,14 +149,14 @@ fn two_instances(rt: HostRuntime) -> Result<(), Fail> {
 fn no_instances(rt: HostRuntime) -> Result<(), Fail> {
     let table = table_of(rt.alloc(), &[110, 130, 150], 130, &[])?;
     let up = [
-        Row(0, 200, 110, 0, Up, Forward, true, RanOk),
-        Row(110, 200, 150, 0, Up, Forward, true, RanFault(5)),
-        Row(110, 0, 110, 0, Down, Back, true, RanOk),
+        shows(0, 200).crosses(110, 0, Up, Forward, RanOk),
+        shows(110, 200).crosses(150, 0, Up, Forward, RanFault(5)),
+        shows(110, 0).crosses(110, 0, Down, Back, RanOk),
     ];
     walks(&rt, &table, 0, 200, &up, (109, 0, Answer::Fault(5)));
     let down = [
-        Row(200, 0, 150, 0, Down, Forward, true, RanOk),
-        Row(149, 0, 110, 0, Down, Forward, true, RanOk),
+        shows(200, 0).crosses(150, 0, Down, Forward, RanOk),
+        shows(149, 0).crosses(110, 0, Down, Forward, RanOk),
     ];
     walks(&rt, &table, 200, 0, &down, (109, 0, Answer::Ok(0)));
     Ok(())

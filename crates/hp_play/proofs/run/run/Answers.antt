@@ -3,7 +3,7 @@ use Rattle.std.proofs.Common.{rules, ◌≡◌, sym, ap, ◌∙◌, length, arit
 use Rattle.hp_play.proofs.Playable.{playable_at, setups_left}
 use Rattle.hp_play.proofs.PlayedRun.{played_first, played_more, played_all, op_at}
 use Rattle.hp_play.proofs.RackLaws.{length_with, none_lost}
-use Rattle.hp_play.proofs.KeyTotals.{no_keys}
+use Rattle.hp_table.proofs.KeyTotals.{no_keys}
 use Rattle.hp_play.proofs.run.run.Goals as goal
 
 pub operate-requires-clause-op : goal.operate-requires-clause-op

@@ -3,7 +3,7 @@ use Rattle.hp_states.specs.declared.limits.TheConstants.{MAX_CPUS}
 use Rattle.hp_play.specs.declared.due.Due.TheVariants.{Operation}
 use Rattle.hp_play.specs.declared.machine.TheConstants.{OPERATION_ROOM}
 use Rattle.hp_play.specs.Form.{is_setup}
-use Rattle.hp_play.specs.Machine.{key_total}
+use Rattle.hp_table.specs.Totals.{key_total}
 use Rattle.hp_play.specs.Parts.{Ready, Tied, hooks_of}
 use Rattle.hp_play.specs.Plays.{HasPlayed}
 use Rattle.hp_play.proofs.run.run.Given as goal

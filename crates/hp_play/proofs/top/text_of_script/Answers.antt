@@ -1,7 +1,7 @@
 -- A script of the form can be played with the hooks of the rack.
 use Rattle.std.proofs.Common.{ℕ, ◌≤◌, List, length, count_by, sym, ap, subst, arith}
 use Rattle.std.specs.List.{All}
-use Rattle.hp_event.specs.declared.event.Op.{Op}
+use Rattle.hp_event.specs.declared.op.Op.{Op}
 use Rattle.hp_play.specs.declared.script.Script.{Script}
 use Rattle.hp_play.specs.Parsed.{Reads}
 use Rattle.hp_play.specs.Form.{IsOp, head_of, is_setup}

@@ -1,4 +1,4 @@
-use Rattle.hp_states.specs.declared.section.Dir.TheVariants.{Up, Down}
+use Rattle.hp_states.specs.declared.dir.Dir.TheVariants.{Up, Down}
 use Rattle.hp_print.proofs.KeyOrder.{counted_at}
 use Rattle.hp_print.proofs.keys.count.Goals as goal
 

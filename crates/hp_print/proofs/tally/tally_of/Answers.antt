@@ -15,7 +15,7 @@ loop-event-init c = record {
       none_suspended c.new-suspended.result c.new-suspended.ensures.op c.new-suspended.ensures.disabled
       c.new-suspended.ensures.frozen;
   walks_is = c.in_ok-walks.ensures;
-  states_is = c.in_ok-states.ensures;
+  states_is = c.in_ok-states.ensures c.args.head.now;
   answers_is = rw c.new-answers.ensures no_answers;
 }
 

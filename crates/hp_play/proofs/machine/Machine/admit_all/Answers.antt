@@ -1,9 +1,10 @@
 -- The admissions are the first events of the run, and the machine is tied to them.
-use Rattle.std.proofs.Common.{rules, ◌≡◌, ◌++◌, ◌∷◌, [], sym, ap, ◌∙◌, arith}
+use Rattle.std.proofs.Common.{rules, ◌≡◌, ◌++◌, ◌∷◌, [], refl, sym, ap, ◌∙◌, arith}
 use Rattle.std.proofs.lemmas.List.{length-append}
-use Rattle.hp_event.specs.declared.event.Op.TheVariants.{Up}
+use Rattle.hp_event.specs.declared.op.Op.TheVariants.{Up}
 use Rattle.hp_event.specs.declared.event.Role.TheVariants.{Ap}
 use Rattle.hp_event.specs.declared.event.Event.TheVariants.{Admit}
+use Rattle.hp_play.proofs.ReadyMore.{ready_more}
 use Rattle.hp_play.proofs.Seated.{aps_next, all_admitted, admitted_tied}
 use Rattle.hp_play.proofs.machine.Machine.admit_all.Goals as goal
 
@@ -12,7 +13,11 @@ loop-cpu-preserved g c =
     let before = c.loop-cpu.invariant in
     let cpu = c.loop-cpu.cpu in
     record {
-      ready = search rules;
+      ready =
+          rw c.push.ensures
+          (ready_more c.loop-cpu.self.journal c.loop-cpu.self.settled.items c.loop-cpu.self.settled.items c.loop-cpu.self.table
+          c.loop-cpu.self.due c.loop-cpu.self.due _ before.ready refl before.ready.in_range
+          (omega (arith, before.promised, c.loop-cpu-test.true)) (rw (before.due, c.requires.free) (omega arith)));
       due = before.due;
       head = ap (λ j. j.head) c.push.ensures ∙ before.head;
       promised = search rules;

@@ -19,7 +19,7 @@ returns-clause-turns g c =
           (op_ends _ _ _ _ _ ends.cpu ends.to c.args.answer c.requires.tied ends.elsewhere ends.stands ends.entered ends.no_walk);
       keeps = grind (arith, common_steps);
       goes =
-          plays_one _ _ _ _ _ _ c.args.op true (OpEnd journal.head.possible c.args.answer) c.requires.tied ends.stands
+          plays_one _ _ _ _ _ _ c.args.op true (OpEnd journal.head.possible c.args.answer) c.requires.tied (ends.stands, refl)
           (inr (refl, c.requires.op)) (eq-eqb _ _ refl)
           (ap (λ j. j.events) c.push.ensures ∙ ap (λ (k : ℕ). journal.events ++ OpEnd k c.args.answer ∷ []) seat);
       of = refl;

@@ -7,9 +7,9 @@ use Rattle.hp_table.specs.Instances.{is_multi_at, with_instance}
 use Rattle.hp_table.specs.Step.{step_at}
 use Rattle.hp_table.proofs.Members.{takes_there}
 use Rattle.hp_table.proofs.Places.{within_places}
-use Rattle.hp_play.proofs.HookCount.{hooks_same}
-use Rattle.hp_play.proofs.KeyTotals.{total_set, instance_keys}
-use Rattle.hp_play.proofs.Placed.{taken_at}
+use Rattle.hp_table.proofs.HookCount.{hooks_same}
+use Rattle.hp_table.proofs.KeyTotals.{total_set, instance_keys}
+use Rattle.hp_table.proofs.Placed.{taken_at}
 use Rattle.hp_play.proofs.RegistrationAsks.{add_asked}
 use Rattle.hp_play.proofs.RegistrationRefusals.{add_taken, add_full, add_passes}
 use Rattle.hp_play.proofs.Starting.{start_advances, ready_at}

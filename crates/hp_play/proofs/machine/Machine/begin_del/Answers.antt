@@ -4,8 +4,8 @@ use Rattle.std.proofs.lemmas.Bool.{and_parts}
 use Rattle.hp_table.specs.Instances.{is_among, is_multi_at, has_instance}
 use Rattle.hp_table.specs.Step.{step_at}
 use Rattle.hp_table.proofs.Members.{has_there}
-use Rattle.hp_play.specs.Machine.{key_total}
-use Rattle.hp_play.proofs.Placed.{taken_at}
+use Rattle.hp_table.specs.Totals.{key_total}
+use Rattle.hp_table.proofs.Placed.{taken_at}
 use Rattle.hp_play.proofs.RegistrationAsks.{del_asked}
 use Rattle.hp_play.proofs.RegistrationRefusals.{del_missing, del_passes}
 use Rattle.hp_play.proofs.Starting.{start_advances, ready_at}

@@ -1,8 +1,8 @@
 -- A remove begins where its state is registered and has no instances, and else is refused.
 use Rattle.std.proofs.Common.{◌≡◌, ◌+◌, ◌≤◌, not, Some, length, refl, ◌∙◌, sym, ap, arith}
 use Rattle.hp_table.specs.Step.{step_at}
-use Rattle.hp_play.specs.Machine.{key_total}
-use Rattle.hp_play.proofs.Placed.{taken_by, insts_at}
+use Rattle.hp_table.specs.Totals.{key_total}
+use Rattle.hp_table.proofs.Placed.{taken_by, insts_at}
 use Rattle.hp_play.proofs.RegistrationAsks.{remove_asked}
 use Rattle.hp_play.proofs.RegistrationRefusals.{remove_refusal}
 use Rattle.hp_play.proofs.Starting.{start_advances, ready_at}

@@ -3,7 +3,8 @@ use Rattle.std.proofs.Common.{◌≡◌, ℕ, ◌<◌, ◌≤◌, false, ◌++�
 use Rattle.std.proofs.lemmas.Grind.{common_steps}
 use Rattle.hp_states.specs.declared.limits.TheConstants.{ONLINE}
 use Rattle.hp_event.specs.declared.event.Event.TheVariants.{WalkBegin}
-use Rattle.hp_play.proofs.KeyTotals.{few_keys}
+use Rattle.hp_play.proofs.WalkKeys.{few_keys}
+use Rattle.hp_play.proofs.RoomLeft.{walk_room_left}
 use Rattle.hp_play.proofs.WalkRows.{walk_stands}
 use Rattle.hp_play.proofs.TieWalk.{walk_begins}
 use Rattle.hp_play.proofs.PlaysLaws.{plays_one}
@@ -29,18 +30,19 @@ returns-clause-turns g c =
     let few = few_keys c.args.self.now.table c.state-from.result c.args.to in
     let room = rw c.requires.due at c.requires.ready.room in
     let most = walk.most in
+    let free = walk_room_left journal _ _ _ c.args.cpu c.state-from.result c.args.to c.requires.ready tied in
     record {
       ready =
           rw (c.push.ensures)
           (ready_more journal c.args.self.now.settled.items c.args.self.now.settled.items c.args.self.now.table _ _ _ c.requires.ready
-          refl (range.0, range.1, walk.after.within) (omega (arith, room, few, most, c.requires.ready.few_keys)));
+          refl (range.0, range.1, walk.after.within) (omega (arith, room)) (omega (arith, room, few, most, c.requires.ready.few_keys)));
       tied =
           rw (c.push.ensures, seat)
-          (walk_begins _ _ _ _ c.args.cpu c.state-from.result c.args.to _ tied there c.state-from.ensures moves walk.after walk.walk);
+          (walk_begins _ _ _ _ c.args.cpu c.state-from.result c.args.to _ tied there c.state-from.ensures moves walk.after walk.walk free);
       keeps = grind (arith, common_steps);
       goes =
           plays_one _ _ _ _ _ _ c.args.op false (WalkBegin journal.head.possible c.args.cpu c.state-from.result c.args.to) tied
-          (walk_stands _ _ _ _ c.args.cpu c.state-from.result c.args.to tied there c.state-from.ensures moves) (inr (refl, c.requires.op))
+          (walk_stands _ _ _ _ c.args.cpu c.state-from.result c.args.to tied there c.state-from.ensures moves free) (inr (refl, c.requires.op))
           refl
           (ap (λ j. j.events) c.push.ensures
           ∙ ap (λ (k : ℕ). journal.events ++ WalkBegin k c.args.cpu c.state-from.result c.args.to ∷ []) seat);

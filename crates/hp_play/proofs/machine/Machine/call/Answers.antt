@@ -1,6 +1,6 @@
 -- The hook that was called stays at its state.
-use Rattle.hp_play.proofs.Placed.{taken_at}
-use Rattle.hp_play.proofs.HookCount.{hooks_called}
+use Rattle.hp_table.proofs.Placed.{taken_at}
+use Rattle.hp_table.proofs.HookCount.{hooks_called}
 use Rattle.hp_play.proofs.machine.Machine.call.Goals as goal
 
 pub returns-clause-hooks : goal.returns-clause-hooks

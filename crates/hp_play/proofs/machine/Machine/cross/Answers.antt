@@ -5,7 +5,7 @@ use Rattle.hp_play.proofs.CrossingDue.{registered_key, keys_stay, can_take, with
 use Rattle.hp_play.proofs.TieCrossing.{made_how, crossing_stands, crossed}
 use Rattle.hp_play.proofs.ReadyMore.{ready_set, one_taken, entered_made, entry_due}
 use Rattle.hp_play.proofs.PlaysLaws.{plays_entry}
-use Rattle.hp_play.specs.Machine.{key_total}
+use Rattle.hp_table.specs.Totals.{key_total}
 use Rattle.hp_play.proofs.EnteredPlace.{total_entered}
 use Rattle.hp_play.proofs.machine.Machine.cross.Goals as goal
 
@@ -62,7 +62,7 @@ returns-clause-enters g c =
       ready =
           ready_set _ _ _ _ _ _ c.args.key.state _ _ c.requires.ready e.written_is e.below
           (let made = entered_made (site_at c.args.cpu c.args.key.inst c.args.dir) e.step in omega (arith, made, e.counted))
-          (range.0, range.1, took.within) (omega (arith, room, left, less)) (omega (arith, total, c.requires.ready.few_keys));
+          (range.0, range.1, took.within) (omega (arith, room)) (omega (arith, room, left, less)) (omega (arith, total, c.requires.ready.few_keys));
       tied =
           crossed _ _ _ _ _ _ c.args.cpu c.args.to c.args.walk _ c.args.key c.args.dir c.args.place c.requires.asked.0 e.step tied
           c.requires.asked.1 e.there e.by e.step_is e.below e.written_is took;

@@ -21,14 +21,15 @@ returns-clause-turns g c =
       ready =
           rw (c.push.ensures)
           (ready_more journal c.args.self.now.settled.items _ c.args.self.now.table _ _ _ c.requires.ready (length-set _ _ _) tt
+          (omega (arith, room))
           (omega (arith, room)));
       tied =
-          rw (c.push.ensures, seat, c.stands_after.ensures, c.state.ensures)
+          rw (c.push.ensures, seat, c.leaves_at.ensures, c.state.ensures)
           (walk_ends _ _ _ _ c.args.cpu c.args.to c.args.walk c.args.answer tied c.requires.asked range.0 there range.1);
       keeps = rw (c.push.ensures) (refl, length-set _ _ _, one_taken journal _ (omega (arith, room)));
       goes =
           plays_one _ _ _ _ _ _ c.args.op false (WalkEnd journal.head.possible c.args.cpu c.args.answer) tied
-          (walked_stands _ _ _ _ c.args.cpu c.args.to c.args.walk c.args.answer tied c.requires.asked) (inr (refl, c.requires.op)) refl
+          (walked_stands _ _ _ _ c.args.cpu c.args.to c.args.walk c.args.answer tied c.requires.asked, refl) (inr (refl, c.requires.op)) refl
           (ap (λ j. j.events) c.push.ensures
           ∙ ap (λ (k : ℕ). journal.events ++ WalkEnd k c.args.cpu c.args.answer ∷ []) seat);
       of = c.requires.op;

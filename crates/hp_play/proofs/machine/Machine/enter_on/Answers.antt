@@ -1,11 +1,12 @@
 -- The entry of the registration stands, and leaves the machine tied to its journal.
 use Rattle.std.proofs.Common.{◌≡◌, ◌≤◌, length, IsSome, refl, sym, subst, ◌∙◌, arith}
 use Rattle.hp_table.specs.Step.{step_at}
+use Rattle.hp_table.specs.Totals.{key_total}
 use Rattle.hp_states.specs.Rules.{site_at}
 use Rattle.hp_states.specs.Sections.{can_fail}
 use Rattle.hp_states.specs.declared.limits.TheConstants.{ONLINE}
 use Rattle.hp_reg.proofs.Callers.{concerned_rise}
-use Rattle.hp_play.specs.Machine.{how_by, key_total}
+use Rattle.hp_play.specs.Machine.{how_by}
 use Rattle.hp_play.proofs.EntryHow.{fits_by}
 use Rattle.hp_play.proofs.EnteredPlace.{total_entered}
 use Rattle.hp_play.proofs.RegistrationEntries.{entered_at_key, call_stands, asked_is, key_stays, cpus_stay}
@@ -52,7 +53,7 @@ returns-clause-enters g c =
           ready_set _ _ _ _ _ _ c.args.key.state _ _ c.requires.ready e.written_is e.below
           (let made = entered_made site e.step in omega (arith, made, e.counted))
           (range.0, subst (λ s. IsSome (step_at c.call-how.new.self.table s)) here (some_set _ _ c.args.key.state _ e.written_is e.below), took.op ∙ range.2, took.state ∙ range.3)
-          (rw (key, cpus) (omega (arith, room, less))) (omega (arith, total, c.requires.ready.few_keys));
+          (omega (arith, room)) (rw (key, cpus) (omega (arith, room, less))) (omega (arith, total, c.requires.ready.few_keys));
       tied =
           entered_at_key _ _ _ _ _ c.args.op c.args.state c.args.reg _ _ c.args.cpu c.args.key c.args.dir c.args.place e.step tied here
           e.step_is e.below e.written_is stood (took.op, took.state) after;

@@ -1,7 +1,7 @@
 -- An entry without a callback changes nothing, and one with a callback is its hook's call.
 use Rattle.std.proofs.Common.{sym}
 use Rattle.hp_play.proofs.EnteredPlace.{untouched}
-use Rattle.hp_play.proofs.Placed.{taken_at}
+use Rattle.hp_table.proofs.Placed.{taken_at}
 use Rattle.hp_play.proofs.machine.Machine.how.Goals as goal
 
 pub returns-then-not-has_callback-clause-entered : goal.returns-then-not-has_callback-clause-entered

@@ -2,8 +2,8 @@
 use Rattle.std.proofs.Common.{rules, ◌≡◌, ℕ, None, arith}
 use Rattle.std.proofs.lemmas.Grind.{common_steps}
 use Rattle.hp_table.specs.Step.{step_at}
-use Rattle.hp_play.proofs.HookCount.{vacant_of, states_of, no_hooks_of}
-use Rattle.hp_play.proofs.KeyTotals.{no_keys}
+use Rattle.hp_table.proofs.HookCount.{vacant_of, states_of, no_hooks_of}
+use Rattle.hp_table.proofs.KeyTotals.{no_keys}
 use Rattle.hp_play.proofs.machine.Machine.new.Goals as goal
 
 pub returns-clause-ready : goal.returns-clause-ready
@@ -15,6 +15,7 @@ returns-clause-ready g c =
       states = states_of _ 201 c.in_ok-new.ensures;
       in_range = tt;
       room = grind (arith, common_steps);
+      fits = grind (arith, common_steps);
       few_keys = let none = no_keys _ vacant in omega (arith, none);
       counted = λ s. rw (vacant s) tt;
     }

@@ -1,6 +1,6 @@
 -- A round more of the operation.
 use Rattle.std.proofs.Common.{◌∙◌, arith}
-use Rattle.hp_play.proofs.Placed.{flies}
+use Rattle.hp_play.proofs.Turning.{flies}
 use Rattle.hp_play.proofs.PlaysLaws.{plays_more}
 use Rattle.hp_play.proofs.machine.Machine.operate.Goals as goal
 

@@ -1,9 +1,10 @@
 use Rattle.std.proofs.Common.{◌≡◌, ◌+◌, ◌*◌, ◌≤◌, length, None, true, false, not, if◌then◌else◌}
 use Rattle.hp_play.specs.declared.limits.TheConstants.{MAX_PLAYED}
-use Rattle.hp_play.specs.Machine.{is_of, is_in_flight, key_total}
+use Rattle.hp_play.specs.Machine.{is_of, is_in_flight}
 use Rattle.hp_play.specs.Parts.{Ready, Tied, GoesOn, KeepsHooks, work_of}
 use Rattle.hp_play.specs.declared.due.Due.TheVariants.{Operation}
 use Rattle.hp_play.proofs.machine.Machine.operate.Given as goal
+use Rattle.hp_table.specs.Totals.{key_total}
 
 abbrev pub invariant-loop-answered : goal.invariant-loop-answered
 invariant-loop-answered g l =

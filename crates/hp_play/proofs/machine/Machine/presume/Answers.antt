@@ -31,7 +31,7 @@ returns-clause-enters g c =
     (record {
       ready =
           ready_more journal c.args.self.now.settled.items c.args.self.now.settled.items c.args.self.now.table _ _ _ c.requires.ready refl
-          (range.0, range.1, took.op ∙ range.2, took.state ∙ range.3) (rw (key, cpus) (omega (arith, room, less)));
+          (range.0, range.1, took.op ∙ range.2, took.state ∙ range.3) (omega (arith, room)) (rw (key, cpus) (omega (arith, room, less)));
       tied =
           presumed_at_key _ _ _ _ c.args.op c.args.state c.args.reg _ _ c.args.cpu c.args.key c.args.dir tied here stood
           (took.op, took.state) after;

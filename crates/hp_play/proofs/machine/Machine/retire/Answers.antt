@@ -1,8 +1,9 @@
 -- One state more is out of the table, and its hook in the rack.
 use Rattle.std.proofs.Common.{◌≡◌, ◌≤◌, ◌<◌, ◌≢◌, refl, ap, ◌∙◌, length, arith}
 use Rattle.std.proofs.Math.Seq.{take-length}
-use Rattle.hp_play.specs.Racked.{made_at}
-use Rattle.hp_play.proofs.RackLaws.{made_next, rack_next}
+use Rattle.hp_table.specs.Totals.{made_at}
+use Rattle.hp_table.proofs.HookCount.{made_next}
+use Rattle.hp_play.proofs.RackLaws.{rack_next}
 use Rattle.hp_play.proofs.machine.Machine.retire.Goals as goal
 
 pub loop-state-preserved : goal.loop-state-preserved

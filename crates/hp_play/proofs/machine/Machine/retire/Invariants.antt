@@ -1,6 +1,6 @@
 use Rattle.std.proofs.Common.{◌≡◌, ℕ, ◌≤◌, ◌++◌, map, take}
 use Rattle.hp_table.specs.Step.{step_at}
-use Rattle.hp_play.specs.Racked.{made_of}
+use Rattle.hp_table.specs.Totals.{made_of}
 use Rattle.hp_play.proofs.machine.Machine.retire.Given as goal
 
 abbrev pub invariant-loop-state : goal.invariant-loop-state

@@ -3,10 +3,10 @@ use Rattle.std.proofs.Common.{◌<◌, length, Some, ◌∙◌, ap, arith}
 use Rattle.std.proofs.lemmas.List.{length-set}
 use Rattle.hp_table.specs.Step.{bare}
 use Rattle.hp_play.specs.Machine.{fresh}
-use Rattle.hp_play.proofs.HookCount.{hooks_more}
-use Rattle.hp_play.proofs.KeyTotals.{total_set, fresh_keys}
-use Rattle.hp_play.proofs.Placed.{vacant_at}
-use Rattle.hp_play.proofs.RegistrationAsks.{setup_asked}
+use Rattle.hp_table.proofs.HookCount.{hooks_more}
+use Rattle.hp_table.proofs.KeyTotals.{total_set}
+use Rattle.hp_table.proofs.Placed.{vacant_at}
+use Rattle.hp_play.proofs.RegistrationAsks.{setup_asked, fresh_keys}
 use Rattle.hp_play.proofs.Starting.{start_advances}
 use Rattle.hp_play.proofs.TieParts.{sub_found}
 use Rattle.hp_play.proofs.machine.Machine.set_up.Goals as goal

@@ -1,8 +1,8 @@
 -- The hook of the state is handed out, or the instance is taken out; no hook is lost.
 use Rattle.std.proofs.Common.{arith}
 use Rattle.hp_table.specs.Instances.{without_instance}
-use Rattle.hp_play.proofs.HookCount.{hooks_less, hooks_called}
-use Rattle.hp_play.proofs.Placed.{taken_at}
+use Rattle.hp_table.proofs.HookCount.{hooks_less, hooks_called}
+use Rattle.hp_table.proofs.Placed.{taken_at}
 use Rattle.hp_play.proofs.RegistrationEnds.{handed, has_out, out_is}
 use Rattle.hp_play.proofs.machine.Machine.take_out.Goals as goal
 

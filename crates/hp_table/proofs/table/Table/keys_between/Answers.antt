@@ -19,7 +19,7 @@ overflow_add-keys g c =
     let inside : c.loop-state.state < length places = omega arith in
     let within : c.loop-state.keys + keys_of (step_at places c.loop-state.state) ≤ instance_count places + length places =
     keys_within places c.loop-state.state c.loop-state.keys _ inside c.loop-state.invariant in
-    omega (arith, c.keys_at-keys.ensures.keys)
+    omega (arith, c.key_count-keys.ensures.keys)
 
 pub loop-state-preserved : goal.loop-state-preserved
 loop-state-preserved g c =
@@ -30,7 +30,7 @@ loop-state-preserved g c =
     let inside : c.loop-state.state < length places = omega arith in
     let more : sum_by keys_of (take (c.loop-state.state + 1) places) ≡ sum_by keys_of (take c.loop-state.state places) + keys_of (step_at places c.loop-state.state) =
     keys_more places c.loop-state.state inside in
-    omega (arith, c.keys_at-keys.ensures.keys, c.loop-state.invariant)
+    omega (arith, c.key_count-keys.ensures.keys, c.loop-state.invariant)
 
 pub returns-clause-keys : goal.returns-clause-keys
 returns-clause-keys g c =

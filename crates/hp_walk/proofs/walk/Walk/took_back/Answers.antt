@@ -1,4 +1,4 @@
--- Past an entry on the way back: the next key, the state behind it, or stuck at a fault.
+-- Past an entry of the rollback: the next key, the state behind it, or stuck at a fault.
 use Rattle.std.proofs.Common.{◌≡◌, ◌+◌, length, sym, arith}
 use Rattle.hp_walk.specs.Keys.{keys_by}
 use Rattle.hp_walk.proofs.Seen.{none_done}
@@ -14,14 +14,14 @@ returns-in-None g c =
 pub returns-in-None-2 : goal.returns-in-None-2
 returns-in-None-2 g c =
     let at = rw c.requires.position at c.requires.within.at in
-    let reached = rw c.direction-dir.ensures at c.near-self.ensures in
-    let back = rw c.direction-dir.ensures at c.opposite.ensures in
-    let behind = rw (back, reached) at c.behind-self.ensures in
+    let reached = rw c.between-dir.ensures at c.state_before-self.ensures in
+    let back = rw c.between-dir.ensures at c.opposite.ensures in
+    let behind = rw (back, reached) at c.next_in_rollback-self.ensures in
     let last : c.args.key + 1 ≡ length (keys_by c.args.table.now c.args.state) =
     omega (arith, c.key_count.ensures.count, c.if-key_count-key.false, at.1)
     in
     rw reached
-    (back_last (keys_by c.args.table.now) c.args.how c.args.self.now c.args.state c.args.key c.args.code c.behind-self.result
+    (back_last (keys_by c.args.table.now) c.args.how c.args.self.now c.args.state c.args.key c.args.code c.next_in_rollback-self.result
     c.requires.position c.requires.within (none_done c.args.how (sym c.in-None-2.ensures)) last behind)
 
 pub returns-in-Some : goal.returns-in-Some
@@ -31,7 +31,7 @@ returns-in-Some g c =
 
 pub returns-in-Some-2 : goal.returns-in-Some-2
 returns-in-Some-2 g c =
-    let ends = rw c.direction-dir.ensures at c.stuck-self.ensures in
+    let ends = rw c.between-dir.ensures at c.stuck-self.ensures in
     let first : c.args.key ≡ 0 = omega (arith, c.if-key-gt0.false) in
     rw ends
     (back_fault_first (keys_by c.args.table.now) c.args.how c.args.self.now c.args.state c.args.key c.args.code

@@ -1,0 +1,23 @@
+-- Where a client's operation waits for the thread of a processor: the entry that comes next in its walk or registration
+-- is that thread's to make, whether it is in or not. After `cpuhp_kick_ap` of `kernel/cpu.c`.
+use Rattle.std.specs.Prelude.{◌≡◌, ℕ, true, List, ◌⊎◌}
+use Rattle.hp_states.specs.declared.dir.Dir.{Dir}
+use Rattle.hp_event.specs.declared.how.How.{How}
+use Rattle.hp_event.specs.declared.head.Head.{Head}
+use Rattle.hp_event.specs.declared.event.Event.{Event}
+use Rattle.hp_model.specs.Caller.{is_made_by_ap}
+use Rattle.hp_model.specs.StandsCalls.{WalkEntry, RegistrationEntry}
+
+-- the entry that comes next in a walk or a registration of a seat
+abbrev pub IsEntryOf : Head → List Event → (seat cpu state inst : ℕ) → Dir → How → Type 0
+IsEntryOf head events k cpu state inst dir how =
+    ((e : WalkEntry head events cpu state inst dir how) × (e.of.seat ≡ k))
+    ⊎ ((e : RegistrationEntry head events cpu state inst dir how) × (e.of.seat ≡ k))
+
+pub record IsApTurn (head : Head) (events : List Event) (seat cpu : ℕ) : Type 0 where
+  pub state : ℕ
+  pub inst : ℕ
+  pub dir : Dir
+  pub how : How
+  pub entry : IsEntryOf head events seat cpu state inst dir how
+  pub by_thread : is_made_by_ap state how ≡ true

@@ -1,0 +1,38 @@
+-- What a turn of a client's seat finds for its operation: an event of it that stands, no room for its first event,
+-- something that it waits for, or a thread that has to make the next entry. This project's own.
+use Rattle.std.specs.Prelude.{◌≡◌, ℕ, Some, None, List, ◌⊎◌}
+use Rattle.hp_event.specs.declared.head.Head.{Head}
+use Rattle.hp_event.specs.declared.event.Event.{Event}
+use Rattle.hp_model.specs.Events.{seat_of, BelongsTo}
+use Rattle.hp_model.specs.Waits.{Wait}
+use Rattle.hp_model.specs.SeatWaits.{wait}
+use Rattle.hp_model.specs.Refusals.{refusal}
+use Rattle.hp_model.specs.Lawful.{Stands}
+use Rattle.hp_model.specs.Full.{IsFull}
+use Rattle.hp_model.specs.Pending.{Pending}
+use Rattle.hp_model.specs.ApTurn.{IsApTurn}
+
+abbrev pub HasEvent : Head → List Event → Pending → Type 0
+HasEvent head events p = (e : Event) × Stands head events e × (seat_of e ≡ p.seat) × BelongsTo p.op e
+
+-- where an operation is refused at once, it isn't asked what it waits for
+abbrev pub IsKeptWaiting : Head → List Event → Pending → Type 0
+IsKeptWaiting head events p =
+    (why : Wait) × (refusal head events p.seat p.op ≡ None) × (wait head events p.seat p.op ≡ Some why)
+
+abbrev pub NeedsThread : Head → List Event → Pending → Type 0
+NeedsThread head events p = (cpu : ℕ) × IsApTurn head events p.seat cpu
+
+abbrev pub TurnFinds : Head → List Event → Pending → Type 0
+TurnFinds head events p =
+    HasEvent head events p
+    ⊎ (IsFull head events p.seat p.op ⊎ (IsKeptWaiting head events p ⊎ NeedsThread head events p))
+
+-- at most one of the four
+pub record FindsOne (head : Head) (events : List Event) (p : Pending) : Type 0 where
+  pub event_full : HasEvent head events p → IsFull head events p.seat p.op → ⊥
+  pub event_waits : HasEvent head events p → IsKeptWaiting head events p → ⊥
+  pub event_thread : HasEvent head events p → NeedsThread head events p → ⊥
+  pub full_waits : IsFull head events p.seat p.op → IsKeptWaiting head events p → ⊥
+  pub full_thread : IsFull head events p.seat p.op → NeedsThread head events p → ⊥
+  pub waits_thread : IsKeptWaiting head events p → NeedsThread head events p → ⊥

@@ -1,0 +1,73 @@
+-- What comes next in what is under way, whoever makes it: in each walk and in the registration in flight the next entry, or
+-- the end. This project's own.
+use Rattle.std.specs.Prelude.{ℕ, Option, Some, None, option_map, option_to_list, List, [], ◌++◌, filter_map}
+use Rattle.hp_event.specs.declared.answer.Answer.{Answer}
+use Rattle.hp_event.specs.declared.how.How.{How}
+use Rattle.hp_event.specs.declared.head.Head.{Head}
+use Rattle.hp_event.specs.declared.event.Event.{Event}
+use Rattle.hp_event.specs.declared.event.Event.TheVariants.{Call, WalkEnd, RegEnd}
+use Rattle.hp_model.specs.Crossing.{Slot}
+use Rattle.hp_model.specs.Walks.{Walk, walk, walk_entries, walking}
+use Rattle.hp_model.specs.Registrations.{Registration, registration, registration_entries}
+use Rattle.hp_model.specs.Registered.{keys}
+use Rattle.hp_model.specs.Processors.{processors}
+use Rattle.hp_model.specs.Plan.{direction, plan}
+use Rattle.hp_model.specs.RegistrationShape.{key_of, is_adding, ok_value}
+use Rattle.hp_model.specs.How.{how_in_walk, how_in_registration}
+use Rattle.hp_model.specs.Caller.{caller}
+use Rattle.hp_model.specs.Faults.{faults, walk_answer, registration_answer}
+use Rattle.hp_model.specs.Trees.{Tree, stop, dead, step, walk_tree, registration_tree}
+use Rattle.hp_model.specs.Remaining.{remaining}
+
+abbrev pub made_by : Slot → How → Option ℕ → Option Event
+made_by x how by = option_map (λ k. Call k x.cpu x.state x.inst x.dir how) by
+
+-- the entry of a slot, by who makes it; none where that is a processor's thread which isn't in
+abbrev pub entry : List Event → (client : ℕ) → Slot → How → Option Event
+entry events client x how = made_by x how (caller events x.cpu x.state how client)
+
+-- what is left of a walk
+abbrev pub walk_left : Head → List Event → (cpu : ℕ) → Walk → Tree
+walk_left head events c w =
+    remaining (walk_tree c (keys head w.before) (direction w.from w.to) [] (plan (keys head w.before) w.from w.to))
+    (walk_entries c events)
+
+abbrev pub walk_end : (seat cpu : ℕ) → Option Answer → Option Event
+walk_end k c given = option_map (λ answer. WalkEnd k c answer) given
+
+abbrev pub event_of_walk : Head → List Event → (cpu : ℕ) → Walk → (left : Tree) → Option Event
+event_of_walk head events c w stop =
+    walk_end w.seat c (walk_answer (direction w.from w.to) (faults (walk_entries c events)))
+event_of_walk head events c w dead = None
+event_of_walk head events c w (step x a b) =
+    entry events w.seat x (how_in_walk head events x.cpu x.state x.inst x.dir x.place x.first)
+
+abbrev pub next_of_walk : Head → List Event → (cpu : ℕ) → Option Walk → Option Event
+next_of_walk head events c None = None
+next_of_walk head events c (Some w) = event_of_walk head events c w (walk_left head events c w)
+
+-- what is left of a registration
+abbrev pub registration_left : Head → List Event → Registration → Tree
+registration_left head events r =
+    remaining (registration_tree (is_adding r.op) r.state (key_of head r) (processors head r.state r.before))
+    (registration_entries events)
+
+abbrev pub registration_end : (seat : ℕ) → Option Answer → Option Event
+registration_end k given = option_map (λ answer. RegEnd k answer) given
+
+abbrev pub event_of_registration : Head → List Event → Registration → (left : Tree) → Option Event
+event_of_registration head events r stop =
+    registration_end r.seat (registration_answer (ok_value r.op r.state) (faults (registration_entries events)))
+event_of_registration head events r dead = None
+event_of_registration head events r (step x a b) =
+    entry events r.seat x (how_in_registration head events r.op x.cpu x.state x.inst x.dir x.place)
+
+abbrev pub next_of_registration : Head → List Event → Option Registration → Option Event
+next_of_registration head events None = None
+next_of_registration head events (Some r) = event_of_registration head events r (registration_left head events r)
+
+-- an event of each walk, and one of the registration
+unfoldable pub under_way : Head → List Event → List Event
+under_way head events =
+    filter_map (λ c. next_of_walk head events c (walk c events)) (walking events)
+    ++ option_to_list (next_of_registration head events (registration events))

@@ -1,8 +1,0 @@
--- The table says who is registered as the events do.
-use Rattle.hp_files.proofs.Names.{states_of_table}
-use Rattle.hp_play.proofs.TieParts.{same_subs}
-use Rattle.hp_play.proofs.machine.Machine.states_file.Goals as goal
-
-pub returns : goal.returns
-returns g c =
-    rw (states_of_table _ _ _ (same_subs _ _ _ _ (rw c.requires.free at c.requires.tied))) (rw c.head.ensures at c.show_states.ensures)

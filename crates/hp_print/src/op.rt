@@ -1,0 +1,82 @@
+//! The words of an operation.
+
+ghost use Rattle.std.specs.Prelude.{◌≡◌, ◌++◌, ◌∷◌, OnOk, decimal};
+ghost use Rattle.hp_model.specs.Words.{spaced};
+ghost use Rattle.hp_model.specs.EventLine.{op_words, form_words};
+
+use crate::words::{append, append_number, append_of, append_signed};
+use hp_event::{Form, Op};
+use std::alloc::AllocError;
+
+/// Appends the flags of a form.
+fn append_form(out: &mut Vec<u8>, form: Form) -> Result<(), AllocError>
+    ensures { OnOk result (out.new.items ≡ out.old.items ++ spaced (form_words form)) }
+{
+    if form.nocalls {
+        append(out, b" nocalls")?;
+    }
+    if form.locked {
+        append(out, b" locked")?;
+    }
+    Ok(())
+}
+
+/// Appends an operation, as a script has it.
+pub fn append_op(out: &mut Vec<u8>, op: Op) -> Result<(), AllocError>
+    ensures { OnOk result (out.new.items ≡ out.old.items ++ spaced (op_words op)) }
+{
+    match op {
+        Op::Up(cpu) => append_of(out, b" up", cpu),
+        Op::Down(cpu) => append_of(out, b" down", cpu),
+        Op::Target(cpu, value) => {
+            append_of(out, b" target", cpu)?;
+            append_signed(out, value)
+        }
+        Op::Arm(cpu, value) => {
+            append_of(out, b" fail", cpu)?;
+            append_signed(out, value)
+        }
+        Op::ShowState(cpu) => append_of(out, b" show state", cpu),
+        Op::ShowTarget(cpu) => append_of(out, b" show target", cpu),
+        Op::ShowFail(cpu) => append_of(out, b" show fail", cpu),
+        Op::ShowStates => append(out, b" show states"),
+        Op::Setup { state, sub, form } => append_registering(out, b" setup", state, sub, form),
+        Op::Remove { state, form } => {
+            append(out, b" remove")?;
+            append_number(out, state)?;
+            append_form(out, form)
+        }
+        Op::Add { state, inst, form } => append_registering(out, b" add", state, inst, form),
+        Op::Del { state, inst, form } => append_registering(out, b" del", state, inst, form),
+        Op::Lock => append(out, b" lock"),
+        Op::Unlock => append(out, b" unlock"),
+        Op::Boot(most) => {
+            append(out, b" boot")?;
+            append_number(out, most)
+        }
+        Op::Disable => append(out, b" disable"),
+        Op::Enable => append(out, b" enable"),
+        Op::Freeze(primary) => {
+            append(out, b" freeze")?;
+            append_signed(out, primary)
+        }
+        Op::Thaw => append(out, b" thaw"),
+        Op::Wakeup => append(out, b" wakeup"),
+    }
+}
+
+/// Appends a word, two numbers and the flags of a form.
+fn append_registering(
+    out: &mut Vec<u8>,
+    word: &[u8],
+    state: u32,
+    which: u32,
+    form: Form,
+) -> Result<(), AllocError>
+    ensures { OnOk result (out.new.items ≡ out.old.items ++ (word.now ++ spaced (decimal state ∷ decimal which ∷ form_words form))) }
+{
+    append(out, word)?;
+    append_number(out, state)?;
+    append_number(out, which)?;
+    append_form(out, form)
+}
