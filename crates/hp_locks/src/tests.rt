@@ -1,0 +1,101 @@
+//! What no clause says: that memory suffices where it is ample, and who waits for whom where several
+//! seats come together, as worked out by hand from the table of waits.
+
+use crate::{Locks, Why};
+use std::process::Abort;
+use std::test::Fail;
+
+#[test]
+fn seats_are_numbered_in_turn(rt: HostRuntime) -> Result<(), Fail> {
+    let mut locks = Locks::new(rt.alloc());
+    let first = locks.admit()?;
+    let second = locks.admit()?;
+    assert_eq!(&rt; (first, second, locks.admitted()), (0, 1, 2));
+    assert!(&rt; !locks.reading(1) && !locks.reading(2));
+    assert_eq!(&rt; locks.readers(), 0);
+    Ok(())
+}
+
+/// The calls of one seat, each under its condition.
+#[derive(Clone, Copy)]
+struct By {
+    seat: u32,
+}
+
+impl By {
+    fn enter(&self, rt: &impl Abort, locks: &mut Locks) -> Result<(), Why> {
+        assert!(rt; self.seat < locks.admitted());
+        locks.enter_maps(self.seat)
+    }
+
+    fn write(&self, rt: &impl Abort, locks: &mut Locks) -> Result<(), Why> {
+        let may = locks.map_holder() == Some(self.seat) && locks.writer().is_none();
+        assert!(rt; may);
+        locks.begin_write(self.seat)
+    }
+
+    fn register(&self, rt: &impl Abort, locks: &mut Locks) -> Result<(), Why> {
+        assert!(rt; self.seat < locks.admitted());
+        locks.begin_reg(self.seat)
+    }
+
+    fn read(&self, rt: &impl Abort, locks: &mut Locks) -> Result<(), Why> {
+        assert!(rt; self.seat < locks.admitted());
+        assert!(rt; !locks.reading(self.seat));
+        locks.read_lock(self.seat)
+    }
+
+    fn unlock(&self, rt: &impl Abort, locks: &mut Locks) {
+        assert!(rt; self.seat < locks.admitted());
+        assert!(rt; locks.reading(self.seat));
+        locks.read_unlock(self.seat)
+    }
+}
+
+#[test]
+fn a_walk_waits_for_readers_and_then_for_a_registration(rt: HostRuntime) -> Result<(), Fail> {
+    let mut locks = Locks::new(rt.alloc());
+    let reader = By {
+        seat: locks.admit()?,
+    };
+    let walker = By {
+        seat: locks.admit()?,
+    };
+    assert_eq!(&rt; reader.read(&rt, &mut locks), Ok(()));
+    assert_eq!(&rt; walker.enter(&rt, &mut locks), Ok(()));
+    assert_eq!(&rt; reader.enter(&rt, &mut locks), Err(Why::MapsHeld(1)));
+    assert_eq!(&rt; walker.write(&rt, &mut locks), Err(Why::ReadersIn(1)));
+    assert_eq!(&rt; reader.register(&rt, &mut locks), Ok(()));
+    assert_eq!(&rt; walker.register(&rt, &mut locks), Err(Why::RegIn(0)));
+    assert_eq!(&rt; walker.write(&rt, &mut locks), Err(Why::ReadersIn(1)));
+    reader.unlock(&rt, &mut locks);
+    assert_eq!(&rt; walker.write(&rt, &mut locks), Err(Why::RegIn(0)));
+    assert_eq!(&rt; locks.readers(), 0);
+    Ok(())
+}
+
+#[test]
+fn a_walk_keeps_out_readers_and_registrations(rt: HostRuntime) -> Result<(), Fail> {
+    let mut locks = Locks::new(rt.alloc());
+    let other = By {
+        seat: locks.admit()?,
+    };
+    let walker = By {
+        seat: locks.admit()?,
+    };
+    assert_eq!(&rt; walker.enter(&rt, &mut locks), Ok(()));
+    assert_eq!(&rt; walker.write(&rt, &mut locks), Ok(()));
+    assert_eq!(&rt; other.read(&rt, &mut locks), Err(Why::WriterIn(1)));
+    assert_eq!(&rt; other.register(&rt, &mut locks), Err(Why::WriterIn(1)));
+    assert!(&rt; locks.writer() == Some(walker.seat));
+    locks.end_write(walker.seat);
+    assert_eq!(&rt; other.read(&rt, &mut locks), Ok(()));
+    assert_eq!(&rt; other.register(&rt, &mut locks), Ok(()));
+    assert!(&rt; locks.registrar() == Some(other.seat));
+    locks.end_reg(other.seat);
+    assert!(&rt; locks.map_holder() == Some(walker.seat));
+    locks.leave_maps(walker.seat);
+    assert_eq!(&rt; other.enter(&rt, &mut locks), Ok(()));
+    assert_eq!(&rt; locks.readers(), 1);
+    Ok(())
+}
