@@ -1,0 +1,5 @@
+pub mod Story
+pub mod Pass
+pub mod Views
+pub mod Turn
+pub mod Passes
