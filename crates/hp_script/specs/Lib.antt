@@ -1,0 +1,15 @@
+pub mod Pieces
+pub mod Words
+pub mod Numbers
+pub mod Verbs
+pub mod Statements
+pub mod Ranges
+pub mod Before
+pub mod Refusals
+pub mod Script
+pub mod Schedules
+pub mod Playable
+pub mod Drafts
+pub mod LineAnswers
+pub mod Judged
+pub mod Texts

@@ -1,0 +1,52 @@
+//! Scripts: their lines, what each says, and the first that is refused.
+//!
+//! [`parse`] reads a script whole, or says which line is refused first, and why. What that means is
+//! in `specs/`, to be read in this order: `Pieces` (lines), `Words`, `Numbers`, `Verbs` (first
+//! words), `Statements` (what a line says, by its form), `Ranges`, `Before` (what stood before a
+//! line), `Refusals` (the conditions of a line in their order, and those at the end), `Script` (the
+//! script that lines say), `Judged` (what `parse` answers), `Playable` (what holds of each script
+//! that is read) and `Schedules` (a schedule as the run of a script takes it). [`one_refusal`] is the
+//! law that at most one line and one kind are refused, [`read_scripts_play`] that each script that is
+//! read can be played. Operations that the machine hasn't yet have their lines here already: one
+//! condition of `Refusals` refuses them, and goes with them.
+//!
+//! The code goes the same way: `words` and `numbers`, `fields`, the lines of each kind in `heading`
+//! and `operation`, `statement` for any line, `before` for what may stand, `line` for one line,
+//! `draft` for the script that grows, `reader` for all lines. `proofs/Cases.antt` has small scripts
+//! that are judged by computing the definitions alone.
+//!
+//! ```text
+//! cpus 2
+//! sub net:a both single
+//! actor a
+//! setup 120 1
+//! up 1
+//! ```
+#![tactic(auto)]
+
+mod before;
+mod draft;
+mod error;
+mod fields;
+mod heading;
+mod limits;
+mod line;
+mod lists;
+mod numbers;
+mod operation;
+mod reader;
+mod schedule;
+mod script;
+mod statement;
+mod stop;
+#[cfg(test)]
+mod tests;
+#[cfg(test)]
+mod tests_refusals;
+mod verb;
+mod words;
+
+pub use error::{ParseError, ScriptKind};
+pub use reader::{one_refusal, parse, read_scripts_play};
+pub use schedule::Schedule;
+pub use script::Script;

@@ -1,0 +1,49 @@
+//! Why the reading of a line stops.
+
+ghost use Rattle.std.specs.Prelude.{◌≡◌};
+ghost use Rattle.hp_script.specs.declared.stop.Stop.TheVariants.{Bad, NoMemory};
+
+use crate::error::ScriptKind;
+use hp_states::NoMemory;
+use std::alloc::{AllocError, AllocFailed};
+
+/// Why a line gives nothing.
+#[derive(Clone, Copy, Debug)]
+pub enum Stop {
+    /// It is refused.
+    Bad(ScriptKind),
+    /// Memory was wanting.
+    NoMemory,
+}
+
+impl From<ScriptKind> for Stop {
+    ghost from_gives = { λ kind stop. stop ≡ Bad kind };
+
+    fn from(kind: ScriptKind) -> Stop {
+        Stop::Bad(kind)
+    }
+}
+
+impl From<AllocError> for Stop {
+    ghost from_gives = { λ _ stop. stop ≡ NoMemory };
+
+    fn from(_: AllocError) -> Stop {
+        Stop::NoMemory
+    }
+}
+
+impl<T: Drop> From<AllocFailed<T>> for Stop {
+    ghost from_gives = { λ _ stop. stop ≡ NoMemory };
+
+    fn from(_: AllocFailed<T>) -> Stop {
+        Stop::NoMemory
+    }
+}
+
+impl From<NoMemory> for Stop {
+    ghost from_gives = { λ _ stop. stop ≡ NoMemory };
+
+    fn from(_: NoMemory) -> Stop {
+        Stop::NoMemory
+    }
+}
