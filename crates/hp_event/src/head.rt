@@ -6,7 +6,7 @@
 ghost use Rattle.std.specs.Prelude.{◌≡◌, ◌++◌, ◌∷◌, [], IfOk, OnOk, OnErr, option_map};
 ghost use Rattle.hp_event.specs.Heads.{is_present as is_present_of, sub_numbered};
 
-use crate::lists::{Name, Numbers};
+use crate::lists::{Name, Numbers, Subs};
 use hp_states::{HookPlan, NoMemory};
 use std::alloc::Global;
 use std::marker::Model;
@@ -39,86 +39,6 @@ impl Sub {
             multi: self.multi,
             plan: self.plan,
         })
-    }
-}
-
-/// A list of subsystems, which are numbered from 1.
-#[derive(Debug, Drop)]
-pub struct Subs {
-    items: Vec<Sub>,
-}
-
-impl Model for Subs {
-    ghost use Rattle.std.specs.Prelude.{List};
-    ghost use Rattle.hp_event.specs.declared.head.Sub.{Sub};
-
-    ghost Value = { List Sub };
-
-    ghost view = { λ s. s.items.items };
-}
-
-impl Subs {
-    /// The empty list. Takes no memory.
-    pub fn new(alloc: Global) -> Subs
-        ensures { result ≡ [] }
-    {
-        Subs {
-            items: Vec::new(alloc),
-        }
-    }
-
-    /// The subsystems of a `Vec`. Takes no memory: the list keeps the `Vec`.
-    pub fn from_vec(items: Vec<Sub>) -> Subs
-        ensures { result ≡ items.items }
-    {
-        Subs { items }
-    }
-
-    /// The subsystems, as the `Vec` that the list kept. Takes no memory.
-    pub fn into_vec(self) -> Vec<Sub>
-        ensures { result.items ≡ self }
-    {
-        let Subs { items } = self;
-        items
-    }
-
-    /// Appends a subsystem.
-    ///
-    /// Takes memory where the list has no spare place; where there is none: `NoMemory`, the list is
-    /// as before, and the subsystem is dropped.
-    pub fn push(&mut self, item: Sub) -> Result<(), NoMemory>
-        ensures ok { OnOk result (self.new ≡ self.old ++ item ∷ []) }
-        ensures err { OnErr result (self.new ≡ self.old) }
-    {
-        self.items.push(item)?;
-        Ok(())
-    }
-
-    /// The subsystems, in their order: the first is number 1. Takes no memory.
-    pub fn as_slice(&self) -> &[Sub]
-        ensures { result.now ≡ self.now }
-    {
-        self.items.as_slice()
-    }
-
-    /// A list equal to this one. Takes memory for its subsystems and their names; where there is
-    /// none: `NoMemory`.
-    pub fn copy(&self) -> Result<Subs, NoMemory>
-        ensures { IfOk result (λ s. s ≡ self.now) }
-    {
-        let mut items = Vec::with_capacity(*self.items.allocator(), self.items.len())?;
-        for sub in self.items.as_slice() {
-            items.push(sub.copy()?)?;
-        }
-        Ok(Subs { items })
-    }
-}
-
-impl From<Vec<Sub>> for Subs {
-    ghost from_gives = { λ v s. s ≡ v.items };
-
-    fn from(items: Vec<Sub>) -> Subs {
-        Subs::from_vec(items)
     }
 }
 

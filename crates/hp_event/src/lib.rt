@@ -1,8 +1,8 @@
 //! Events, and the journal that they stand in.
 //!
 //! A journal is a head, which says the processors and the subsystems, and a list of events, one for
-//! each atomic step of the machine. This crate has the types of both, small lists that contracts
-//! see as lists, and `Journal`: a list that grows by `push`, with places that were promised, so
+//! each atomic step of the machine. This crate has the types of both, `Items`, a list that contracts
+//! see as a list, and `Journal`: a list that grows by `push`, with places that were promised, so
 //! that a push into a promised place takes no memory.
 #![tactic(auto)]
 
@@ -19,9 +19,9 @@ mod tests;
 
 pub use answer::Answer;
 pub use event::{Event, File, Role};
-pub use head::{Head, Sub, Subs};
+pub use head::{Head, Sub};
 pub use how::How;
 pub use journal::{Journal, JournalError};
 pub use key::Key;
-pub use lists::{Keys, Name, Numbers};
+pub use lists::{Items, Keys, Name, Numbers, Subs};
 pub use op::{Form, Op};

@@ -1,8 +1,9 @@
--- One call more raises no count by more than one; and a plan's counts begin at 0.
-use Rattle.std.proofs.Common.{◌≡◌, ℕ, ◌+◌, ◌≤◌, Bool, true, false, if◌then◌else◌, List, [], ◌∷◌, take, length, refl, ap, subst, sym, ◌∙◌, arith}
+-- One call more raises no count by more than one, and a plan's counts begin at 0.
+use Rattle.std.proofs.Common.{◌≡◌, ℕ, ◌+◌, ◌<◌, ◌≤◌, Bool, true, false, if◌then◌else◌, List, [], ◌∷◌, take, length, get_or, refl, ap, ◌∙◌, arith}
 use Rattle.std.proofs.Math.ListN.{replicate}
 use Rattle.std.proofs.lemmas.List.{take-replicate}
 use Rattle.std.proofs.lemmas.List.Elements.{All-nil, All-cons, All-head, All-tail}
+use Rattle.hp_states.specs.declared.limits.TheConstants.{MAX_EVENTS}
 use Rattle.hp_states.specs.declared.plan.Rule.{Rule}
 use Rattle.hp_states.specs.Rules.{Site, matches, counts_of, raised}
 use Rattle.hp_hook.specs.Counted.{NoneAbove}
@@ -11,7 +12,7 @@ raised_by_one : (holds : Bool) (n made : ℕ) → n ≤ made → (if holds then 
 raised_by_one true n made below = omega arith
 raised_by_one false n made below = omega arith
 
-none_above : (plan : List Rule) (seen : List ℕ) (site : Site) (made : ℕ) → NoneAbove seen made → NoneAbove (raised plan seen site) (made + 1)
+pub none_above : (plan : List Rule) (seen : List ℕ) (site : Site) (made : ℕ) → NoneAbove seen made → NoneAbove (raised plan seen site) (made + 1)
 none_above [] seen site made below = All-nil (λ n. n ≤ made + 1)
 none_above (rule ∷ rules) [] site made below = All-nil (λ n. n ≤ made + 1)
 none_above (rule ∷ rules) (n ∷ ns) site made below =
@@ -19,14 +20,14 @@ none_above (rule ∷ rules) (n ∷ ns) site made below =
     (raised_by_one (matches rule site) n made (All-head (λ n. n ≤ made) n ns below))
     (none_above rules ns site made (All-tail (λ n. n ≤ made) n ns below))
 
--- so the counts of a hook's rules stay within its calls
-pub still_none_above : (plan rules : List Rule) (old new : List ℕ) (site : Site) (made : ℕ)
-    → rules ≡ plan → take (length rules) new ≡ raised rules (take (length rules) old) site
-    → NoneAbove (take (length plan) old) made → NoneAbove (take (length plan) new) (made + 1)
-still_none_above plan rules old new site made same counts below =
-    let at_plan : take (length plan) new ≡ raised plan (take (length plan) old) site =
-    subst (λ (l : List Rule). take (length l) new ≡ raised l (take (length l) old) site) same counts in
-    subst (λ (ns : List ℕ). NoneAbove ns (made + 1)) (sym at_plan) (none_above plan (take (length plan) old) site made below)
+-- and the counts of no sites are none above 0
+pub none_yet : (plan : List Rule) → NoneAbove (counts_of plan []) 0
+none_yet [] = All-nil (λ n. n ≤ 0)
+none_yet (rule ∷ rules) = All-cons (λ n. n ≤ 0) _ _ (omega arith) (none_yet rules)
+
+-- so the first call can be counted
+pub first_room : (plan : List Rule) (k d : ℕ) → k < length (counts_of plan []) → get_or (counts_of plan []) k d < MAX_EVENTS
+first_room plan k d within = omega (arith, none_yet plan k d within)
 
 -- the counts of no sites
 counts_of-nil : (plan : List Rule) → replicate (length plan) 0 ≡ counts_of plan []

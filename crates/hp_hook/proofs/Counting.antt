@@ -13,7 +13,7 @@ pub record HasCounted (rules : List Rule) (old : List ℕ) (site : Site) (i : �
   pub after : drop i seen ≡ raised (drop i rules) (drop i old) site
   pub answers : answer ≡ counted_answer (drop i rules) (drop i seen) site
 
-first_of : {A : Type 0} (xs : List A) (i : ℕ) (d : A) → i < length xs → drop i xs ≡ get_or xs i d ∷ drop (i + 1) xs
+pub first_of : {A : Type 0} (xs : List A) (i : ℕ) (d : A) → i < length xs → drop i xs ≡ get_or xs i d ∷ drop (i + 1) xs
 first_of xs i d within = rw add-one (drop-cons xs i d within)
 
 same_cons : (m n : ℕ) (ms ns : List ℕ) → m ≡ n → ms ≡ ns → m ∷ ms ≡ n ∷ ns

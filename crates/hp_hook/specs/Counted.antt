@@ -1,7 +1,12 @@
--- What a hook keeps: its plan, how often each rule was matched, how often it was called and how often its
--- answer was a fault. This project's own.
+-- What a plan with counts and a hook keep: the rules, how often each rule was matched, and of a hook how often
+-- it was called and how often its answer was a fault. This project's own.
 use Rattle.std.specs.Prelude.{ℕ, ◌+◌, ◌≤◌, ◌==◌, if◌then◌else◌, List, All}
 use Rattle.hp_states.specs.declared.plan.Rule.{Rule}
+
+-- what is seen of a plan with counts
+pub record PlanCounts : Type 0 where
+  pub plan : List Rule
+  pub seen : List ℕ
 
 -- what is seen of a script's hook
 pub record Kept : Type 0 where

@@ -8,17 +8,21 @@
 //! Its contract is that of `Hook::call`, in the words of `specs/Rules.antt` of `hp_states`: the
 //! counts of the rules that match the site are raised, and the answer is that of the raised counts.
 //! `answer_by_counts` of `hp_states` says what that means of all calls since the plan was set.
-//! `specs/Counted.antt` has the count of faults and what is seen of a script's hook.
+//! `CountedPlan` is the plan with its counts as plain data, of which can be asked what would be
+//! answered next. `specs/Counted.antt` has the count of faults, and what is seen of a plan with
+//! counts and of a script's hook.
 //!
 //! No call of a hook takes memory.
 #![tactic(auto)]
 
+mod counted_plan;
 mod hook;
 mod rack;
 mod script_hook;
 #[cfg(test)]
 mod tests;
 
+pub use counted_plan::CountedPlan;
 pub use hook::Hook;
 pub use rack::Rack;
 pub use script_hook::ScriptHook;

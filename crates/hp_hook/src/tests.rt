@@ -1,4 +1,4 @@
-use crate::{Hook, Rack, ScriptHook};
+use crate::{CountedPlan, Hook, Rack, ScriptHook};
 use hp_states::{Dir, HookPlan, MAX_EVENTS, Rule};
 use std::alloc::{AllocError, Global};
 use std::sync::Arc;
@@ -110,6 +110,33 @@ fn hooks_of_three_types_answer(rt: HostRuntime) -> Result<(), AllocError> {
         answers(&rt, &mut hook);
     }
     assert_eq!(rt; calls.load(Ordering::SeqCst), 12);
+    Ok(())
+}
+
+#[test]
+fn what_comes_next_is_answered_without_a_count(rt: HostRuntime) {
+    let mut hook = ScriptHook::new();
+    hook.load(three_rules());
+    assert_eq!(&rt; hook.answer_to(0, 3, Dir::Up), 11);
+    assert_eq!(&rt; hook.call(0, 3, Dir::Up), 11);
+    assert_eq!(&rt; hook.answer_to(0, 3, Dir::Up), 5);
+    assert_eq!(&rt; hook.answer_to(0, 3, Dir::Up), 5);
+    assert_eq!(&rt; hook.made(), 1);
+    assert_eq!(&rt; hook.answer_to(0, 2, Dir::Down), 16);
+    assert_eq!(&rt; hook.answer_to(1, 3, Dir::Up), 0);
+}
+
+#[test]
+#[tactic(auto, using(crate::proofs::Bounds::first_room))]
+fn a_plan_is_counted_as_data(rt: HostRuntime) -> Result<(), AllocError> {
+    let mut counted = CountedPlan::new(three_rules());
+    let mut other = counted.clone()?;
+    counted.count(0, 0, Dir::Up);
+    assert_eq!(&rt; counted.answer_to(0, 1, Dir::Up), 5);
+    assert_eq!(&rt; other.answer_to(0, 1, Dir::Up), 11);
+    assert_eq!(&rt; other.count_and_answer(0, 1, Dir::Up), 11);
+    assert_eq!(&rt; other.answer_to(0, 1, Dir::Up), 5);
+    assert!(&rt; counted.plan() == &three_rules());
     Ok(())
 }
 

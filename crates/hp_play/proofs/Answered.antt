@@ -2,8 +2,8 @@
 use Rattle.std.proofs.Common.{◌≡◌, ℕ, List, Result, Ok, Err, Option, Some, None}
 use Rattle.std.specs.Prelude.{IfOk, IfErr}
 use Rattle.hp_event.specs.declared.op.Op.{Op}
-use Rattle.hp_play.specs.declared.error.ParseError.{ParseError}
-use Rattle.hp_play.specs.declared.error.ParseError.TheVariants.{Bad, NoMemory}
+use Rattle.hp_script.specs.declared.error.ParseError.{ParseError}
+use Rattle.hp_script.specs.declared.error.ParseError.TheVariants.{Bad, NoMemory}
 use Rattle.hp_play.specs.declared.script.Script.{Script}
 use Rattle.hp_play.specs.Form.{Lines}
 use Rattle.hp_play.specs.Parsed.{Reads, RefusesOrWants, GivesOps, Gives}

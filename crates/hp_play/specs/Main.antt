@@ -7,7 +7,7 @@ use Rattle.hp_event.specs.declared.head.Head.{Head}
 use Rattle.hp_event.specs.declared.op.Op.{Op}
 use Rattle.hp_play.specs.declared.command.Command.{Command}
 use Rattle.hp_play.specs.Commands.{IsCommand, output}
-use Rattle.hp_play.specs.declared.error.ScriptKind.TheVariants.{NotBuilt}
+use Rattle.hp_script.specs.declared.error.ScriptKind.TheVariants.{NotBuilt}
 use Rattle.hp_play.specs.Refusals.{refusal_line}
 use Rattle.hp_play.specs.Played.{IsJournalOf}
 use Rattle.hp_play.specs.Racked.{EndsWith, calls_below}

@@ -2,9 +2,9 @@
 use Rattle.std.specs.Prelude.{◌≡◌, ℕ, List, Result, Ok, Err, Option, Some, None}
 use Rattle.std.specs.Global.{Vec}
 use Rattle.hp_event.specs.declared.op.Op.{Op}
-use Rattle.hp_play.specs.declared.error.ScriptKind.TheVariants.{NotBuilt}
-use Rattle.hp_play.specs.declared.error.ParseError.{ParseError}
-use Rattle.hp_play.specs.declared.error.ParseError.TheVariants.{Bad, NoMemory}
+use Rattle.hp_script.specs.declared.error.ScriptKind.TheVariants.{NotBuilt}
+use Rattle.hp_script.specs.declared.error.ParseError.{ParseError}
+use Rattle.hp_script.specs.declared.error.ParseError.TheVariants.{Bad, NoMemory}
 use Rattle.hp_play.specs.declared.script.Script.{Script}
 use Rattle.hp_play.specs.Form.{Lines, IsScript, head_of}
 

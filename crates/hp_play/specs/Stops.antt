@@ -1,6 +1,6 @@
 -- Why no journal is written, and what is so then. This project's own.
 use Rattle.std.specs.Prelude.{◌≡◌, ℕ, ◌+◌, Option, List}
-use Rattle.hp_play.specs.declared.error.ScriptKind.TheVariants.{NotBuilt}
+use Rattle.hp_script.specs.declared.error.ScriptKind.TheVariants.{NotBuilt}
 use Rattle.hp_play.specs.declared.top.Stop.{Stop}
 use Rattle.hp_play.specs.declared.top.Stop.TheVariants.{Refused, ReadFault, NoMemory}
 use Rattle.hp_play.specs.Refusals.{refusal_line}

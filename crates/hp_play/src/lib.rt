@@ -42,7 +42,7 @@ mod tests_walks;
 mod top;
 mod words;
 
-pub use error::{ParseError, ScriptKind, refusal_line};
+pub use error::refusal_line;
 #[cfg(test)]
 use reader::parse;
 #[cfg(test)]

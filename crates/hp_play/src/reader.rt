@@ -11,12 +11,12 @@ ghost use Rattle.std.specs.Option.{option_map};
 ghost use Rattle.hp_play.specs.Reading.{cpus_at, actor_at, script_of};
 ghost use Rattle.hp_play.specs.Parsed.{Reads, RefusesOrWants, Gives};
 
-use crate::error::{ParseError, ScriptKind};
 use crate::reader::ops::ops_of;
 use crate::reader::subs::subs_of;
 use crate::script::Script;
 use crate::words::{behind, name_to, number_to};
 use hp_event::{Head, Numbers};
+use hp_script::{ParseError, ScriptKind};
 use hp_states::{MAX_CPUS, MAX_SCRIPT_BYTES};
 use std::alloc::Global;
 

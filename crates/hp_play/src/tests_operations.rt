@@ -1,8 +1,8 @@
 //! The operations of scripts that are of the form, and operations that are not.
 
-use crate::ParseError;
 use crate::tests_reader::{PLAIN, Said, refuses, repeated, says, setup};
 use hp_event::{Form, Op};
+use hp_script::ParseError;
 use std::alloc::{AllocError, Global};
 use std::test::*;
 

@@ -1,7 +1,8 @@
 //! Scripts that are of the form, with what they say, and scripts that are not, each with the reason.
 
-use crate::{ParseError, Script, ScriptKind, parse};
+use crate::{Script, parse};
 use hp_event::{Form, Op};
+use hp_script::{ParseError, ScriptKind};
 use hp_states::MAX_SCRIPT_BYTES;
 use std::alloc::{AllocError, Global};
 use std::test::*;

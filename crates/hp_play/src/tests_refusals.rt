@@ -1,6 +1,7 @@
 //! The lines that refuse a script.
 
-use crate::{ScriptKind, refusal_line};
+use crate::refusal_line;
+use hp_script::ScriptKind;
 use std::test::*;
 
 #[test]

@@ -1,8 +1,9 @@
 //! Subsystems with their callbacks and rules, as a script says them.
 
+use crate::parse;
 use crate::tests_reader::refuses;
-use crate::{ParseError, parse};
-use hp_states::{Dir, Rule};
+use hp_script::ParseError;
+use hp_states::{Dir, MAX_EVENTS, Rule};
 use std::alloc::{AllocError, Global};
 use std::test::*;
 
@@ -111,12 +112,12 @@ fn ends_of_the_ranges_of_rules(rt: HostRuntime) -> Result<(), Fail> {
         ),
         (
             b"rule down 2 * 1048576 5\n",
-            rule(Dir::Down, 2, None, Some(1_048_576), 5),
+            rule(Dir::Down, 2, None, Some(MAX_EVENTS), 5),
             "the last call",
         ),
         (
             b"rule up 254 65534 1048575 4094\n",
-            rule(Dir::Up, 254, Some(65_534), Some(1_048_575), 4094),
+            rule(Dir::Up, 254, Some(65_534), Some(MAX_EVENTS - 1), 4094),
             "below the highest",
         ),
         (

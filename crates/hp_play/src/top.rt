@@ -7,12 +7,13 @@ ghost use Rattle.hp_play.specs.Main.{IsPlayed, WasRead, Writes, WritesPart, Answ
 ghost use Rattle.hp_play.specs.Stops.{Stops, Refuses};
 
 use crate::command::{Command, command_of};
-use crate::error::{ParseError, refusal_line};
+use crate::error::refusal_line;
 use crate::limits::MAX_PLAYED;
 use crate::reader::parse;
 use crate::run::play;
 use hp_hook::{Hook, Rack};
 use hp_io::{Failed, ReadError, Sink, Source, read_up_to, write_all};
+use hp_script::ParseError;
 use hp_states::{MAX_SCRIPT_BYTES, NoMemory};
 use std::alloc::Global;
 

@@ -10,11 +10,11 @@ use Rattle.hp_model.specs.Registered.{registered}
 use Rattle.hp_model.specs.Calls.{sites}
 use Rattle.hp_model.specs.Net.{entered}
 use Rattle.hp_model.specs.Summary.{hook_faults}
-use Rattle.hp_print.specs.declared.walks.ProcessorTally.{ProcessorTally}
-use Rattle.hp_print.specs.declared.states.StateTally.{StateTally}
+use Rattle.hp_print.specs.declared.processor_tally.ProcessorTally.{ProcessorTally}
+use Rattle.hp_print.specs.declared.state_tally.StateTally.{StateTally}
 use Rattle.hp_print.specs.Counts.{AreInOrder}
-use Rattle.hp_print.specs.Tallies.{counts_of, IsWalks, IsStates}
-use Rattle.hp_print.proofs.WalksStep.{get_or-set}
+use Rattle.hp_print.specs.Tallies.{counts_of, IsProcessorTally, IsStateTally}
+use Rattle.hp_print.proofs.ProcessorTallyStep.{get_or-set}
 
 no_counts : (c : ℕ) → counts_of c [] ≡ []
 unfolding counts_of entered
@@ -33,10 +33,10 @@ in_order_first zero c = tt
 in_order_first (suc n) zero = tt
 in_order_first (suc n) (suc c) = in_order_first n c
 
-pub first_walks : (n : ℕ) (w : ProcessorTally) → w.settled.items ≡ set (replicate n 0) 0 200 →
-    w.targets.items ≡ replicate n None → w.keys.items ≡ replicate n [] → IsWalks n [] w
+pub first_processors : (n : ℕ) (w : ProcessorTally) → w.settled.items ≡ set (replicate n 0) 0 200 →
+    w.targets.items ≡ replicate n None → w.keys.items ≡ replicate n [] → IsProcessorTally n [] w
 unfolding walk
-first_walks n w p q r = record {
+first_processors n w p q r = record {
   as_many_settled = rw p (length-set {A = ℕ} (replicate n 0) 0 200 ∙ length-replicate {A = ℕ} n 0);
   as_many_targets = rw q (length-replicate n None);
   as_many_keys = rw r (length-replicate n []);
@@ -48,7 +48,7 @@ first_walks n w p q r = record {
 
 pub first_states : (head : Head) (n : ℕ) (t : StateTally) → t.asked ≡ None → t.subs.items ≡ replicate n None →
     t.insts.items ≡ replicate n [] → t.made.items ≡ replicate n 0 → t.faults.items ≡ replicate n 0 →
-    IsStates head n [] t
+    IsStateTally head n [] t
 unfolding registration registered sites hook_faults
 first_states head n t a p q r k = record {
   as_many_subs = rw p (length-replicate n None);

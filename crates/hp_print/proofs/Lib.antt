@@ -1,10 +1,10 @@
 pub mod Texts
 pub mod Digits
 pub mod KeyOrder
-pub mod SuspendedStep
-pub mod WalksStep
-pub mod StatesStep
-pub mod AnswersStep
+pub mod SuspendTallyStep
+pub mod ProcessorTallyStep
+pub mod StateTallyStep
+pub mod AnswerCountsStep
 pub mod FirstTally
 pub mod Lists
 pub mod SummaryText

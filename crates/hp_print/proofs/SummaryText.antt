@@ -12,10 +12,10 @@ use Rattle.hp_model.specs.Suspend.{disabled, frozen}
 use Rattle.hp_model.specs.Net.{is_key_in_force, entered, keys_in_force}
 use Rattle.hp_model.specs.Summary.{cpu_line, cpu_lines, disabled_line, recorded, frozen_line, sub_line, sub_line_at, sub_lines_below, ops_line, events_line, summary}
 use Rattle.hp_print.specs.declared.tally.Tally.{Tally}
-use Rattle.hp_print.specs.declared.walks.ProcessorTally.{ProcessorTally}
-use Rattle.hp_print.specs.declared.states.StateTally.{StateTally}
-use Rattle.hp_print.specs.declared.answers.AnswerCounts.{AnswerCounts}
-use Rattle.hp_print.specs.Tallies.{count_of, counts_of, sub_of, IsWalks, IsStates, IsAnswers, IsTally}
+use Rattle.hp_print.specs.declared.processor_tally.ProcessorTally.{ProcessorTally}
+use Rattle.hp_print.specs.declared.state_tally.StateTally.{StateTally}
+use Rattle.hp_print.specs.declared.answer_counts.AnswerCounts.{AnswerCounts}
+use Rattle.hp_print.specs.Tallies.{count_of, counts_of, sub_of, IsProcessorTally, IsStateTally, IsAnswerCounts, IsTally}
 use Rattle.hp_print.specs.TallyText.{is_counted, keys_of, cpu_text, cpus_text, disabled_text, frozen_text, sub_text, registered_text, subs_text, ops_text, events_text, tally_text}
 
 keys_counted : (c : ℕ) (events : List Event) (ks : List Key) →
@@ -45,18 +45,18 @@ below f g (suc n) h =
     ∙ ap (λ ys. flat_map g (numbers n) ++ ys) (h n (omega arith))
     ∙ flat_map_more g [] (numbers n) n
 
-cpu_same : (head : Head) (events : List Event) (w : ProcessorTally) (c : ℕ) → IsWalks head.possible events w →
+cpu_same : (head : Head) (events : List Event) (w : ProcessorTally) (c : ℕ) → IsProcessorTally head.possible events w →
     c < head.possible → cpu_text head w c ≡ cpu_line head events c
 unfolding cpu_text cpu_line
 cpu_same head events w c h b = rw (h.settled_is c b, h.keys_is c b, keys_same c events) refl
 
-cpus_same : (head : Head) (events : List Event) (w : ProcessorTally) → IsWalks head.possible events w →
+cpus_same : (head : Head) (events : List Event) (w : ProcessorTally) → IsProcessorTally head.possible events w →
     cpus_text head w ≡ cpu_lines head events
 unfolding cpus_text cpu_lines
 cpus_same head events w h =
     below (cpu_text head w) (cpu_line head events) head.possible (λ c b. cpu_same head events w c h b)
 
-sub_same : (head : Head) (events : List Event) (t : StateTally) (n s : ℕ) → IsStates head n events t → s < n →
+sub_same : (head : Head) (events : List Event) (t : StateTally) (n s : ℕ) → IsStateTally head n events t → s < n →
     sub_text head t s ≡ sub_line_at head events s
 unfolding sub_text
 sub_same head events t n s h b = rw (h.sub_is s b) (go (registered head s events) refl) where
@@ -64,13 +64,13 @@ sub_same head events t n s h b = rw (h.sub_is s b) (go (registered head s events
   go None e = refl
   go (Some r) e = rw (h.made_is s b, h.faults_is s b, h.insts_is s b, e) refl
 
-subs_same : (head : Head) (events : List Event) (t : StateTally) (n : ℕ) → IsStates head n events t →
+subs_same : (head : Head) (events : List Event) (t : StateTally) (n : ℕ) → IsStateTally head n events t →
     subs_text head t n ≡ sub_lines_below head events n
 unfolding subs_text sub_lines_below
 subs_same head events t n h =
     below (sub_text head t) (sub_line_at head events) n (λ s b. sub_same head events t n s h b)
 
-ops_same : (events : List Event) (a : AnswerCounts) → IsAnswers events a → ops_text a ≡ ops_line events
+ops_same : (events : List Event) (a : AnswerCounts) → IsAnswerCounts events a → ops_text a ≡ ops_line events
 unfolding ops_text ops_line
 ops_same events a h = rw (h.ok_is, h.refused_is, h.fault_is, h.stuck_is, h.full_is) refl
 
@@ -91,7 +91,7 @@ pub tally_same : (head : Head) (events : List Event) (t : Tally) → IsTally hea
     tally_text head t (length events) ≡ summary head events
 unfolding tally_text summary
 tally_same head events t h =
-    let p = cpus_same head events t.walks h.walks_is in
+    let p = cpus_same head events t.processors h.processors_is in
     let q = disabled_same events t.suspended.disabled h.suspended_is.disabled_is in
     let r = frozen_same head events t.suspended.frozen.items h.suspended_is.frozen_is in
     let s = subs_same head events t.states (ONLINE + 1) h.states_is in

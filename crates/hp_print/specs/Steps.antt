@@ -13,7 +13,7 @@ use Rattle.hp_model.specs.Suspend.{is_ok, is_freeze, is_thaw, is_disabling, is_e
 use Rattle.hp_model.specs.Events.{answer_by}
 use Rattle.hp_model.specs.Summary.{Kind, is_some_kind}
 use Rattle.hp_print.specs.declared.keys.KeyCount.{KeyCount}
-use Rattle.hp_print.specs.declared.states.Asked.{Asked}
+use Rattle.hp_print.specs.declared.state_tally.Asked.{Asked}
 use Rattle.hp_print.specs.Counts.{one_more, counted}
 
 -- the operation that holds the map lock

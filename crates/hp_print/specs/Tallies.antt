@@ -16,19 +16,19 @@ use Rattle.hp_model.specs.Calls.{sites}
 use Rattle.hp_model.specs.Net.{entered}
 use Rattle.hp_model.specs.Summary.{hook_faults, answered_by, ok, refused, fault, stuck, full}
 use Rattle.hp_print.specs.declared.keys.KeyCount.{KeyCount}
-use Rattle.hp_print.specs.declared.states.Asked.{Asked}
+use Rattle.hp_print.specs.declared.state_tally.Asked.{Asked}
 use Rattle.hp_print.specs.Counts.{AreInOrder}
-use Rattle.hp_print.specs.declared.suspended.SuspendTally.{SuspendTally}
-use Rattle.hp_print.specs.declared.walks.ProcessorTally.{ProcessorTally}
-use Rattle.hp_print.specs.declared.states.StateTally.{StateTally}
-use Rattle.hp_print.specs.declared.answers.AnswerCounts.{AnswerCounts}
+use Rattle.hp_print.specs.declared.suspend_tally.SuspendTally.{SuspendTally}
+use Rattle.hp_print.specs.declared.processor_tally.ProcessorTally.{ProcessorTally}
+use Rattle.hp_print.specs.declared.state_tally.StateTally.{StateTally}
+use Rattle.hp_print.specs.declared.answer_counts.AnswerCounts.{AnswerCounts}
 use Rattle.hp_print.specs.declared.tally.Tally.{Tally}
 
 abbrev pub op_held : Option Operation → Option Op
 op_held None = None
 op_held (Some o) = Some o.op
 
-pub record IsSuspended (events : List Event) (s : SuspendTally) : Type 0 where
+pub record IsSuspendTally (events : List Event) (s : SuspendTally) : Type 0 where
   pub op : s.op ≡ op_held (operation events)
   pub disabled_is : s.disabled ≡ disabled events
   pub frozen_is : s.frozen.items ≡ frozen events
@@ -44,7 +44,7 @@ count_of c events k = record { key = k; ups = ups c k.state k.inst events; downs
 unfoldable pub counts_of : (cpu : ℕ) → List Event → List KeyCount
 counts_of c events = map (count_of c events) (entered c events)
 
-pub record IsWalks (possible : ℕ) (events : List Event) (w : ProcessorTally) : Type 0 where
+pub record IsProcessorTally (possible : ℕ) (events : List Event) (w : ProcessorTally) : Type 0 where
   pub as_many_settled : length w.settled.items ≡ possible
   pub as_many_targets : length w.targets.items ≡ possible
   pub as_many_keys : length w.keys.items ≡ possible
@@ -61,7 +61,7 @@ abbrev pub sub_of : Option Registered → Option ℕ
 sub_of None = None
 sub_of (Some r) = Some r.sub
 
-pub record IsStates (head : Head) (many : ℕ) (events : List Event) (t : StateTally) : Type 0 where
+pub record IsStateTally (head : Head) (many : ℕ) (events : List Event) (t : StateTally) : Type 0 where
   pub as_many_subs : length t.subs.items ≡ many
   pub as_many_insts : length t.insts.items ≡ many
   pub as_many_made : length t.made.items ≡ many
@@ -72,7 +72,7 @@ pub record IsStates (head : Head) (many : ℕ) (events : List Event) (t : StateT
   pub made_is : (s : ℕ) → s < many → slice_index_or t.made.items s 0 ≡ length (sites s events)
   pub faults_is : (s : ℕ) → s < many → slice_index_or t.faults.items s 0 ≡ hook_faults s events
 
-pub record IsAnswers (events : List Event) (a : AnswerCounts) : Type 0 where
+pub record IsAnswerCounts (events : List Event) (a : AnswerCounts) : Type 0 where
   pub ok_is : a.ok ≡ answered_by ok events
   pub refused_is : a.refused ≡ answered_by refused events
   pub fault_is : a.fault ≡ answered_by fault events
@@ -80,7 +80,7 @@ pub record IsAnswers (events : List Event) (a : AnswerCounts) : Type 0 where
   pub full_is : a.full ≡ answered_by full events
 
 pub record IsTally (head : Head) (events : List Event) (t : Tally) : Type 0 where
-  pub suspended_is : IsSuspended events t.suspended
-  pub walks_is : IsWalks head.possible events t.walks
-  pub states_is : IsStates head (ONLINE + 1) events t.states
-  pub answers_is : IsAnswers events t.answers
+  pub suspended_is : IsSuspendTally events t.suspended
+  pub processors_is : IsProcessorTally head.possible events t.processors
+  pub states_is : IsStateTally head (ONLINE + 1) events t.states
+  pub answers_is : IsAnswerCounts events t.answers

@@ -9,9 +9,9 @@ use Rattle.hp_model.specs.Processors.{is_present}
 use Rattle.hp_model.specs.Words.{line, name_word, list_words}
 use Rattle.hp_model.specs.Summary.{key_word, presence_word, name_of}
 use Rattle.hp_print.specs.declared.keys.KeyCount.{KeyCount}
-use Rattle.hp_print.specs.declared.answers.AnswerCounts.{AnswerCounts}
-use Rattle.hp_print.specs.declared.walks.ProcessorTally.{ProcessorTally}
-use Rattle.hp_print.specs.declared.states.StateTally.{StateTally}
+use Rattle.hp_print.specs.declared.answer_counts.AnswerCounts.{AnswerCounts}
+use Rattle.hp_print.specs.declared.processor_tally.ProcessorTally.{ProcessorTally}
+use Rattle.hp_print.specs.declared.state_tally.StateTally.{StateTally}
 use Rattle.hp_print.specs.declared.tally.Tally.{Tally}
 
 abbrev pub is_counted : KeyCount → Bool
@@ -89,7 +89,7 @@ events_text n = line (codes "events" ∷ decimal n ∷ [])
 -- the whole summary
 unfoldable pub tally_text : Head → Tally → (events : ℕ) → List ℕ
 tally_text head t n =
-    cpus_text head t.walks
+    cpus_text head t.processors
     ++ disabled_text t.suspended.disabled
     ++ frozen_text head.possible t.suspended.frozen.items
     ++ subs_text head t.states (ONLINE + 1)

@@ -7,19 +7,19 @@
 //! wanting.
 #![tactic(auto)]
 
-mod answers;
+mod answer_counts;
 mod event;
-mod insts;
+mod instance_list;
 mod journal;
 mod keys;
 mod op;
-mod states;
+mod processor_tally;
+mod state_tally;
 mod summary_lines;
-mod suspended;
+mod suspend_tally;
 mod tally;
 #[cfg(test)]
 mod tests;
-mod walks;
 mod words;
 
 pub use event::event_line;

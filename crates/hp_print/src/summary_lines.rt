@@ -8,11 +8,11 @@ ghost use Rattle.hp_model.specs.Summary.{key_word, presence_word, name_of as nam
 ghost use Rattle.hp_print.specs.Tallies.{IsTally};
 ghost use Rattle.hp_print.specs.TallyText.{keys_of, key_text, cpu_words, cpu_text, cpus_text, disabled_text, frozen_word, frozen_text, sub_words, registered_text, sub_text, subs_text, ops_text, events_text, tally_text};
 
-use crate::answers::AnswerCounts;
+use crate::answer_counts::AnswerCounts;
 use crate::keys::KeyCount;
-use crate::states::StateTally;
+use crate::processor_tally::ProcessorTally;
+use crate::state_tally::StateTally;
 use crate::tally::{Tally, tally_of};
-use crate::walks::ProcessorTally;
 use crate::words::{append, append_count, append_name, append_number, append_numbers, end_line};
 use hp_event::{Head, Journal};
 use hp_states::{NoMemory, ONLINE};
@@ -106,13 +106,17 @@ fn append_cpu(
 
 /// Appends a line for each processor.
 #[tactic(auto, unfolding(crate::specs::TallyText::cpus_text))]
-fn append_cpus(out: &mut Vec<u8>, head: &Head, walks: &ProcessorTally) -> Result<(), AllocError>
-    requires settled { length walks.now.settled.items ≡ head.now.possible }
-    requires keys { length walks.now.keys.items ≡ head.now.possible }
-    ensures { OnOk result (out.new.items ≡ out.old.items ++ cpus_text head.now walks.now) }
+fn append_cpus(
+    out: &mut Vec<u8>,
+    head: &Head,
+    processors: &ProcessorTally,
+) -> Result<(), AllocError>
+    requires settled { length processors.now.settled.items ≡ head.now.possible }
+    requires keys { length processors.now.keys.items ≡ head.now.possible }
+    ensures { OnOk result (out.new.items ≡ out.old.items ++ cpus_text head.now processors.now) }
 {
     for cpu in 0..head.possible {
-        append_cpu_of(out, head, walks, cpu)?;
+        append_cpu_of(out, head, processors, cpu)?;
     }
     Ok(())
 }
@@ -122,22 +126,22 @@ fn append_cpus(out: &mut Vec<u8>, head: &Head, walks: &ProcessorTally) -> Result
 fn append_cpu_of(
     out: &mut Vec<u8>,
     head: &Head,
-    walks: &ProcessorTally,
+    processors: &ProcessorTally,
     cpu: u32,
 ) -> Result<(), AllocError>
     requires possible { cpu < head.now.possible }
-    requires settled { length walks.now.settled.items ≡ head.now.possible }
-    requires keys { length walks.now.keys.items ≡ head.now.possible }
-    ensures { OnOk result (out.new.items ≡ out.old.items ++ cpu_text head.now walks.now cpu) }
+    requires settled { length processors.now.settled.items ≡ head.now.possible }
+    requires keys { length processors.now.keys.items ≡ head.now.possible }
+    ensures { OnOk result (out.new.items ≡ out.old.items ++ cpu_text head.now processors.now cpu) }
 {
     let present = head.is_present(cpu);
-    let settled = walks.settled[cpu as usize];
+    let settled = processors.settled[cpu as usize];
     append_cpu(
         out,
         cpu,
         present,
         settled,
-        walks.keys[cpu as usize].as_slice(),
+        processors.keys[cpu as usize].as_slice(),
     )
 }
 
@@ -303,15 +307,15 @@ fn append_summary(
     tally: &Tally,
     count: usize,
 ) -> Result<(), AllocError>
-    requires settled { length tally.now.walks.settled.items ≡ head.now.possible }
-    requires keys { length tally.now.walks.keys.items ≡ head.now.possible }
+    requires settled { length tally.now.processors.settled.items ≡ head.now.possible }
+    requires keys { length tally.now.processors.keys.items ≡ head.now.possible }
     requires subs { length tally.now.states.subs.items ≡ ONLINE + 1 }
     requires insts { length tally.now.states.insts.items ≡ ONLINE + 1 }
     requires made { length tally.now.states.made.items ≡ ONLINE + 1 }
     requires faults { length tally.now.states.faults.items ≡ ONLINE + 1 }
     ensures { OnOk result (out.new.items ≡ out.old.items ++ tally_text head.now tally.now count) }
 {
-    append_cpus(out, head, &tally.walks)?;
+    append_cpus(out, head, &tally.processors)?;
     append_disabled(out, tally.suspended.disabled)?;
     append_frozen(out, tally.suspended.frozen.as_slice(), head.possible)?;
     append_states(out, head, &tally.states, ONLINE + 1)?;

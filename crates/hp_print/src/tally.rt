@@ -3,10 +3,10 @@
 ghost use Rattle.std.specs.Prelude.{IfOk};
 ghost use Rattle.hp_print.specs.Tallies.{IsTally};
 
-use crate::answers::AnswerCounts;
-use crate::states::StateTally;
-use crate::suspended::SuspendTally;
-use crate::walks::ProcessorTally;
+use crate::answer_counts::AnswerCounts;
+use crate::processor_tally::ProcessorTally;
+use crate::state_tally::StateTally;
+use crate::suspend_tally::SuspendTally;
 use hp_event::{Event, Head};
 use std::alloc::{AllocError, Global};
 
@@ -14,7 +14,7 @@ use std::alloc::{AllocError, Global};
 #[derive(Drop)]
 pub struct Tally {
     pub suspended: SuspendTally,
-    pub walks: ProcessorTally,
+    pub processors: ProcessorTally,
     pub states: StateTally,
     pub answers: AnswerCounts,
 }
@@ -24,18 +24,18 @@ pub fn tally_of(alloc: Global, head: &Head, events: &[Event]) -> Result<Tally, A
     ensures { IfOk result (λ t. IsTally head.now events.now t) }
 {
     let mut suspended = SuspendTally::new(alloc);
-    let mut walks = ProcessorTally::new(alloc, head.possible)?;
+    let mut processors = ProcessorTally::new(alloc, head.possible)?;
     let mut states = StateTally::new(alloc)?;
     let mut answers = AnswerCounts::new();
     for event in events {
         suspended.count(event)?;
-        walks.count(event)?;
+        processors.count(event)?;
         states.count(event)?;
         answers.count(event);
     }
     Ok(Tally {
         suspended,
-        walks,
+        processors,
         states,
         answers,
     })

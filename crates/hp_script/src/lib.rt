@@ -12,8 +12,8 @@
 //!
 //! The code goes the same way: `words` and `numbers`, `fields`, the lines of each kind in `heading`
 //! and `operation`, `statement` for any line, `before` for what may stand, `line` for one line,
-//! `draft` for the script that grows, `reader` for all lines. `proofs/Cases.antt` has small scripts
-//! that are judged by computing the definitions alone.
+//! `draft` for the script that grows, `reader` for all lines. Small scripts, judged by computing the
+//! definitions alone, stand beside the lemmas, in `Cases.antt`.
 //!
 //! ```text
 //! cpus 2

@@ -3,4 +3,3 @@ pub mod Crossings
 pub mod Names
 pub mod Rules
 pub mod Plans
-pub mod PlanFields

@@ -60,22 +60,20 @@ pub struct HookPlan {
 }
 
 impl Model for HookPlan {
-    ghost use Rattle.std.specs.Prelude.{◌≡◌, ◌≤◌, ◌-◌, ◌++◌, List, take, length, replicate};
+    ghost use Rattle.std.specs.Prelude.{List, take};
     ghost use Rattle.hp_states.specs.declared.plan.Rule.{Rule};
 
     ghost Value = { List Rule };
 
-    ghost use Rattle.hp_states.specs.Plans.{IsPadded, padded};
-
     ghost view = { λ p. take p.len p.rules };
 
-    ghost invariant = { λ p. IsPadded p.rules p.len };
+    ghost use Rattle.hp_states.specs.Plans.{IsPadded, fields_of};
 
-    ghost use Rattle.hp_states.specs.PlanFields.{from_list, had_back};
+    ghost invariant = { IsPadded };
 
-    ghost inverse = { from_list };
+    ghost inverse = { fields_of };
 
-    ghost inverse_ok = { had_back };
+    ghost inverse_ok = { λ p h. h.same };
 }
 
 impl Default for HookPlan {

@@ -1,56 +1,12 @@
 //! What no clause says: that memory suffices where it is ample, that the rules come out as written
-//! by hand, at hooks of three types, and the texts of the errors.
+//! by hand, at hooks of two types, and the texts of the errors.
 
 use crate::{Record, Table, TableError};
 use hp_hook::{Hook, ScriptHook};
 use hp_states::{Dir, HookPlan, MAX_EVENTS, Range, Rule};
-use std::alloc::{AllocError, Global};
+use std::alloc::Global;
 use std::process::Abort;
-use std::sync::Arc;
-use std::sync::atomic::{AtomicU64, Ordering};
 use std::test::Fail;
-
-/// A hook of the test's own: it answers as a script's hook does, and counts its calls where the test
-/// sees them too.
-#[derive(Drop)]
-struct SharedHook {
-    inner: ScriptHook,
-    calls: Arc<AtomicU64, Global>,
-}
-
-impl Hook for SharedHook {
-    ghost plan = { λ h. h.inner.plan };
-
-    ghost seen = { λ h. h.inner.seen };
-
-    ghost made = { λ h. h.inner.made };
-
-    ghost faults = { λ h. h.inner.faults };
-
-    fn load(&mut self, rules: HookPlan) {
-        self.inner.load(rules)
-    }
-
-    fn call(&mut self, cpu: u32, inst: u32, dir: Dir) -> u32 {
-        self.calls.fetch_add(1, Ordering::SeqCst);
-        self.inner.call(cpu, inst, dir)
-    }
-
-    fn made(&self) -> u64 {
-        self.inner.made()
-    }
-
-    fn faults(&self) -> u64 {
-        self.inner.faults()
-    }
-}
-
-fn shared(calls: &Arc<AtomicU64, Global>) -> Result<SharedHook, AllocError> {
-    Ok(SharedHook {
-        inner: ScriptHook::new(),
-        calls: Arc::try_clone(calls)?,
-    })
-}
 
 /// The second startup for processor 1 fails with 5, and each other with 7.
 fn two_rules() -> HookPlan {
@@ -148,21 +104,16 @@ fn at_a_multi_state<H: Hook>(rt: &impl Abort, alloc: Global, hook: H) -> Result<
 }
 
 #[test]
-fn hooks_of_three_types_are_kept(rt: HostRuntime) -> Result<(), Fail> {
+fn hooks_of_two_types_are_kept(rt: HostRuntime) -> Result<(), Fail> {
     let alloc = rt.alloc();
     let hook = at_a_single_state(&rt, alloc, ScriptHook::new())?;
     at_a_multi_state(&rt, alloc, hook)?;
-    let calls = Arc::new(alloc, AtomicU64::new(0))?;
-    let hook = at_a_single_state(&rt, alloc, shared(&calls)?)?;
-    at_a_multi_state(&rt, alloc, hook)?;
-    assert_eq!(rt; calls.load(Ordering::SeqCst), 5);
     let mut hooks: Vec<Box<dyn Hook + Send>> = Vec::new(alloc);
-    hooks.push(Box::new(alloc, shared(&calls)?)?)?;
+    hooks.push(Box::new(alloc, ScriptHook::new())?)?;
     if let Some(hook) = hooks.pop() {
         let hook = at_a_single_state(&rt, alloc, hook)?;
         at_a_multi_state(&rt, alloc, hook)?;
     }
-    assert_eq!(rt; calls.load(Ordering::SeqCst), 10);
     Ok(())
 }
 
@@ -170,10 +121,10 @@ fn hooks_of_three_types_are_kept(rt: HostRuntime) -> Result<(), Fail> {
 fn a_refused_record_comes_back(rt: HostRuntime) -> Result<(), Fail> {
     let alloc = rt.alloc();
     let mut table = Table::new(alloc)?;
-    let one = Arc::new(alloc, AtomicU64::new(0))?;
-    let other = Arc::new(alloc, AtomicU64::new(0))?;
-    put(&mut table, 10, record_of(1, false, shared(&one)?))?;
-    let mut rec = record_of(2, true, shared(&other)?);
+    put(&mut table, 10, record_of(1, false, ScriptHook::new()))?;
+    let mut rec = record_of(2, true, ScriptHook::new());
+    rec.hook.load(HookPlan::none());
+    assert_eq!(rt; rec.hook.call(0, 0, Dir::Up), 0);
     for (state, want) in [
         (0, TableError::Invalid),
         (200, TableError::Invalid),
@@ -195,18 +146,8 @@ fn a_refused_record_comes_back(rt: HostRuntime) -> Result<(), Fail> {
         (rec.sub, rec.multi, rec.up, rec.down),
         (2, true, true, false)
     );
-    let hook = &mut rec.hook;
-    hook.load(HookPlan::none());
-    assert_eq!(rt; hook.call(0, 0, Dir::Up), 0);
-    assert_eq!(rt;
-        (one.load(Ordering::SeqCst), other.load(Ordering::SeqCst)),
-        (0, 1)
-    );
-    assert_eq!(rt; call(&rt, &mut table, 10, 0, Dir::Up), 0);
-    assert_eq!(rt;
-        (one.load(Ordering::SeqCst), other.load(Ordering::SeqCst)),
-        (1, 1)
-    );
+    assert_eq!(rt; rec.hook.made(), 1);
+    assert!(rt; table.step(10).is_some_and(|rec| rec.hook.made() == 0));
     Ok(())
 }
 

@@ -4,7 +4,7 @@ use hp_event::{Event, Head};
 use std::collections::LinkedList;
 
 /// Two fronts that a join brought together, and whether the first had the right to admit. No value
-/// of it is made: contracts and proofs alone speak of it.
+/// of it is made: it is there for contracts to speak of.
 pub struct Heard {
     /// The front of the pass that took the other in.
     pub one: LinkedList<Event>,
@@ -14,8 +14,8 @@ pub struct Heard {
     pub had: bool,
 }
 
-/// What the table of a lock holds of one pass. No value of it is made: contracts and proofs alone
-/// speak of it.
+/// What the table of a lock holds of one pass. No value of it is made: it is there for contracts to
+/// speak of.
 pub struct View {
     /// The pass was joined into another.
     pub spent: bool,

@@ -10,10 +10,10 @@ ghost use Rattle.hp_states.specs.declared.limits.TheConstants.{MAX_INSTANCE};
 ghost use Rattle.hp_play.specs.declared.limits.TheConstants.{MAX_PLAYED};
 
 use super::REFUSED;
-use crate::error::ParseError;
 use crate::limits::{MAX_NAMED_CPU, MAX_NAMED_STATE, MAX_PLAYED};
 use crate::words::{behind, dir_at, flags_at, number_at, number_within};
 use hp_event::{Form, Op};
+use hp_script::ParseError;
 use hp_states::{Dir, MAX_INSTANCE, NoMemory};
 use std::alloc::Global;
 

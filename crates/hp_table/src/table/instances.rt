@@ -140,8 +140,11 @@ impl<H: Hook> Table<H> {
         self.instances(state).contains(&inst)
     }
 
-    /// Whether a state, or the table, has as many instances as it may have.
-    fn is_full(&self, state: u32) -> bool
+    /// Whether a state, or the table, has as many instances as it may have: 256, or 4,096.
+    ///
+    /// There is no condition; a state that isn't registered has none. Takes no memory, and a time that
+    /// doesn't grow with the table. The limits are this project's own.
+    pub fn is_full(&self, state: u32) -> bool
         ensures { result ≡ is_full self.now state }
     {
         self.instances(state).len() >= MAX_INSTANCES as usize || self.count >= MAX_TABLE_INSTANCES

@@ -3,10 +3,10 @@ use Rattle.std.proofs.lemmas.List.{take_more}
 use Rattle.hp_event.specs.declared.event.Event.{Event}
 use Rattle.hp_event.specs.declared.event.Event.TheVariants.{Admit}
 use Rattle.hp_event.specs.declared.event.Role.TheVariants.{Client}
-use Rattle.hp_print.proofs.SuspendedStep.{suspended_step, none_suspended}
-use Rattle.hp_print.proofs.WalksStep.{walks_step}
-use Rattle.hp_print.proofs.StatesStep.{states_step}
-use Rattle.hp_print.proofs.AnswersStep.{answers_step, no_answers}
+use Rattle.hp_print.proofs.SuspendTallyStep.{suspended_step, none_suspended}
+use Rattle.hp_print.proofs.ProcessorTallyStep.{processors_step}
+use Rattle.hp_print.proofs.StateTallyStep.{states_step}
+use Rattle.hp_print.proofs.AnswerCountsStep.{answers_step, no_answers}
 use Rattle.hp_print.proofs.tally.tally_of.Goals as goal
 
 pub loop-event-init : goal.loop-event-init
@@ -14,7 +14,7 @@ loop-event-init c = record {
   suspended_is =
       none_suspended c.new-suspended.result c.new-suspended.ensures.op c.new-suspended.ensures.disabled
       c.new-suspended.ensures.frozen;
-  walks_is = c.in_ok-walks.ensures;
+  processors_is = c.in_ok-processors.ensures;
   states_is = c.in_ok-states.ensures c.args.head.now;
   answers_is = rw c.new-answers.ensures no_answers;
 }
@@ -35,10 +35,10 @@ loop-event-preserved c =
       suspended_is =
           rw more
           (suspended_step (take i events) e c.loop-event.suspended c.count.new.self few h.suspended_is s.op s.disabled s.frozen);
-      walks_is =
+      processors_is =
           rw more
-          (walks_step c.args.head.now.possible (take i events) e c.loop-event.walks c.count-in-loop-event.new.self few
-          h.walks_is w.targets w.settled w.keys);
+          (processors_step c.args.head.now.possible (take i events) e c.loop-event.processors c.count-in-loop-event.new.self few
+          h.processors_is w.targets w.settled w.keys);
       states_is =
           rw more
           (states_step c.args.head.now 201 (take i events) e c.loop-event.states c.count-in-loop-event-2.new.self few

@@ -1,7 +1,12 @@
 -- Every count begins at 0.
-use Rattle.hp_states.specs.declared.limits.TheConstants.{MAX_RULES}
-use Rattle.hp_hook.proofs.Bounds.{zeros}
+use Rattle.std.proofs.Common.{arith}
+use Rattle.hp_hook.proofs.Bounds.{none_yet}
 use Rattle.hp_hook.proofs.script_hook.ScriptHookHook.load.Goals as goal
 
-pub returns-clause-seen : goal.returns-clause-seen
-returns-clause-seen c = zeros c.args.rules MAX_RULES c.rules.ensures.few
+pub invariant_of-self : goal.invariant_of-self
+invariant_of-self c =
+    record {
+      seen = rw c.new-self-inside.ensures (none_yet c.args.rules);
+      faults = omega arith;
+      made = omega arith;
+    }

@@ -7,4 +7,4 @@ use Rattle.hp_states.proofs.plan.HookPlan.add.Goals as goal
 pub invariant_of-self : goal.invariant_of-self
 invariant_of-self c =
     let less : c.self.inside.len < MAX_RULES = omega arith in
-    padded_more c.self.inside.rules c.self.inside.len c.args.rule c.self.invariant less
+    padded_more c.self.inside c.args.rule c.self.invariant less

@@ -1,6 +1,0 @@
-use Rattle.std.proofs.Common.{◌≡◌, take}
-use Rattle.hp_event.proofs.head.Subs.copy.Given as goal
-
--- the subsystems so far are copied
-abbrev pub invariant-loop-sub : goal.invariant-loop-sub
-invariant-loop-sub l = l.items.items ≡ take l.sub-index l.sub-items

@@ -1,0 +1,72 @@
+-- The account of a journal with no events.
+use Rattle.std.proofs.Common.{◌≡◌, false, None, [], refl, sym, arith}
+use Rattle.std.specs.Prelude.{replicate}
+use Rattle.std.proofs.lemmas.List.{length-replicate, get_or-replicate}
+use Rattle.hp_event.specs.declared.head.Head.{Head}
+use Rattle.hp_model.specs.MapLock.{operation}
+use Rattle.hp_model.specs.Walks.{walk, walking}
+use Rattle.hp_model.specs.Registrations.{registration}
+use Rattle.hp_model.specs.Readers.{readers, reading_since}
+use Rattle.hp_model.specs.Seats.{admits, role_of, ap_seat}
+use Rattle.hp_model.specs.Suspend.{disabled, frozen, wakeup_pending}
+use Rattle.hp_ledger.specs.declared.parts.Parts.{Parts}
+use Rattle.hp_ledger.specs.Account.{IsAccount}
+use Rattle.hp_ledger.specs.FlightChanges.{IsStill}
+use Rattle.hp_ledger.specs.Locks.{IsLocks}
+use Rattle.hp_ledger.specs.Processors.{IsStanding}
+use Rattle.hp_ledger.specs.Seats.{IsRoll}
+use Rattle.hp_ledger.specs.Suspended.{IsSuspended}
+use Rattle.hp_ledger.proofs.FlightSteps.{flights_none}
+use Rattle.hp_ledger.proofs.PlaceLemmas.{at_place-none}
+
+roll_none : (head : Head) → IsRoll head [] (record { roles = []; threads = replicate head.possible None })
+unfolding admits role_of ap_seat
+roll_none head = record {
+  admitted = refl;
+  roles_are = λ k. refl;
+  cpus = length-replicate head.possible None;
+  threads_are = λ c. sym (at_place-none head.possible c);
+  sits = λ k c h. absurd (cc);
+}
+
+locks_none : IsLocks [] (record { map = None; writer = None; registrar = None; reading = [] })
+unfolding operation walk walking registration readers reading_since admits
+locks_none = record {
+  map_is = refl;
+  writer_is = refl;
+  registrar_is = refl;
+  seats = refl;
+  reads_are = λ k. refl;
+  readers_are = refl;
+}
+
+suspended_none : (head : Head) → IsSuspended head [] (record { disabled = 0; frozen = replicate head.possible false; wakeup = false })
+unfolding disabled frozen wakeup_pending
+suspended_none head = record {
+  disabled_is = refl;
+  few = omega arith;
+  frozen_is = record { places = length-replicate head.possible false; each = λ c below. get_or-replicate head.possible c false false below };
+  wakeup_is = refl;
+}
+
+none_operates : operation [] ≡ None
+unfolding operation
+none_operates = refl
+
+none_registers : registration [] ≡ None
+unfolding registration
+none_registers = refl
+
+pub account_none : (head : Head) (p : Parts) → p.seats ≡ record { roles = []; threads = replicate head.possible None } →
+    p.locks ≡ record { map = None; writer = None; registrar = None; reading = [] } → IsStanding head [] p.processors → p.operation ≡ None →
+    IsStill head.possible p.flights → p.registration ≡ None →
+    p.suspended ≡ record { disabled = 0; frozen = replicate head.possible false; wakeup = false } → IsAccount head [] p
+account_none head p seats locks standing idle still unregistered suspended = record {
+  seats = rw seats (roll_none head);
+  locks = rw locks locks_none;
+  processors = standing;
+  operation = rw idle none_operates;
+  flights = flights_none head p.flights still;
+  registration = rw unregistered none_registers;
+  suspended = rw suspended (suspended_none head);
+}

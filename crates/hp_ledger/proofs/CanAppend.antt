@@ -1,0 +1,241 @@
+-- Each part of the account can take an event that stands.
+use Rattle.std.proofs.Common.{◌≡◌, ℕ, ℤ, ◌+◌, ◌<◌, ◌≤◌, true, ltb, leb, inl, inr, Option, Some, None, IsSome, IfSome, List, [], ◌∷◌, ◌++◌, length, refl, sym, ap, ◌∙◌, subst, arith}
+use Rattle.std.proofs.lemmas.Bool.{ltb-true}
+use Rattle.hp_states.specs.declared.limits.TheConstants.{MAX_EVENTS, ONLINE}
+use Rattle.hp_states.specs.declared.dir.Dir.{Dir}
+use Rattle.hp_states.specs.declared.place.Place.{Place}
+use Rattle.hp_event.specs.declared.key.Key.{Key}
+use Rattle.hp_model.specs.RegistrationShape.{is_adding}
+use Rattle.hp_event.specs.declared.answer.Answer.{Answer}
+use Rattle.hp_event.specs.declared.how.How.{How}
+use Rattle.hp_event.specs.declared.op.Op.{Op}
+use Rattle.hp_event.specs.declared.op.Op.TheVariants as op
+use Rattle.hp_event.specs.declared.head.Head.{Head}
+use Rattle.hp_event.specs.declared.event.Event.{Event}
+use Rattle.hp_event.specs.declared.event.Event.TheVariants.{Admit, Leave, Enter, WalkBegin, Call, WalkEnd, OpEnd, RegBegin, Armed}
+use Rattle.hp_model.specs.Lists.{occurs}
+use Rattle.hp_model.specs.Registrations.{Registration, registration}
+use Rattle.hp_model.specs.RegistrationShape.{key_of}
+use Rattle.hp_model.specs.Processors.{is_possible, is_present, processors}
+use Rattle.hp_model.specs.Registered.{insts_of as insts_of_registered}
+use Rattle.hp_model.specs.RefusalsAtOnce.{refusals_at_once}
+use Rattle.hp_model.specs.Needs.{need, taken}
+use Rattle.hp_model.specs.StandsCalls.{Calls}
+use Rattle.hp_model.specs.StandsOperations.{WalkEnds}
+use Rattle.hp_model.specs.Lawful.{Comes, Stands, IsLawful}
+use Rattle.hp_model.proofs.Laws.{registration_push, registered_push}
+use Rattle.hp_model.proofs.NextOfRegistration.{processor_present}
+use Rattle.hp_model.proofs.OneNext.{owners}
+use Rattle.hp_model.proofs.Operations.{in_filter, once_in, there}
+use Rattle.hp_model.proofs.Passing.{passed, none_holds}
+use Rattle.hp_model.proofs.RoomKept.{event_fits}
+use Rattle.hp_reg.specs.Asked.{asked, call_or_end, direction, place as place_of}
+use Rattle.hp_reg.specs.Progress.{Progress, cpus_left, below}
+use Rattle.hp_reg.specs.declared.phase.Phase.{Phase}
+use Rattle.hp_reg.specs.declared.phase.Phase.TheVariants.{Making, Undoing}
+use Rattle.hp_reg.specs.declared.step.RegStep.TheVariants as regstep
+use Rattle.hp_suspend.proofs.Few.{thawing_few, booting_few}
+use Rattle.hp_table.specs.Step.{Step}
+use Rattle.hp_table.proofs.Places.{within_places}
+use Rattle.hp_walk.specs.Keys.{keys_by}
+use Rattle.hp_ledger.specs.declared.flights.Flight.{Flight}
+use Rattle.hp_ledger.specs.declared.flights.Flights.{Flights}
+use Rattle.hp_ledger.specs.declared.operation.Held.{Held}
+use Rattle.hp_ledger.specs.declared.operation.Sequence.{Sequence}
+use Rattle.hp_ledger.specs.declared.operation.Sequence.TheVariants.{Single, Freeze, Thaw, Boot, NoWalk}
+use Rattle.hp_ledger.specs.declared.registering.Registering.{Registering}
+use Rattle.hp_ledger.specs.declared.parts.Parts.{Parts}
+use Rattle.hp_ledger.specs.Account.{IsAccount}
+use Rattle.hp_ledger.specs.Appending.{CanLeave, CanEnd, HasPlaceFor, HasRoomFor, CanOperate, HasCountsIf, CanFly, CanRegister, CanAppend}
+use Rattle.hp_ledger.specs.FlightChanges.{IfWalks}
+use Rattle.hp_ledger.specs.Flights.{IsFlights}
+use Rattle.hp_ledger.specs.Ledger.{NoAdmission}
+use Rattle.hp_ledger.specs.Operations.{IsSequence, IsHeldBy, HasCounts}
+use Rattle.hp_ledger.specs.Places.{at_place}
+use Rattle.hp_ledger.specs.Registering.{IsRegisteringOf}
+use Rattle.hp_ledger.specs.Seats.{Roll, IsRoll}
+use Rattle.hp_ledger.specs.Suspended.{Suspension, IsSuspended}
+use Rattle.hp_ledger.specs.Table.{IsTableOf, HasRegistration}
+use Rattle.hp_ledger.proofs.FlightEntries.{can_enter}
+use Rattle.hp_ledger.proofs.FlightFacts.{walk_kept}
+use Rattle.hp_ledger.proofs.FlightSteps.{HasKeys, has_keys, walker_idle, can_begin, can_end}
+use Rattle.hp_ledger.proofs.WalkMoves.{walk_begins}
+use Rattle.hp_ledger.proofs.LocksCan.{locks_can}
+use Rattle.hp_ledger.proofs.LocksMore.{WalksAlone}
+use Rattle.hp_ledger.proofs.PlaceLemmas.{at_place-within}
+use Rattle.hp_ledger.proofs.RegistrationMore.{asked_for, registers}
+use Rattle.hp_ledger.proofs.RollMore.{present_below}
+
+can_leave : (head : Head) (es : List Event) (r : Roll) (e : Event) → NoAdmission e → Comes head es e → IsRoll head es r → CanLeave e r
+can_leave head es r (Admit seat role) other comes is = absurd (other seat role refl)
+can_leave head es r (Leave seat) other comes is =
+    at_place-within r.roles seat comes.is_in.0 (sym (is.roles_are seat) ∙ comes.is_in.1)
+can_leave head es r e other comes is = tt
+
+-- the processors that are left of some are of these
+left_of : (phase : Phase) (cpus : List ℕ) (c : ℕ) → 0 < occurs c (cpus_left phase cpus) → 0 < occurs c cpus
+left_of (Making from) cpus c h = (in_filter (λ d. leb from d) c cpus h).1
+left_of (Undoing from failed code) cpus c h =
+    (in_filter (λ d. ltb d failed) c cpus (in_filter (λ d. leb from d) c (below failed cpus) h).1).1
+
+-- the processor of an entry that a registration asks for is one of its own
+asked_on : (key : Option ℕ) (cpus : List ℕ) (p : Progress) (c : ℕ) (k : Key) (d : Dir) (place : Place) → asked key cpus p ≡ regstep.Call c k d place →
+    0 < occurs c cpus
+asked_on None cpus p c k d place h = absurd (cc)
+asked_on (Some i) cpus p c k d place h = left_of p.phase cpus c (go (cpus_left p.phase cpus) h)
+  where
+    same : (x c : ℕ) (a b : Key) (e f : Dir) (g j : Place) → regstep.Call x a e g ≡ regstep.Call c b f j → x ≡ c
+    same x c a b e f g j h = cc
+
+    go : (xs : List ℕ) → call_or_end p i xs ≡ regstep.Call c k d place → 0 < occurs c xs
+    go [] h = absurd (cc)
+    go (x ∷ xs) h =
+        let at : x ≡ c = same x c (record { state = p.state; inst = i }) k (direction p.phase (is_adding p.op)) d (place_of p.phase (is_adding p.op)) place h in subst (λ (y : ℕ). 0 < occurs y (x ∷ xs)) at (once_in x xs)
+
+-- an entry is on a present processor
+pub called_on : (head : Head) (es : List Event) (registration : Option Registering) (seat c s i : ℕ) (d : Dir) (how : How) →
+    IsLawful head es → IsRegisteringOf head es registration → Calls head es seat c s i d how → is_present head c ≡ true
+called_on head es g seat c s i d how lawful r (inl h) = (walk_kept head es c h.entry.of lawful h.entry.in_flight).present
+called_on head es None seat c s i d how lawful r (inr h) = absurd (let n = sym r ∙ h.entry.in_flight in cc)
+called_on head es (Some g) seat c s i d how lawful r (inr h) =
+    let a = asked_for head es g r seat c s i d how h in
+    processor_present head r.of.state r.of.before c
+    (asked_on (key_of head r.of) (processors head r.of.state r.of.before) g.reg c a.key d a.place a.asks)
+
+-- what is armed is a possible processor
+pub armed_on : (head : Head) (es : List Event) (seat c : ℕ) (value : ℤ) → Comes head es (Armed seat c value) → c < head.possible
+armed_on head es seat c value comes =
+    let p = passed head es seat (op.Arm c value) comes.free.idle comes.passes.not_waiting comes.passes.not_refused in
+    let n = none_holds (refusals_at_once head es seat (op.Arm c value)) p.0 in
+    ltb-true c head.possible (there (is_possible head c) n.0)
+
+-- a walk that ends is a present processor's
+pub ended_on : (head : Head) (es : List Event) (seat c : ℕ) (answer : Answer) → IsLawful head es → WalkEnds head es seat c answer →
+    c < head.possible
+ended_on head es seat c answer lawful comes =
+    present_below head c (walk_kept head es c comes.of lawful comes.in_flight).present
+
+-- the processor that an event is on
+pub placed : (head : Head) (es : List Event) (p : Parts) (e : Event) → IsLawful head es → Comes head es e → IsAccount head es p →
+    HasPlaceFor e p.processors
+placed head es p (Call seat c s i d how) lawful comes is =
+    let b = present_below head c (called_on head es p.registration seat c s i d how lawful is.registration comes) in
+    let n = is.processors.armed_cpus in
+    omega (arith, b, n)
+placed head es p (WalkEnd seat c answer) lawful comes is =
+    let b = ended_on head es seat c answer lawful comes in
+    let n = is.processors.cpus in
+    omega (arith, b, n)
+placed head es p (Armed seat c value) lawful comes is =
+    let b = armed_on head es seat c value comes in
+    let n = is.processors.armed_cpus in
+    omega (arith, b, n)
+placed head es p e lawful comes is = tt
+
+can_suspend : (head : Head) (es : List Event) (s : Suspension) (e : Event) → IsLawful head es → Comes head es e → length es + 1 ≤ MAX_EVENTS →
+    IsSuspended head es s → HasRoomFor e s
+can_suspend head es s (WalkEnd seat c answer) lawful comes fits is =
+    let b = ended_on head es seat c answer lawful comes in
+    let n = is.frozen_is.places in
+    omega (arith, b, n)
+can_suspend head es s (OpEnd seat answer) lawful comes fits is = let f = is.few in omega (arith, f, fits)
+can_suspend head es s e lawful comes fits is = tt
+
+-- the walks of the operation that holds the map lock are fewer than the events
+counted : (head : Head) (entered es : List Event) (asked : Op) (s : Sequence) → length es + 1 ≤ MAX_EVENTS →
+    IsSequence head entered es asked s → HasCounts s
+counted head entered es asked (Single w) fits is = tt
+counted head entered es asked (Freeze f) fits is = tt
+counted head entered es op.Thaw (Thaw t) fits is = let f = thawing_few es t is in omega (arith, f, fits)
+counted head entered es (op.Boot n) (Boot b) fits is =
+    let f = booting_few es n b is in
+    let one = f.0 in
+    let two = f.1 in
+    (omega (arith, one, fits), omega (arith, two, fits))
+counted head entered es asked NoWalk fits is = tt
+counted head entered es asked (Thaw t) fits is = elim is [ ]
+counted head entered es asked (Boot b) fits is = elim is [ ]
+
+counted_if : (head : Head) (es : List Event) (held : Option Held) → length es + 1 ≤ MAX_EVENTS → IsHeldBy head es held → HasCountsIf held
+counted_if head es None fits is = tt
+counted_if head es (Some h) fits is = counted head is.of.before es is.of.op h.sequence fits is.sequence_is
+
+can_operate : (head : Head) (es : List Event) (held : Option Held) (e : Event) → Comes head es e → length es + 1 ≤ MAX_EVENTS →
+    IsHeldBy head es held → CanOperate e held
+can_operate head es held (Enter seat asked) comes fits is = comes.takes_map
+can_operate head es held (WalkEnd seat c answer) comes fits is = counted_if head es held fits is
+can_operate head es held e comes fits is = tt
+
+is_some_of : (o : Option Flight) (P : Flight → Type 0) → IfWalks o P → IsSome o
+is_some_of None P h = elim h [ ]
+is_some_of (Some f) P h = refl
+
+can_end_of : (head : Head) (es : List Event) (f : Flights) (e : Event) → IsLawful head es → Comes head es e → IsFlights head es f →
+    CanEnd e f
+can_end_of head es f (WalkEnd seat c answer) lawful comes is =
+    let k = can_end head es seat c answer f lawful comes is in
+    (k.0, is_some_of (at_place f.by_cpu.items c) (λ flight. 0 < flight.left) k.1)
+can_end_of head es f e lawful comes is = tt
+
+-- while no registration is in flight, the table after a walk's begin or its entry has the keys that there were before
+pub keys_begun : (head : Head) (es : List Event) (places : List (Option Step)) (seat cpu from to : ℕ) →
+    IsTableOf head (es ++ WalkBegin seat cpu from to ∷ []) places → registration es ≡ None → HasKeys head es places
+keys_begun head es places seat cpu from to t idle = λ s.
+    let e : Event = WalkBegin seat cpu from to in
+    ap insts_of_registered (sym (registered_push head s es e))
+    ∙ has_keys head (es ++ e ∷ []) places t (registration_push es e ∙ idle) s
+
+pub keys_called : (head : Head) (es : List Event) (places : List (Option Step)) (seat c st i : ℕ) (d : Dir) (how : How) →
+    IsTableOf head (es ++ Call seat c st i d how ∷ []) places → registration es ≡ None → HasKeys head es places
+keys_called head es places seat c st i d how t idle = λ s.
+    let e : Event = Call seat c st i d how in
+    ap insts_of_registered (sym (registered_push head s es e))
+    ∙ has_keys head (es ++ e ∷ []) places t (registration_push es e ∙ idle) s
+
+can_fly : (head : Head) (es : List Event) (places : List (Option Step)) (p : Parts) (needed : ℕ) (e : Event) → IsLawful head es →
+    Comes head es e → needed ≡ taken (need head es e) →
+    IsTableOf head (es ++ e ∷ []) places → IsAccount head es p → CanFly (keys_by places) needed e p.flights
+can_fly head es places p needed (WalkBegin seat cpu from to) lawful comes n t is =
+    let inside = (walk_begins head es seat cpu from to lawful comes).inside in
+    let most = subst (λ (m : ℕ). m ≤ ONLINE) (is.processors.settled_is cpu inside) (is.processors.highest cpu) in
+    let c = can_begin head es seat cpu from to needed p.flights lawful comes is.flights most n in
+    (c.inside, c.states, c.room)
+can_fly head es places p needed (Call seat c s i d how) lawful comes n t is = λ k walks.
+    can_enter head es places seat c s i d how p.flights k lawful comes is.flights
+    (keys_called head es places seat c s i d how t (walker_idle head es p.flights k lawful is.flights walks)) walks
+can_fly head es places p needed (WalkEnd seat c answer) lawful comes n t is = can_end head es seat c answer p.flights lawful comes is.flights
+can_fly head es places p needed e lawful comes n t is = tt
+
+-- a registration that begins is at one of the table's states, and an entry is on one of the processors
+can_register : (head : Head) (es : List Event) (places : List (Option Step)) (p : Parts) (e : Event) → IsLawful head es → Comes head es e →
+    length places ≡ ONLINE + 1 → IsTableOf head (es ++ e ∷ []) places → IsAccount head es p → CanRegister e
+can_register head es places p (RegBegin seat state asked) lawful comes sound t is =
+    let r : Registration = record { seat = seat; state = state; op = asked; before = es } in
+    let begun : registration (es ++ RegBegin seat state asked ∷ []) ≡ Some r = registration_push es (RegBegin seat state asked) in
+    let h : HasRegistration head (es ++ RegBegin seat state asked ∷ []) places r =
+    subst (λ x. IfSome x (HasRegistration head (es ++ RegBegin seat state asked ∷ []) places)) begun t.in_flight in
+    let below = within_places places state h.step h.place_is in
+    (registers head es asked state comes.state_is, omega (arith, below, sound))
+can_register head es places p (Call seat c s i d how) lawful comes sound t is =
+    let b = present_below head c (called_on head es p.registration seat c s i d how lawful is.registration comes) in
+    let h = lawful.0.few_possible in
+    omega (arith, b, h)
+can_register head es places p e lawful comes sound t is = tt
+
+pub can_append : (head : Head) (es : List Event) (places : List (Option Step)) (p : Parts) (needed : ℕ) (e : Event) → NoAdmission e →
+    IsLawful head es → Stands head es e → needed ≡ taken (need head es e) → length places ≡ ONLINE + 1 →
+    IsTableOf head (es ++ e ∷ []) places → IsAccount head es p → CanAppend (keys_by places) needed e p
+can_append head es places p needed e other lawful stands n sound t is =
+    let comes = stands.0 in
+    let fits = event_fits head es e lawful stands in
+    let flies : WalksAlone es p.flights.walking = record { walking_is = is.flights.walking_is } in
+    record {
+      seats = can_leave head es p.seats e other comes is.seats;
+      locks = locks_can head es p.locks p.flights.walking e other (owners head es lawful) comes flies is.locks;
+      ends = can_end_of head es p.flights e lawful comes is.flights;
+      processors = placed head es p e lawful comes is;
+      suspended = can_suspend head es p.suspended e lawful comes fits is.suspended;
+      operation = can_operate head es p.operation e comes fits is.operation;
+      flights = can_fly head es places p needed e lawful comes n t is;
+      registration = can_register head es places p e lawful comes sound t is;
+    }

@@ -1,0 +1,177 @@
+-- What one event more needs of a part of the account, and what becomes of it. This project's own.
+use Rattle.std.specs.Prelude.{◌≡◌, ◌<◌, ◌≤◌, ◌≢◌, ◌+◌, ◌-◌, ℕ, [], ◌∷◌, ◌++◌, true, false, Option, None, Some, IsSome, List, length, option_map}
+use Rattle.hp_states.specs.declared.limits.TheConstants.{MAX_CPUS, MAX_EVENTS, MAX_SEATS, ONLINE}
+use Rattle.hp_event.specs.declared.op.Op.{Op}
+use Rattle.hp_event.specs.declared.how.How.{How}
+use Rattle.hp_event.specs.declared.event.Role.{Role}
+use Rattle.hp_event.specs.declared.head.Head.{Head}
+use Rattle.hp_event.specs.declared.event.Event.{Event}
+use Rattle.hp_event.specs.declared.event.Event.TheVariants.{Admit, Leave, Enter, WalkBegin, Call, WalkEnd, OpEnd, RegBegin, RegEnd, ReadLock, ReadUnlock, Armed}
+use Rattle.hp_event.specs.Ops.{is_map_op}
+use Rattle.hp_model.specs.Events.{is_registration_op}
+use Rattle.hp_suspend.specs.Tables.{AreOnline}
+use Rattle.hp_locks.specs.declared.locks.TheConstants.{MAX_LOCKED}
+use Rattle.hp_locks.specs.Holders.{Holders, reads}
+use Rattle.hp_locks.specs.Waits.{wait_for_map, wait_for_writer, wait_to_write, wait_to_register}
+use Rattle.hp_walk.specs.Cursor.{to_of}
+use Rattle.hp_ledger.specs.declared.flights.Flights.{Flights}
+use Rattle.hp_ledger.specs.declared.operation.Held.{Held}
+use Rattle.hp_ledger.specs.declared.registering.Registering.{Registering}
+use Rattle.hp_ledger.specs.FlightChanges.{IfWalks, CanGoOn, Begun, WentOn, Ended}
+use Rattle.hp_ledger.specs.Operations.{HasCounts, IsHeldBy}
+use Rattle.hp_ledger.specs.Places.{at_place}
+use Rattle.hp_ledger.specs.Processors.{Standing, online_flags}
+use Rattle.hp_ledger.specs.RegisteringChanges.{HasBegun, WentOnBy}
+use Rattle.hp_ledger.specs.declared.parts.Parts.{Parts}
+use Rattle.hp_ledger.specs.After.{roll_after, holders_after, standing_after, suspension_after}
+use Rattle.hp_ledger.specs.Seats.{Roll, HasPlace, HasNoThread, with_seat}
+use Rattle.hp_ledger.specs.Suspended.{Suspension}
+
+-- a lock that an event takes is free, and one that it gives back is held by its seat
+abbrev pub CanHold : Event → Holders → Type 0
+CanHold (Admit seat role) h = ⊥
+CanHold (Enter seat op) h = (seat < length h.reading) × (wait_for_map h ≡ None)
+CanHold (OpEnd seat answer) h = h.map ≡ Some seat
+CanHold (WalkBegin seat cpu from to) h = (h.map ≡ Some seat) × (h.writer ≡ None) × (wait_to_write h ≡ None)
+CanHold (WalkEnd seat cpu answer) h = h.writer ≡ Some seat
+CanHold (RegBegin seat state op) h = (seat < length h.reading) × (wait_to_register h ≡ None)
+CanHold (RegEnd seat answer) h = h.registrar ≡ Some seat
+CanHold (ReadLock seat) h = (seat < length h.reading) × (reads h seat ≡ false) × (wait_for_writer h ≡ None)
+CanHold (ReadUnlock seat) h = (seat < length h.reading) × (reads h seat ≡ true)
+CanHold _ h = Unit {0}
+
+-- its processor is one of these
+abbrev pub HasPlaceFor : Event → Standing → Type 0
+HasPlaceFor (Call seat cpu state inst dir how) p = cpu < length p.armed
+HasPlaceFor (WalkEnd seat cpu answer) p = cpu < length p.settled
+HasPlaceFor (Armed seat cpu value) p = cpu < length p.armed
+HasPlaceFor _ p = Unit {0}
+
+-- a walk that ends is of one of these processors, and an operation that ends leaves room for one count more
+abbrev pub HasRoomFor : Event → Suspension → Type 0
+HasRoomFor (WalkEnd seat cpu answer) s = cpu < length s.frozen
+HasRoomFor (OpEnd seat answer) s = s.disabled < MAX_EVENTS
+HasRoomFor _ s = Unit {0}
+
+-- the operation that holds the map lock, where a walk or an operation ends
+abbrev pub IsOpOf : Event → Option Held → Op → Type 0
+IsOpOf (WalkEnd seat cpu answer) held op = option_map (λ h. h.op) held ≡ Some op
+IsOpOf (OpEnd seat answer) held op = option_map (λ h. h.op) held ≡ Some op
+IsOpOf _ held op = Unit {0}
+
+abbrev pub HasCountsIf : Option Held → Type 0
+HasCountsIf None = Unit {0}
+HasCountsIf (Some held) = HasCounts held.sequence
+
+-- what takes the map lock is an operation of it, and the walks of one that holds it are counted
+abbrev pub CanOperate : Event → Option Held → Type 0
+CanOperate (Enter seat op) held = is_map_op op ≡ true
+CanOperate (WalkEnd seat cpu answer) held = HasCountsIf held
+CanOperate _ held = Unit {0}
+
+abbrev pub CanEnd : Event → Flights → Type 0
+CanEnd (WalkEnd seat cpu answer) f = (cpu < length f.by_cpu.items) × IsSome (at_place f.by_cpu.items cpu)
+CanEnd _ f = Unit {0}
+
+-- where the walk went that ends
+abbrev pub WentTo : Event → (to : ℕ) → Flights → Type 0
+WentTo (WalkEnd seat cpu answer) to f = IfWalks (at_place f.by_cpu.items cpu) (λ flight. to_of flight.walk ≡ to)
+WentTo _ to f = Unit {0}
+
+-- the walk that begins, goes on or ends can
+abbrev pub CanFly : (keys : ℕ → List ℕ) → (need : ℕ) → Event → Flights → Type 0
+CanFly keys need (WalkBegin seat cpu from to) f =
+    (cpu < length f.by_cpu.items) × ((from ≤ ONLINE) × (to ≤ ONLINE) × (from ≢ to)) × (0 < need)
+CanFly keys need (Call seat cpu state inst dir how) f =
+    (n : ℕ) → f.walking ≡ Some n → (cpu < length f.by_cpu.items) × IfWalks (at_place f.by_cpu.items cpu) (CanGoOn keys how)
+CanFly keys need (WalkEnd seat cpu answer) f =
+    (cpu < length f.by_cpu.items) × IfWalks (at_place f.by_cpu.items cpu) (λ flight. 0 < flight.left)
+CanFly keys need _ f = Unit {0}
+
+abbrev pub WentOnIf : (walking : Option ℕ) → (keys : ℕ → List ℕ) → (cpu : ℕ) → How → (old new : Flights) → Type 0
+WentOnIf None keys cpu how old new = new ≡ old
+WentOnIf (Some n) keys cpu how old new = WentOn keys cpu how old new
+
+-- it has begun, gone on or ended, and this much of its room is given back
+abbrev pub Flew : (keys : ℕ → List ℕ) → (need freed : ℕ) → Event → (old new : Flights) → Type 0
+Flew keys need freed (WalkBegin seat cpu from to) old new = Begun keys seat cpu from to need old new × (freed ≡ 0)
+Flew keys need freed (Call seat cpu state inst dir how) old new = WentOnIf old.walking keys cpu how old new × (freed ≡ 0)
+Flew keys need freed (WalkEnd seat cpu answer) old new = Ended cpu freed old new
+Flew keys need freed _ old new = (new ≡ old) × (freed ≡ 0)
+
+-- a registration that begins is an operation's at one of the states
+abbrev pub CanRegister : Event → Type 0
+CanRegister (RegBegin seat state op) = (is_registration_op op ≡ true) × (state ≤ ONLINE)
+CanRegister (Call seat cpu state inst dir how) = cpu < MAX_CPUS
+CanRegister _ = Unit {0}
+
+abbrev pub WentOnWith : (cpu : ℕ) → How → (old new : Option Registering) → Type 0
+WentOnWith cpu how None new = new ≡ None
+WentOnWith cpu how (Some g) None = ⊥
+WentOnWith cpu how (Some g) (Some after) = WentOnBy cpu how g after
+
+abbrev pub HasBegunWith : (seat : ℕ) → Op → (state need : ℕ) → Option Registering → Type 0
+HasBegunWith seat op state need None = ⊥
+HasBegunWith seat op state need (Some g) = HasBegun seat op state need g
+
+abbrev pub left_by : Option Registering → ℕ
+left_by None = 0
+left_by (Some g) = g.left - 1
+
+-- it has begun, gone on or ended, and this much of its room is given back
+abbrev pub Registered : (need freed : ℕ) → Event → (old new : Option Registering) → Type 0
+Registered need freed (RegBegin seat state op) old new = HasBegunWith seat op state need new × (freed ≡ 0)
+Registered need freed (Call seat cpu state inst dir how) old new = WentOnWith cpu how old new × (freed ≡ 0)
+Registered need freed (RegEnd seat answer) old new = (new ≡ None) × (freed ≡ left_by old)
+Registered need freed _ old new = (new ≡ old) × (freed ≡ 0)
+
+-- a seat that leaves was admitted
+abbrev pub CanLeave : Event → Roll → Type 0
+CanLeave (Admit seat role) r = ⊥
+CanLeave (Leave seat) r = seat < length r.roles
+CanLeave _ r = Unit {0}
+
+-- each part of the account can take the event
+pub record CanAppend (keys : ℕ → List ℕ) (need : ℕ) (event : Event) (p : Parts) : Type 0 where
+  pub seats : CanLeave event p.seats
+  pub locks : CanHold event p.locks
+  pub ends : CanEnd event p.flights
+  pub processors : HasPlaceFor event p.processors
+  pub suspended : HasRoomFor event p.suspended
+  pub operation : CanOperate event p.operation
+  pub flights : CanFly keys need event p.flights
+  pub registration : CanRegister event
+
+-- each part has
+pub record Appended (keys : ℕ → List ℕ) (need freed : ℕ) (event : Event) (old new : Parts) : Type 0 where
+  pub seats : new.seats ≡ roll_after event old.seats
+  pub locks : new.locks ≡ holders_after event old.locks
+  pub to : ℕ
+  pub to_is : WentTo event to old.flights
+  pub processors : new.processors ≡ standing_after to event old.processors
+  pub suspended : (op : Op) → IsOpOf event old.operation op → new.suspended ≡ suspension_after op event old.suspended
+  pub operation :
+      (head : Head) (events : List Event) → AreOnline head events (online_flags old.processors) → IsHeldBy head events old.operation →
+      IsHeldBy head (events ++ event ∷ []) new.operation
+  pub freed_by_walk : ℕ
+  pub freed_by_registration : ℕ
+  pub flights : Flew keys need freed_by_walk event old.flights new.flights
+  pub registration : Registered need freed_by_registration event old.registration new.registration
+  pub freed_is : freed ≡ freed_by_walk + freed_by_registration
+
+-- a seat has come in, and nothing else has changed
+pub record Admitted (role : Role) (old new : Parts) : Type 0 where
+  pub seats : new.seats ≡ with_seat role old.seats
+  pub locks : new.locks ≡ holders_after (Admit (length old.seats.roles) role) old.locks
+  pub processors : new.processors ≡ old.processors
+  pub operation : new.operation ≡ old.operation
+  pub flights : new.flights ≡ old.flights
+  pub registration : new.registration ≡ old.registration
+  pub suspended : new.suspended ≡ old.suspended
+
+-- there is a number for one seat more, and where it is a thread its processor is one of these, and has none
+pub record CanAdmit (role : Role) (p : Parts) : Type 0 where
+  pub few : length p.seats.roles < MAX_SEATS
+  pub place : HasPlace role (length p.seats.threads)
+  pub no_thread : HasNoThread role p.seats.threads
+  pub locks : length p.locks.reading < MAX_LOCKED

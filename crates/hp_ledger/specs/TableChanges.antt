@@ -1,0 +1,101 @@
+-- What a registration changes in the table: at its begin a setup gives its state a subsystem and an add its instance, and at its
+-- end what it added goes where it answers a fault, and what it takes away where it answers Ok. After `cpuhp_store_callbacks` and
+-- the instance lists of `kernel/cpu.c`.
+use Rattle.std.specs.Prelude.{◌≡◌, ◌<◌, ℕ, Bool, true, false, not, ◌&&◌, if◌then◌else◌, Option, Some, None, IsSome, List, [], slice_set}
+use Rattle.hp_states.specs.declared.limits.TheConstants.{OFFLINE, ONLINE}
+use Rattle.hp_states.specs.declared.plan.Rule.{Rule}
+use Rattle.hp_states.specs.Rules.{counts_of}
+use Rattle.hp_event.specs.Ops.{is_adding}
+use Rattle.hp_event.specs.declared.op.Op.{Op}
+use Rattle.hp_event.specs.declared.op.Op.TheVariants.{Setup, Remove, Add, Del}
+use Rattle.hp_event.specs.declared.answer.Answer.{Answer}
+use Rattle.hp_event.specs.declared.head.Sub.{Sub}
+use Rattle.hp_event.specs.declared.head.Head.{Head}
+use Rattle.hp_event.specs.Heads.{sub_numbered}
+use Rattle.hp_model.specs.Suspend.{is_ok}
+use Rattle.hp_table.specs.Kept.{Kept}
+use Rattle.hp_table.specs.Instances.{with_instance, without_instance, instances_of, instances_at, is_multi, is_multi_at, is_among, has_instance, CanAdd}
+use Rattle.hp_table.specs.Named.{is_named}
+use Rattle.hp_table.specs.Step.{Step, step_at, changed_at, bare}
+
+-- the record of a subsystem that was just registered, its hook loaded with its plan
+abbrev pub new_record : (number : ℕ) → Sub → Kept
+new_record number sub =
+    record {
+      sub = number;
+      multi = sub.multi;
+      up = sub.up;
+      down = sub.down;
+      plan = sub.plan;
+      seen = counts_of sub.plan [];
+      made = 0;
+      faults = 0;
+    }
+
+-- whether what an operation has in the table leaves it at its end
+abbrev pub takes_out : Op → Answer → Bool
+takes_out op answer = if is_adding op then not (is_ok answer) else is_ok answer
+
+-- what the state of the registration has at its end, where it is taken out
+abbrev pub place_without : Op → Step → Option Step
+place_without (Add s inst form) step = Some (without_instance inst step)
+place_without (Del s inst form) step = Some (without_instance inst step)
+place_without _ step = None
+
+abbrev pub place_left : Op → Answer → Step → Option Step
+place_left op answer step = if takes_out op answer then place_without op step else Some step
+
+-- whether an operation is a setup, which brings a hook
+abbrev pub is_setup : Op → Bool
+is_setup (Setup asked sub form) = true
+is_setup _ = false
+
+abbrev pub with_record : List (Option Step) → (state number : ℕ) → Option Sub → List (Option Step)
+with_record places s n None = places
+with_record places s n (Some sub) = slice_set places s (Some (bare (new_record n sub)))
+
+-- the table with what an operation adds as it begins
+abbrev pub with_added : Head → Op → (state : ℕ) → List (Option Step) → List (Option Step)
+with_added head (Setup asked sub form) s places = with_record places s sub (sub_numbered head sub)
+with_added head (Add state inst form) s places = changed_at places s (with_instance inst)
+with_added head _ s places = places
+
+-- what the operation needs of the table: its state is free, or is registered and can be changed so
+abbrev pub CanChange : Head → Op → (state : ℕ) → List (Option Step) → Type 0
+CanChange head (Setup asked sub form) s places =
+    IsSome (sub_numbered head sub) × (OFFLINE < s) × (s < ONLINE) × (is_named places s ≡ false)
+CanChange head (Remove state form) s places = IsSome (step_at places s) × (instances_at places s ≡ [])
+CanChange head (Add state inst form) s places = CanAdd places s inst
+CanChange head (Del state inst form) s places = (is_multi_at places s && has_instance places s inst) ≡ true
+CanChange head _ s places = ⊥
+
+-- the table without what an operation has there
+abbrev pub taken_out : Op → (state : ℕ) → List (Option Step) → List (Option Step)
+taken_out (Add s inst form) state places = changed_at places state (without_instance inst)
+taken_out (Del s inst form) state places = changed_at places state (without_instance inst)
+taken_out _ state places = slice_set places state None
+
+-- the table at the end of an operation
+abbrev pub without_left : Op → Answer → (state : ℕ) → List (Option Step) → List (Option Step)
+without_left op answer state places = if takes_out op answer then taken_out op state places else places
+
+-- what the operation has there can be taken out
+abbrev pub CanTakeOut : Op → Option Step → Type 0
+CanTakeOut (Setup asked sub form) place = IsSome place × (instances_of place ≡ [])
+CanTakeOut (Remove state form) place = IsSome place × (instances_of place ≡ [])
+CanTakeOut (Add state inst form) place = (is_multi place && is_among inst (instances_of place)) ≡ true
+CanTakeOut (Del state inst form) place = (is_multi place && is_among inst (instances_of place)) ≡ true
+CanTakeOut _ place = ⊥
+
+-- whether the end of an operation hands a hook out: a setup's that answers a fault, and that of a state that was removed
+abbrev pub hands_out : Op → Answer → Bool
+hands_out (Setup asked sub form) answer = not (is_ok answer)
+hands_out (Remove state form) answer = is_ok answer
+hands_out _ answer = false
+
+-- a hook with the whole view that its record has
+pub record IsHookOf (plan : List Rule) (seen : List ℕ) (made faults : ℕ) (kept : Kept) : Type 0 where
+  pub plan_is : plan ≡ kept.plan
+  pub seen_is : seen ≡ kept.seen
+  pub made_is : made ≡ kept.made
+  pub faults_are : faults ≡ kept.faults

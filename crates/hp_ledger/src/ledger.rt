@@ -1,0 +1,210 @@
+//! The ledger.
+
+ghost use Rattle.std.specs.Prelude.{◌≡◌, ◌+◌, ◌<◌, ◌↔◌, ◌++◌, ◌∷◌, [], true, false, Option, None, Some, IfOk, OnOk, OnErr, IsErrOf, List, length};
+ghost use Rattle.hp_states.specs.declared.limits.TheConstants.{MAX_EVENTS};
+ghost use Rattle.hp_event.specs.declared.event.Event.TheVariants.{Admit};
+ghost use Rattle.hp_event.specs.declared.event.Role.TheVariants.{Client};
+ghost use Rattle.hp_event.specs.declared.journal.JournalError.{JournalError};
+ghost use Rattle.hp_model.specs.Heads.{IsHead};
+ghost use Rattle.hp_model.specs.Lawful.{Stands};
+ghost use Rattle.hp_model.specs.Needs.{need, taken};
+ghost use Rattle.hp_model.specs.Promised.{promised};
+ghost use Rattle.hp_model.specs.Seats.{admits, role_of, is_busy};
+ghost use Rattle.hp_model.specs.Subsystems.{names_sub};
+ghost use Rattle.hp_ledger.specs.Ledger.{NoAdmission};
+ghost use Rattle.hp_ledger.specs.Next.{IsNext, IsDue};
+ghost use Rattle.hp_ledger.specs.Table.{IsTableOf};
+
+use crate::entry::Entry;
+use crate::next::Next;
+use crate::parts::Parts;
+use crate::under_way::due_from;
+use hp_event::{Event, Head, Journal, JournalError, Op, Role};
+use hp_hook::Hook;
+use hp_states::{MAX_EVENTS, NoMemory, OFFLINE};
+use hp_table::Table;
+use std::alloc::Global;
+use std::marker::Model;
+
+/// A journal, with the account of its events.
+///
+/// Contracts see its head, its events and how much room is reserved for the event that comes
+/// (`Entries`). The journal is lawful at any time, its parts are what its events amount to, and room is
+/// promised as the journal's definitions say, beside what is reserved.
+#[derive(Drop)]
+pub struct Ledger {
+    journal: Journal,
+    reserved: u32,
+    parts: Parts,
+}
+
+impl Model for Ledger {
+    ghost use Rattle.hp_ledger.specs.Ledger.{Entries, IsKept};
+
+    ghost Value = { Entries };
+
+    ghost view = { λ l. record {
+      head = l.journal.head;
+      events = l.journal.events;
+      reserved = l.reserved;
+    } };
+
+    ghost invariant = { λ l. IsKept l.journal l.reserved l.parts };
+}
+
+impl Ledger {
+    /// The ledger of a journal with this head and no events.
+    ///
+    /// The head is one that a machine can be started with. Takes memory for some places for each
+    /// possible processor; where there is none: `NoMemory`.
+    pub fn new(alloc: Global, head: Head) -> Result<Ledger, NoMemory>
+        requires { IsHead head }
+        ensures { IfOk result (λ l. l ≡ record { head = head; events = []; reserved = 0 }) }
+    {
+        let parts = Parts::new(alloc, &head)?;
+        Ok(Ledger {
+            journal: Journal::new(alloc, head),
+            reserved: 0,
+            parts,
+        })
+    }
+
+    /// The journal. Takes no memory.
+    pub fn journal(&self) -> &Journal
+        ensures head { result.now.head ≡ self.now.head }
+        ensures events { result.now.events ≡ self.now.events }
+    {
+        let _ = &self.reserved;
+        &self.journal
+    }
+
+    /// The role of a seat that is in. Takes no memory.
+    pub fn role(&self, seat: u32) -> Option<Role>
+        ensures { result ≡ role_of seat self.now.events }
+    {
+        self.parts.seats.role(seat)
+    }
+
+    /// Whether an operation of a seat is in flight. Takes no memory.
+    pub fn is_busy(&self, seat: u32) -> bool
+        ensures { result ≡ is_busy seat self.now.events }
+    {
+        self.parts.is_busy(seat)
+    }
+
+    /// What comes next of an operation of a client's seat that has nothing in flight.
+    ///
+    /// The table is the journal's, and the operation speaks of subsystems of the head alone.
+    /// - `Event` with the room that it takes: its refusal, or its begin where it is neither refused nor
+    ///   kept waiting.
+    /// - `Full` where there is no room for that event.
+    /// - `Wait` where the operation isn't refused, and waits for this.
+    ///
+    /// What is reserved counts as room. Takes no memory, and time for the state's instances, the range or
+    /// the processors, and none for the journal. After the calls of `kernel/cpu.c`; that each begins with
+    /// one event, and room, are this project's own.
+    pub fn first<H: Hook>(&self, table: &Table<H>, seat: u32, op: Op) -> Next
+        requires table { IsTableOf self.now.head self.now.events table.now }
+        requires client { role_of seat self.now.events ≡ Some Client }
+        requires idle { is_busy seat self.now.events ≡ false }
+        requires subs { names_sub self.now.head op ≡ true }
+        ensures { IsNext self.now.head self.now.events seat op result }
+    {
+        let taken = self.journal.len() + (self.journal.promised() - self.reserved);
+        self.parts
+            .first(self.journal.head(), table, seat, op, MAX_EVENTS - taken)
+    }
+
+    /// The entry that is due from a seat: what comes next of what is under way, where it is an entry and
+    /// this seat's to make.
+    ///
+    /// The table is the journal's. Takes no memory, and looks at no event. After `cpuhp_invoke_callback`
+    /// and `cpuhp_invoke_ap_callback` of `kernel/cpu.c`.
+    pub fn due<H: Hook>(&self, table: &Table<H>, seat: u32) -> Option<Entry>
+        requires { IsTableOf self.now.head self.now.events table.now }
+        ensures { IsDue self.now.head self.now.events seat result }
+    {
+        due_from(self.parts.under_way(&self.journal, table), seat)
+    }
+
+    /// Reserves room for the event that comes and for what has to follow it: `n` events.
+    ///
+    /// - `Full` exactly where the events, those promised, those reserved and `n` are above `MAX_EVENTS`.
+    /// - `NoMemory` where they would fit and memory was wanting.
+    ///
+    /// After a refusal nothing has changed. Takes memory where the journal has not so many spare
+    /// places.
+    pub fn reserve(&mut self, n: u32) -> Result<(), JournalError>
+        ensures ok { OnOk result (self.new ≡ record self.old { reserved = self.old.reserved + n }) }
+        ensures full { IsErrOf result JournalError.Full
+            ↔ (MAX_EVENTS < length self.old.events + promised self.old.head self.old.events + self.old.reserved + n) }
+        ensures err { OnErr result (self.new ≡ self.old) }
+    {
+        self.journal.reserve(n)?;
+        self.reserved += n;
+        Ok(())
+    }
+
+    /// Gives back what was reserved. Takes no memory.
+    pub fn release(&mut self)
+        ensures { self.new ≡ record self.old { reserved = 0 } }
+    {
+        self.journal.give_back(self.reserved);
+        self.reserved = 0;
+    }
+
+    /// Appends an event that stands, and takes it into account.
+    ///
+    /// It isn't an admission (`admit` makes those), room is reserved for what it needs, and the table is
+    /// that of the journal with the event. Takes no memory, and a time that doesn't grow with the
+    /// journal or the table.
+    pub fn append<H: Hook>(&mut self, table: &Table<H>, event: Event)
+        requires stands { Stands self.old.head self.old.events event }
+        requires no_admission { NoAdmission event }
+        requires room { self.old.reserved ≡ taken (need self.old.head self.old.events event) }
+        requires table { IsTableOf self.old.head (self.old.events ++ event ∷ []) table.now }
+        ensures { self.new
+            ≡ record self.old {
+              events = self.old.events ++ event ∷ [];
+              reserved = 0;
+            } }
+    {
+        // Each answer of a table says that it has a place for each state.
+        let _ = table.is_named(OFFLINE);
+        let freed = self.parts.append(table, event, self.reserved);
+        self.journal.push(event);
+        self.journal.give_back(freed);
+        self.reserved = 0;
+    }
+
+    /// Lets the next seat in, with this role, and appends its admission.
+    ///
+    /// The admission stands, and room is reserved for what it needs. Takes memory; where that is wanting
+    /// nothing has changed: `NoMemory`.
+    pub fn admit(&mut self, role: Role) -> Result<(), NoMemory>
+        requires stands { Stands self.old.head self.old.events (Admit (admits self.old.events) role) }
+        requires room { self.old.reserved ≡ 2 }
+        ensures ok { OnOk result (self.new
+            ≡ record self.old {
+              events = self.old.events ++ Admit (admits self.old.events) role ∷ [];
+              reserved = 0;
+            }) }
+        ensures err { OnErr result (self.new ≡ self.old) }
+    {
+        let seat = self.parts.seats.admitted();
+        self.parts.admit(role)?;
+        self.journal.push(Event::Admit { seat, role });
+        self.reserved = 0;
+        Ok(())
+    }
+
+    /// The journal, without the account. Takes no memory.
+    pub fn into_journal(self) -> Journal
+        ensures head { result.head ≡ self.head }
+        ensures events { result.events ≡ self.events }
+        ensures promised { result.promised ≡ promised self.head self.events + self.reserved }
+    {
+        let _ = &self.reserved;
+        self.journal
+    }
+}

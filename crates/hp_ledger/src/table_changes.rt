@@ -1,0 +1,124 @@
+//! What registrations change in the table of states.
+
+ghost use Rattle.std.specs.Prelude.{◌≡◌, ◌<◌, true, false, None, Some, IfSome, IsSome, OnOk, OnErr, is_some, slice_set, []};
+ghost use Rattle.hp_event.specs.Heads.{sub_numbered};
+ghost use Rattle.hp_states.specs.declared.limits.TheConstants.{OFFLINE, ONLINE};
+ghost use Rattle.hp_table.specs.Instances.{instances_at};
+ghost use Rattle.hp_table.specs.Named.{is_named};
+ghost use Rattle.hp_table.specs.Step.{step_at, bare};
+ghost use Rattle.hp_ledger.specs.TableChanges.{new_record, is_setup, takes_out, with_added, CanChange, without_left, taken_out, CanTakeOut, hands_out, IsHookOf};
+
+use hp_event::{Answer, Head, Op, Sub};
+use hp_hook::Hook;
+use hp_states::NoMemory;
+use hp_table::{Record, Table, TableError};
+
+/// Puts into the table what a registration adds as it begins: a setup's state with its hook, loaded
+/// with the subsystem's plan, or an add's instance. A remove and a del add nothing.
+///
+/// The registration can be made (`CanChange`), and exactly a setup has a hook, which it takes. Only an
+/// add takes memory; where that is wanting the table is as before. After `cpuhp_store_callbacks` of
+/// `kernel/cpu.c`.
+pub fn add_to_table<H: Hook>(
+    table: &mut Table<H>,
+    head: &Head,
+    op: Op,
+    state: u32,
+    hook: &mut Option<H>,
+) -> Result<(), NoMemory>
+    requires can { CanChange head.now op state table.old }
+    requires hook { is_some hook.old ≡ is_setup op }
+    ensures added { OnOk result (table.new ≡ with_added head.now op state table.old) }
+    ensures taken { OnOk result (hook.new ≡ None) }
+    ensures err { OnErr result (table.new ≡ table.old) }
+    ensures kept { OnErr result (hook.new ≡ hook.old) }
+{
+    match (op, hook.take()) {
+        (Op::Setup { sub, .. }, Some(taken)) => match head.sub(sub) {
+            Some(found) => set_up(table, state, sub, found, taken),
+            None => unreachable!(),
+        },
+        (Op::Add { inst, .. }, None) => match table.add_instance(state, inst) {
+            Ok(()) => {}
+            Err(TableError::NoMemory) => return Err(NoMemory),
+            Err(_) => unreachable!(),
+        },
+        (Op::Remove { .. } | Op::Del { .. }, None) => {}
+        _ => unreachable!(),
+    }
+    Ok(())
+}
+
+/// Gives a free state its subsystem and its hook, loaded with the subsystem's plan.
+fn set_up<H: Hook>(table: &mut Table<H>, state: u32, number: u32, sub: &Sub, mut hook: H)
+    requires { (OFFLINE < state) × (state < ONLINE) × (is_named table.old state ≡ false) }
+    ensures { table.new ≡ slice_set table.old state (Some (bare (new_record number sub.now))) }
+{
+    hook.load(sub.plan);
+    let record = Record {
+        sub: number,
+        multi: sub.multi,
+        up: sub.up,
+        down: sub.down,
+        hook,
+    };
+    if table.install(state, record).is_err() {
+        unreachable!();
+    }
+}
+
+/// Takes out of the table what a registration doesn't leave there at its end: what a setup or an add
+/// added where it answers a fault, and what a remove or a del takes away where it answers Ok.
+///
+/// What it has there can be taken out (`CanTakeOut`). Answers the hook that leaves the table: that of
+/// a setup that answers a fault, or of a state that is removed, as it stood in the table. Takes no
+/// memory. After `__cpuhp_setup_state_cpuslocked` and `__cpuhp_remove_state_cpuslocked` of
+/// `kernel/cpu.c`, which clear the state's callbacks there.
+pub fn take_from_table<H: Hook>(
+    table: &mut Table<H>,
+    op: Op,
+    state: u32,
+    answer: Answer,
+) -> Option<H>
+    requires { CanTakeOut op (step_at table.old state) }
+    ensures left { table.new ≡ without_left op answer state table.old }
+    ensures handed { is_some result ≡ hands_out op answer }
+    ensures hook { IfSome result (λ h. IfSome (step_at table.old state) (λ step.
+        IsHookOf (H.plan h) (H.seen h) (H.made h) (H.faults h) step.kept)) }
+{
+    if !takes_out(op, answer) {
+        return None;
+    }
+    match op {
+        Op::Setup { .. } | Op::Remove { .. } => Some(take_hook(table, state)),
+        Op::Add { inst, .. } | Op::Del { inst, .. } => {
+            if table.remove_instance(state, inst).is_err() {
+                unreachable!();
+            }
+            None
+        }
+        _ => unreachable!(),
+    }
+}
+
+/// Takes a registered state without instances out of the table, and hands out its hook.
+fn take_hook<H: Hook>(table: &mut Table<H>, state: u32) -> H
+    requires registered { IsSome (step_at table.old state) }
+    requires no_instances { instances_at table.old state ≡ [] }
+    ensures gone { table.new ≡ slice_set table.old state None }
+    ensures hook { IfSome (step_at table.old state) (λ step.
+        IsHookOf (H.plan result) (H.seen result) (H.made result) (H.faults result) step.kept) }
+{
+    match table.uninstall(state) {
+        Ok(record) => record.hook,
+        Err(_) => unreachable!(),
+    }
+}
+
+/// Whether what an operation has in the table leaves it at its end.
+fn takes_out(op: Op, answer: Answer) -> bool
+    ensures { result ≡ takes_out op answer }
+{
+    let is_ok = matches!(answer, Answer::Ok(_));
+    if op.is_adding() { !is_ok } else { is_ok }
+}

@@ -1,0 +1,62 @@
+//! What an operation waits for.
+
+ghost use Rattle.std.specs.Prelude.{◌≡◌, List, option_map};
+ghost use Rattle.hp_event.specs.declared.head.Head.{Head};
+ghost use Rattle.hp_event.specs.declared.event.Event.{Event};
+ghost use Rattle.hp_model.specs.Seats.{is_busy};
+ghost use Rattle.hp_model.specs.Waits.{wait_to_begin, wait_to_walk};
+ghost use Rattle.hp_ledger.specs.Account.{IsAccount};
+ghost use Rattle.hp_ledger.specs.Locks.{why_of};
+
+use crate::parts::Parts;
+use hp_event::Op;
+use hp_locks::Why;
+
+impl Parts {
+    /// What an operation waits for before it begins, if anything keeps it.
+    ///
+    /// An operation of the map lock waits for its holder, a target then for a registration too, which
+    /// also keeps out the arming of a fault and the `states` file; a read section waits for the
+    /// writer, and a registration for the writer and then for another one. Everything else begins at
+    /// once. There is no condition. Takes no memory, and a time that doesn't grow with the journal.
+    /// After `cpu_add_remove_lock` and `cpu_hotplug_lock` of `kernel/cpu.c`; that a registration keeps
+    /// out a target, an arming and the `states` file is this project's own.
+    pub fn wait_to_begin(&self, op: Op) -> Option<Why>
+        ensures { (head : Head) (events : List Event) → IsAccount head events self.now →
+            result ≡ option_map why_of (wait_to_begin events op) }
+    {
+        let locks = &self.locks;
+        match op {
+            Op::Target(..) => locks.wait_for_map().or(locks.wait_for_registration()),
+            Op::Arm(_, -1) => None,
+            Op::Arm(..) | Op::ShowStates => locks.wait_for_registration(),
+            Op::Lock => locks.wait_to_read(),
+            Op::Setup { .. } | Op::Remove { .. } | Op::Add { .. } | Op::Del { .. } => {
+                locks.wait_to_register()
+            }
+            _ if op.takes_map() => locks.wait_for_map(),
+            _ => None,
+        }
+    }
+
+    /// What a walk waits for before it begins, if anything keeps it: readers, and then a registration.
+    ///
+    /// There is no condition. Takes no memory. After `cpus_write_lock` of `kernel/cpu.c`; that a
+    /// registration keeps it out is this project's own.
+    pub fn wait_to_walk(&self) -> Option<Why>
+        ensures { (head : Head) (events : List Event) → IsAccount head events self.now →
+            result ≡ option_map why_of (wait_to_walk events) }
+    {
+        self.locks.wait_to_write()
+    }
+
+    /// Whether an operation of a seat is in flight: it holds the map lock or registers.
+    ///
+    /// There is no condition; a number that is no seat has none. Takes no memory. This project's own.
+    pub fn is_busy(&self, seat: u32) -> bool
+        ensures { (head : Head) (events : List Event) → IsAccount head events self.now →
+            result ≡ is_busy seat events }
+    {
+        self.locks.map_holder() == Some(seat) || self.locks.registrar() == Some(seat)
+    }
+}

@@ -1,0 +1,9 @@
+use Rattle.std.proofs.Common.{◌≡◌, ℕ, Option, None, List, [], replicate}
+use Rattle.hp_print.proofs.state_tally.StateTally.new.Given as goal
+
+pub record Nothing (n : ℕ) (subs : List (Option ℕ)) (insts : List (List ℕ)) : Type 0 where
+  pub subs_are : subs ≡ replicate n None
+  pub insts_are : insts ≡ replicate n []
+
+abbrev pub invariant-loop-count : goal.invariant-loop-count
+invariant-loop-count l = Nothing l.count l.subs.items l.insts.items

@@ -1,9 +1,0 @@
-use Rattle.std.proofs.Common.{arith, rules, refl, ◌≡◌}
-use Rattle.hp_print.proofs.FirstTally as first
-use Rattle.hp_print.proofs.states.StateTally.new.Goals as goal
-
-pub returns : goal.returns
-returns c = λ head.
-    let all : c.loop-count.count ≡ 201 = omega arith in
-    first.first_states head 201 _ refl (rw all at c.loop-count.invariant.subs_are)
-    (rw all at c.loop-count.invariant.insts_are) (search rules) (search rules)

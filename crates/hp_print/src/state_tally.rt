@@ -1,0 +1,223 @@
+//! What is registered at each state, and what its hook did.
+
+ghost use Rattle.std.specs.Prelude.{◌≡◌, ◌+◌, ◌<◌, ◌∷◌, IfOk, OnOk, List, [], length, slice_set, slice_index_or, if◌then◌else◌};
+ghost use Rattle.hp_model.specs.Calls.{is_called};
+ghost use Rattle.hp_model.specs.Suspend.{is_ok};
+ghost use Rattle.hp_model.specs.Summary.{is_hook_fault};
+ghost use Rattle.hp_event.specs.declared.head.Head.{Head};
+ghost use Rattle.hp_print.specs.Counts.{one_more};
+ghost use Rattle.hp_print.specs.Tallies.{IsStateTally};
+ghost use Rattle.hp_print.specs.Steps.{asked_after, subs_after, subs_applied, sub_after, all_insts_after, all_insts_applied, insts_after, begun_anew, calls_after};
+
+use crate::instance_list::InstanceList;
+use hp_event::{Answer, Event, How, Op};
+use hp_states::ONLINE;
+use std::alloc::{AllocError, Global};
+
+/// The registration in flight: its resolved state and its operation.
+#[derive(Clone, Copy, Debug)]
+pub struct Asked {
+    pub state: u32,
+    pub op: Op,
+}
+
+/// What is tallied of the states of a journal, each at its number.
+#[derive(Drop)]
+pub struct StateTally {
+    /// The registration in flight.
+    pub asked: Option<Asked>,
+    /// The number of the subsystem that is registered.
+    pub subs: Vec<Option<u32>>,
+    /// The instances.
+    pub insts: Vec<InstanceList>,
+    /// How often the hook was called since its setup began.
+    pub made: Vec<usize>,
+    /// How often it answered a code.
+    pub faults: Vec<usize>,
+}
+
+/// Whether the hook answered a code.
+fn is_fault(how: How) -> bool
+    ensures { result ≡ is_hook_fault how }
+{
+    match how {
+        How::RanFault(_) | How::Overruled(_) => true,
+        How::RanOk | How::Injected | How::Empty | How::Presumed => false,
+    }
+}
+
+/// Counts one more at a state.
+fn raise(counts: &mut Vec<usize>, state: u32)
+    ensures { counts.new.items
+        ≡ slice_set counts.old.items state (one_more (slice_index_or counts.old.items state 0)) }
+{
+    let at = state as usize;
+    if at < counts.len() {
+        counts[at] = counts[at].saturating_add(1);
+    }
+}
+
+/// Begins the count of a state anew.
+fn reset(counts: &mut Vec<usize>, state: u32)
+    ensures { counts.new.items ≡ slice_set counts.old.items state 0 }
+{
+    let at = state as usize;
+    if at < counts.len() {
+        counts[at] = 0;
+    }
+}
+
+/// Makes of the instances of a state what an operation makes of them.
+fn apply_to(insts: &mut InstanceList, found: Option<u32>, op: Op) -> Result<(), AllocError>
+    ensures { OnOk result (insts.new ≡ insts_after op found insts.old) }
+{
+    match op {
+        Op::Setup { .. } | Op::Remove { .. } => insts.clear(),
+        Op::Add { inst, .. } => {
+            if found.is_some() {
+                insts.add(inst)?;
+            }
+        }
+        Op::Del { inst, .. } => insts.remove(inst),
+        _ => {}
+    }
+    Ok(())
+}
+
+/// The subsystem of a state after an operation.
+fn sub_of(op: Op, found: Option<u32>) -> Option<u32>
+    ensures { result ≡ sub_after op found }
+{
+    match op {
+        Op::Setup { sub, .. } => Some(sub),
+        Op::Remove { .. } => None,
+        _ => found,
+    }
+}
+
+impl StateTally {
+    /// The states before any event: nothing is registered.
+    pub fn new(alloc: Global) -> Result<StateTally, AllocError>
+        ensures { IfOk result (λ t. (head : Head) → IsStateTally head (ONLINE + 1) [] t) }
+    {
+        let many = ONLINE as usize + 1;
+        let mut subs = Vec::new(alloc);
+        let mut insts = Vec::new(alloc);
+        for count in 0..many {
+            subs.push(None)?;
+            insts.push(InstanceList::new(alloc))?;
+        }
+        let made = vec![in alloc; 0; many]?;
+        let faults = vec![in alloc; 0; many]?;
+        Ok(StateTally {
+            asked: None,
+            subs,
+            insts,
+            made,
+            faults,
+        })
+    }
+
+    /// Counts one event more.
+    pub fn count(&mut self, event: &Event) -> Result<(), AllocError>
+        ensures asked { OnOk result (self.new.asked ≡ asked_after self.old.asked event.now) }
+        ensures subs { OnOk result (self.new.subs.items ≡ subs_after self.old.asked self.old.subs.items event.now) }
+        ensures insts { OnOk result
+            (self.new.insts.items
+            ≡ all_insts_after self.old.asked self.old.subs.items self.old.insts.items event.now) }
+        ensures made { OnOk result (self.new.made.items ≡ calls_after is_called self.old.made.items event.now) }
+        ensures faults { OnOk result (self.new.faults.items ≡ calls_after is_hook_fault self.old.faults.items event.now) }
+    {
+        match *event {
+            Event::RegBegin { state, op, .. } => {
+                self.begin(state, op);
+                Ok(())
+            }
+            Event::Call { state, how, .. } => {
+                self.call(state, how);
+                Ok(())
+            }
+            Event::RegEnd { answer, .. } => self.end(answer),
+            _ => Ok(()),
+        }
+    }
+
+    /// A registration begins.
+    fn begin(&mut self, state: u32, op: Op)
+        ensures asked { self.new.asked ≡ Some (record { state = state; op = op }) }
+        ensures subs { self.new.subs.items ≡ self.old.subs.items }
+        ensures insts { self.new.insts.items ≡ self.old.insts.items }
+        ensures made { self.new.made.items ≡ begun_anew op state self.old.made.items }
+        ensures faults { self.new.faults.items ≡ begun_anew op state self.old.faults.items }
+    {
+        if matches!(op, Op::Setup { .. }) {
+            reset(&mut self.made, state);
+            reset(&mut self.faults, state);
+        }
+        self.asked = Some(Asked { state, op });
+    }
+
+    /// An entry of a state.
+    fn call(&mut self, state: u32, how: How)
+        ensures asked { self.new.asked ≡ self.old.asked }
+        ensures subs { self.new.subs.items ≡ self.old.subs.items }
+        ensures insts { self.new.insts.items ≡ self.old.insts.items }
+        ensures made { self.new.made.items
+            ≡ (if is_called how
+            then slice_set self.old.made.items state (one_more (slice_index_or self.old.made.items state 0))
+            else self.old.made.items) }
+        ensures faults { self.new.faults.items
+            ≡ (if is_hook_fault how
+            then slice_set self.old.faults.items state (one_more (slice_index_or self.old.faults.items state 0))
+            else self.old.faults.items) }
+    {
+        if how.is_called() {
+            raise(&mut self.made, state);
+        }
+        if is_fault(how) {
+            raise(&mut self.faults, state);
+        }
+    }
+
+    /// The registration ends.
+    fn end(&mut self, answer: Answer) -> Result<(), AllocError>
+        ensures asked { OnOk result (self.new.asked ≡ None) }
+        ensures subs { OnOk result
+            (self.new.subs.items
+            ≡ (if is_ok answer then subs_applied self.old.asked self.old.subs.items else self.old.subs.items)) }
+        ensures insts { OnOk result
+            (self.new.insts.items
+            ≡ (if is_ok answer
+            then all_insts_applied self.old.asked self.old.subs.items self.old.insts.items
+            else self.old.insts.items)) }
+        ensures made { self.new.made.items ≡ self.old.made.items }
+        ensures faults { self.new.faults.items ≡ self.old.faults.items }
+    {
+        let asked = self.asked;
+        self.asked = None;
+        match asked {
+            Some(asked) if matches!(answer, Answer::Ok(_)) => self.apply(asked),
+            _ => Ok(()),
+        }
+    }
+
+    /// Makes of what is registered what an operation that is done makes of it.
+    fn apply(&mut self, asked: Asked) -> Result<(), AllocError>
+        ensures asked { self.new.asked ≡ self.old.asked }
+        ensures subs { OnOk result (self.new.subs.items ≡ subs_applied (Some asked) self.old.subs.items) }
+        ensures insts { OnOk result
+            (self.new.insts.items ≡ all_insts_applied (Some asked) self.old.subs.items self.old.insts.items) }
+        ensures made { self.new.made.items ≡ self.old.made.items }
+        ensures faults { self.new.faults.items ≡ self.old.faults.items }
+    {
+        let at = asked.state as usize;
+        let found = self.subs.get(at).copied().unwrap_or(None);
+        if at < self.insts.len() {
+            apply_to(&mut self.insts[at], found, asked.op)?;
+        }
+        if at < self.subs.len() {
+            self.subs[at] = sub_of(asked.op, found);
+        }
+        Ok(())
+    }
+}

@@ -1,0 +1,175 @@
+-- A word whose bytes are those of a first word is that first word, and its row says what the table says.
+use Rattle.std.proofs.Common.{◌≡◌, ℕ, Bool, true, false, cond, List, [], ◌∷◌, map, length, Option, Some, None, refl, sym, ap, ◌∙◌}
+use Rattle.std.specs.Prelude.{find}
+use Rattle.std.specs.Str.{bytes_eq}
+use Rattle.std.proofs.lemmas.Slice.Eq.{HasBytesAt, text_from_reads}
+use Rattle.hp_event.specs.declared.op.Op.{Op}
+use Rattle.hp_event.specs.declared.op.Op.TheVariants as op
+use Rattle.hp_event.specs.declared.event.Event.{Event}
+use Rattle.hp_event.specs.declared.event.Event.TheVariants as event
+use Rattle.hp_replay.specs.declared.first_word.EventWord.{EventWord}
+use Rattle.hp_replay.specs.declared.first_word.EventWord.TheVariants as event_word
+use Rattle.hp_replay.specs.declared.first_word.OpWord.{OpWord}
+use Rattle.hp_replay.specs.declared.first_word.OpWord.TheVariants as op_word
+use Rattle.hp_replay.specs.Readers.{Tail, Row, done, row, row_of}
+use Rattle.hp_replay.specs.Tails.{numbered, valued}
+use Rattle.hp_replay.specs.OpAt.{show_tail, setup_tail, remove_tail, add_tail, del_tail, freeze_tail, op_rows, op as op_at}
+use Rattle.hp_replay.specs.EventAt.{admit_tail, enter_tail, refused_tail, walk_tail, call_tail, walked_tail, done_tail, reg_tail, regged_tail, armed_tail, shown_tail, event_rows, event as event_at}
+use Rattle.hp_replay.specs.WordsLeft.{first_of, others_of}
+use Rattle.hp_replay.specs.FirstWords.{text_of_event, event_words, event_word_of, text_of_op, op_words, op_word_of}
+use Rattle.hp_replay.proofs.Rows.{by_row}
+
+-- ---- a table that is made of words
+
+abbrev rows_of : {V X : Type 0} → (V → List ℕ) → (V → Tail X) → List V → List (Row X)
+rows_of text tail vs = map (λ v. row (text v) (tail v)) vs
+
+found_by : {V X : Type 0} (text : V → List ℕ) (tail : V → Tail X) (u : V) (us : List V) (w : List ℕ) (ws : List (List ℕ)) (v : V) →
+    (Some v ≡ find (λ x. bytes_eq w (text x)) us → tail v ws ≡ row_of (rows_of text tail us) w ws) →
+    (t : Bool) → Some v ≡ cond t (Some u) (find (λ x. bytes_eq w (text x)) us) → tail v ws ≡ cond t (tail u ws) (row_of (rows_of text tail us) w ws)
+found_by text tail u us w ws v more true h = let same : v ≡ u = cc in ap (λ x. tail x ws) same
+found_by text tail u us w ws v more false h = more h
+
+found : {V X : Type 0} (text : V → List ℕ) (tail : V → Tail X) (vs : List V) (w : List ℕ) (ws : List (List ℕ)) (v : V) →
+    Some v ≡ find (λ u. bytes_eq w (text u)) vs → tail v ws ≡ row_of (rows_of text tail vs) w ws
+found text tail [] w ws v e = absurd cc
+found text tail (u ∷ us) w ws v e = found_by text tail u us w ws v (found text tail us w ws v) (bytes_eq w (text u)) e
+
+unknown_by : {V X : Type 0} (text : V → List ℕ) (tail : V → Tail X) (u : V) (us : List V) (w : List ℕ) (ws : List (List ℕ)) →
+    (None ≡ find (λ x. bytes_eq w (text x)) us → None ≡ row_of (rows_of text tail us) w ws) →
+    (t : Bool) → None ≡ cond t (Some u) (find (λ x. bytes_eq w (text x)) us) → None ≡ cond t (tail u ws) (row_of (rows_of text tail us) w ws)
+unknown_by text tail u us w ws more true h = absurd cc
+unknown_by text tail u us w ws more false h = more h
+
+unknown : {V X : Type 0} (text : V → List ℕ) (tail : V → Tail X) (vs : List V) (w : List ℕ) (ws : List (List ℕ)) →
+    None ≡ find (λ u. bytes_eq w (text u)) vs → None ≡ row_of (rows_of text tail vs) w ws
+unknown text tail [] w ws e = refl
+unknown text tail (u ∷ us) w ws e = unknown_by text tail u us w ws (unknown text tail us w ws) (bytes_eq w (text u)) e
+
+-- ---- event lines
+
+of_its_text : (v : EventWord) → ◌≡◌ {A = Option EventWord} (Some v) (event_word_of (text_of_event v))
+unfolding event_word_of
+of_its_text event_word.Admit = refl
+of_its_text event_word.Leave = refl
+of_its_text event_word.Enter = refl
+of_its_text event_word.Refused = refl
+of_its_text event_word.Walk = refl
+of_its_text event_word.Call = refl
+of_its_text event_word.Walked = refl
+of_its_text event_word.Done = refl
+of_its_text event_word.Reg = refl
+of_its_text event_word.Regged = refl
+of_its_text event_word.Lock = refl
+of_its_text event_word.Unlock = refl
+of_its_text event_word.Armed = refl
+of_its_text event_word.Shown = refl
+of_its_text event_word.Wakeup = refl
+
+pub is_event_word : (v : EventWord) (word : List ℕ) → length word ≡ length (text_of_event v) → HasBytesAt word 0 (text_of_event v) → ◌≡◌ {A = Option EventWord} (Some v) (event_word_of word)
+is_event_word v word count bytes = of_its_text v ∙ sym (ap event_word_of (text_from_reads word (text_of_event v) count bytes))
+
+abbrev pub event_tail : EventWord → Tail Event
+event_tail event_word.Admit = admit_tail
+event_tail event_word.Leave = numbered (λ seat. event.Leave seat)
+event_tail event_word.Enter = enter_tail
+event_tail event_word.Refused = refused_tail
+event_tail event_word.Walk = walk_tail
+event_tail event_word.Call = call_tail
+event_tail event_word.Walked = walked_tail
+event_tail event_word.Done = done_tail
+event_tail event_word.Reg = reg_tail
+event_tail event_word.Regged = regged_tail
+event_tail event_word.Lock = numbered (λ seat. event.ReadLock seat)
+event_tail event_word.Unlock = numbered (λ seat. event.ReadUnlock seat)
+event_tail event_word.Armed = armed_tail
+event_tail event_word.Shown = shown_tail
+event_tail event_word.Wakeup = numbered (λ seat. event.Wakeup seat)
+
+event_says : (v : EventWord) (words : List (List ℕ)) (word : List ℕ) → Some word ≡ first_of words → Some v ≡ event_word_of word → event_tail v (others_of words) ≡ event_at words
+unfolding event_word_of event_at
+event_says v words word first is = found text_of_event event_tail event_words word (others_of words) v is ∙ by_row event_rows words word first
+
+-- what a row says of the words behind its first word is what the table says
+pub event_row : (v : EventWord) (words rest : List (List ℕ)) (word : List ℕ) (u : EventWord) (said : Option Event) →
+    Some word ≡ first_of words → rest ≡ others_of words → Some u ≡ event_word_of word → u ≡ v → said ≡ event_tail v rest → said ≡ event_at words
+event_row v words rest word u said first behind is same says =
+    let known : Some v ≡ event_word_of word = ap (λ x. Some x) (sym same) ∙ is in
+    says ∙ ap (event_tail v) behind ∙ event_says v words word first known
+
+-- no word says nothing
+pub no_event : (words : List (List ℕ)) → None ≡ first_of words → None ≡ event_at words
+unfolding event_at
+no_event [] e = refl
+no_event (w ∷ ws) e = absurd cc
+
+-- and neither does another first word
+pub other_event : (words : List (List ℕ)) (word : List ℕ) → Some word ≡ first_of words → None ≡ event_word_of word → None ≡ event_at words
+unfolding event_word_of event_at
+other_event words word first is = unknown text_of_event event_tail event_words word (others_of words) is ∙ by_row event_rows words word first
+
+-- ---- operations
+
+op_of_its_text : (v : OpWord) → ◌≡◌ {A = Option OpWord} (Some v) (op_word_of (text_of_op v))
+unfolding op_word_of
+op_of_its_text op_word.Up = refl
+op_of_its_text op_word.Down = refl
+op_of_its_text op_word.Target = refl
+op_of_its_text op_word.Fail = refl
+op_of_its_text op_word.Show = refl
+op_of_its_text op_word.Setup = refl
+op_of_its_text op_word.Remove = refl
+op_of_its_text op_word.Add = refl
+op_of_its_text op_word.Del = refl
+op_of_its_text op_word.Lock = refl
+op_of_its_text op_word.Unlock = refl
+op_of_its_text op_word.Boot = refl
+op_of_its_text op_word.Disable = refl
+op_of_its_text op_word.Enable = refl
+op_of_its_text op_word.Freeze = refl
+op_of_its_text op_word.Thaw = refl
+op_of_its_text op_word.Wakeup = refl
+
+pub is_op_word : (v : OpWord) (word : List ℕ) → length word ≡ length (text_of_op v) → HasBytesAt word 0 (text_of_op v) → ◌≡◌ {A = Option OpWord} (Some v) (op_word_of word)
+is_op_word v word count bytes = op_of_its_text v ∙ sym (ap op_word_of (text_from_reads word (text_of_op v) count bytes))
+
+abbrev pub op_tail : OpWord → Tail Op
+op_tail op_word.Up = numbered (λ cpu. op.Up cpu)
+op_tail op_word.Down = numbered (λ cpu. op.Down cpu)
+op_tail op_word.Target = valued (λ cpu value. op.Target cpu value)
+op_tail op_word.Fail = valued (λ cpu value. op.Arm cpu value)
+op_tail op_word.Show = show_tail
+op_tail op_word.Setup = setup_tail
+op_tail op_word.Remove = remove_tail
+op_tail op_word.Add = add_tail
+op_tail op_word.Del = del_tail
+op_tail op_word.Lock = done op.Lock
+op_tail op_word.Unlock = done op.Unlock
+op_tail op_word.Boot = numbered (λ most. op.Boot most)
+op_tail op_word.Disable = done op.Disable
+op_tail op_word.Enable = done op.Enable
+op_tail op_word.Freeze = freeze_tail
+op_tail op_word.Thaw = done op.Thaw
+op_tail op_word.Wakeup = done op.Wakeup
+
+op_says : (v : OpWord) (words : List (List ℕ)) (word : List ℕ) → Some word ≡ first_of words → Some v ≡ op_word_of word → op_tail v (others_of words) ≡ op_at words
+unfolding op_word_of op_at
+op_says v words word first is = found text_of_op op_tail op_words word (others_of words) v is ∙ by_row op_rows words word first
+
+-- what a row says of the words behind its first word is what the table says
+pub op_row : (v : OpWord) (words rest : List (List ℕ)) (word : List ℕ) (u : OpWord) (said : Option Op) →
+    Some word ≡ first_of words → rest ≡ others_of words → Some u ≡ op_word_of word → u ≡ v → said ≡ op_tail v rest → said ≡ op_at words
+op_row v words rest word u said first behind is same says =
+    let known : Some v ≡ op_word_of word = ap (λ x. Some x) (sym same) ∙ is in
+    says ∙ ap (op_tail v) behind ∙ op_says v words word first known
+
+-- no word says nothing
+pub no_op : (words : List (List ℕ)) → None ≡ first_of words → None ≡ op_at words
+unfolding op_at
+no_op [] e = refl
+no_op (w ∷ ws) e = absurd cc
+
+-- and neither does another first word
+pub other_op : (words : List (List ℕ)) (word : List ℕ) → Some word ≡ first_of words → None ≡ op_word_of word → None ≡ op_at words
+unfolding op_word_of op_at
+other_op words word first is = unknown text_of_op op_tail op_words word (others_of words) is ∙ by_row op_rows words word first

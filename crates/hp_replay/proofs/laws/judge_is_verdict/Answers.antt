@@ -1,0 +1,9 @@
+use Rattle.hp_replay.specs.InputLines.{lines_of}
+use Rattle.hp_replay.specs.Stages.{begins}
+use Rattle.hp_replay.specs.Judge.{judge}
+use Rattle.hp_replay.proofs.VerdictLaws.{judged_is_verdict}
+use Rattle.hp_replay.proofs.JudgeLaws.{judge_is_judged}
+use Rattle.hp_replay.proofs.laws.judge_is_verdict.Goals as goal
+
+pub returns : goal.returns
+returns c = λ can is. judged_is_verdict c.args.input.now (judge can begins 1 (lines_of c.args.input.now)) (judge_is_judged can is (lines_of c.args.input.now))

@@ -1,0 +1,60 @@
+-- What the reader of a journal answers to an input, in the words of its grammar: a lawful journal, where the bytes are
+-- its text, or its text and its summary; else the first line that can't stand, counted from 1, and its kind; where
+-- all lines can stand and the input ends too early, the line after the last. This project's own.
+use Rattle.std.specs.Prelude.{◌≡◌, ◌⊎◌, ℕ, ◌+◌, ◌<◌, ◌≤◌, List, [], ◌∷◌, ◌++◌, length}
+use Rattle.hp_states.specs.declared.limits.TheConstants.{MAX_JOURNAL_BYTES}
+use Rattle.hp_event.specs.declared.head.Head.{Head}
+use Rattle.hp_event.specs.declared.event.Event.{Event}
+use Rattle.hp_model.specs.JournalText.{journal_text}
+use Rattle.hp_model.specs.Summary.{summary}
+use Rattle.hp_replay.specs.declared.error.ReplayKind.{ReplayKind}
+use Rattle.hp_replay.specs.declared.error.ReplayKind.TheVariants.{TooLong, Missing}
+use Rattle.hp_replay.specs.declared.error.ReplayError.{ReplayError}
+use Rattle.hp_replay.specs.declared.error.ReplayError.TheVariants.{Bad, NoMemory}
+use Rattle.hp_replay.specs.InputLines.{lines_of}
+use Rattle.hp_replay.specs.CanStand.{IsJournal, CanStand}
+use Rattle.hp_replay.specs.Kinds.{kind_of}
+use Rattle.hp_replay.specs.Judged.{Outcome, accepted, refused}
+
+-- the bytes are the text of this journal, or its text and its summary
+abbrev pub IsTextOrBoth : (bytes : List ℕ) → Head → List Event → Type 0
+IsTextOrBoth bytes head events = (bytes ≡ journal_text head events) ⊎ (bytes ≡ journal_text head events ++ summary head events)
+
+-- and the journal is a lawful one
+pub record IsTextOf (bytes : List ℕ) (head : Head) (events : List Event) : Type 0 where
+  pub journal : IsJournal head events
+  pub bytes_are : IsTextOrBoth bytes head events
+
+-- the lines before this one can stand, and with it they can't
+pub record IsFirstBad (lines : List (List ℕ)) (number : ℕ) (kind : ReplayKind) : Type 0 where
+  pub before : List (List ℕ)
+  pub line : List ℕ
+  pub others : List (List ℕ)
+  pub lines_are : lines ≡ before ++ line ∷ others
+  pub number_is : number ≡ length before + 1
+  pub stood : CanStand before
+  pub cannot : CanStand (before ++ line ∷ []) → ⊥
+  pub kind_is : kind ≡ kind_of before line
+
+-- all lines can stand, and they are no whole text
+pub record IsCutOff (bytes : List ℕ) (number : ℕ) (kind : ReplayKind) : Type 0 where
+  pub number_is : number ≡ length (lines_of bytes) + 1
+  pub kind_is : kind ≡ Missing
+  pub stood : CanStand (lines_of bytes)
+  pub no_text : (head : Head) (events : List Event) → IsTextOf bytes head events → ⊥
+
+-- for an input that isn't too long
+abbrev pub IsVerdict : (bytes : List ℕ) → Outcome → Type 0
+IsVerdict bytes (accepted head events) = IsTextOf bytes head events
+IsVerdict bytes (refused n kind) = IsFirstBad (lines_of bytes) n kind ⊎ IsCutOff bytes n kind
+
+-- for any input
+abbrev pub IsReplay : (bytes : List ℕ) → Outcome → Type 0
+IsReplay bytes o =
+    ((MAX_JOURNAL_BYTES < length bytes) × (o ≡ refused 0 TooLong))
+    ⊎ ((length bytes ≤ MAX_JOURNAL_BYTES) × IsVerdict bytes o)
+
+-- of an error: it is the verdict on the input, but where memory was wanting
+abbrev pub IsRefusal : (bytes : List ℕ) → ReplayError → Type 0
+IsRefusal bytes (Bad n kind) = IsReplay bytes (refused n kind)
+IsRefusal bytes NoMemory = Unit {0}

@@ -1,0 +1,19 @@
+-- The words that a reader has before it: the pieces between the spaces of the bytes that are left, where any are. This
+-- project's own.
+use Rattle.std.specs.Prelude.{ℕ, ◌==◌, List, [], ◌∷◌, Option, Some, None}
+use Rattle.std.specs.Borrow.{Bor}
+use Rattle.std.specs.List.{slice_split}
+
+abbrev pub words_left : Option (Bor (List ℕ)) → List (List ℕ)
+words_left None = []
+words_left (Some b) = slice_split (λ x. x == 32) b.now
+
+-- the first word
+abbrev pub first_of : List (List ℕ) → Option (List ℕ)
+first_of [] = None
+first_of (w ∷ ws) = Some w
+
+-- those behind it
+abbrev pub others_of : List (List ℕ) → List (List ℕ)
+others_of [] = []
+others_of (w ∷ ws) = ws

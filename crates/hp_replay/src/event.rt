@@ -1,0 +1,295 @@
+//! The event that a line says.
+
+ghost use Rattle.std.specs.Prelude.{◌≡◌};
+ghost use Rattle.hp_event.specs.declared.event.Role.TheVariants as role;
+ghost use Rattle.hp_event.specs.declared.event.File.TheVariants as file;
+ghost use Rattle.hp_event.specs.declared.event.Event.TheVariants as event;
+ghost use Rattle.hp_replay.specs.Tails.{numbered, valued};
+ghost use Rattle.hp_replay.specs.EventAt.{direction as direction_at, role as role_at, admit_tail, enter_tail, refused_tail, way_tail, walk_tail, made_tail, entry_tail, call_tail, walked_tail, done_tail, reg_tail, regged_tail, armed_tail, shown_states_tail, file_tail, shown_tail, event as event_tail, event_at};
+
+use crate::answer::{answer, how, walk_answer};
+use crate::first_word::{EventWord, event_word};
+use crate::line::Line;
+use crate::numbers::{integer, number};
+use crate::op::op;
+use crate::words::Words;
+use hp_event::{Event, File, Key, Role};
+use hp_states::Dir;
+
+/// The direction that a word says.
+#[tactic(auto, unfolding(crate::specs::EventAt::direction))]
+pub fn direction(word: &[u8]) -> Option<Dir>
+    ensures { result ≡ direction_at word.now }
+{
+    match word {
+        b"up" => Some(Dir::Up),
+        b"down" => Some(Dir::Down),
+        _ => None,
+    }
+}
+
+/// The words behind `ap`.
+fn ap(words: &mut Words<'_>) -> Option<Role>
+    ensures { result ≡ numbered (λ cpu. role.Ap cpu) words.old }
+{
+    let cpu = number(words.next()?)?;
+    words.done(Role::Ap(cpu))
+}
+
+/// The role that the words say which are left.
+#[tactic(auto, unfolding(crate::specs::EventAt::role))]
+fn role(words: &mut Words<'_>) -> Option<Role>
+    ensures { result ≡ role_at words.old }
+{
+    match words.next()? {
+        b"client" => words.done(Role::Client),
+        b"ap" => ap(words),
+        _ => None,
+    }
+}
+
+/// The words behind `admit`.
+fn admit(words: &mut Words<'_>) -> Option<Event>
+    ensures { result ≡ admit_tail words.old }
+{
+    let seat = number(words.next()?)?;
+    let role = role(words)?;
+    Some(Event::Admit { seat, role })
+}
+
+/// The words behind `leave`.
+fn leave(words: &mut Words<'_>) -> Option<Event>
+    ensures { result ≡ numbered (λ seat. event.Leave seat) words.old }
+{
+    let seat = number(words.next()?)?;
+    words.done(Event::Leave { seat })
+}
+
+/// The words behind `enter`.
+fn enter(words: &mut Words<'_>) -> Option<Event>
+    ensures { result ≡ enter_tail words.old }
+{
+    let seat = number(words.next()?)?;
+    let op = op(words)?;
+    Some(Event::Enter { seat, op })
+}
+
+/// The words behind `refused`.
+fn refused(words: &mut Words<'_>) -> Option<Event>
+    ensures { result ≡ refused_tail words.old }
+{
+    let seat = number(words.next()?)?;
+    let errno = number(words.next()?)?;
+    let op = op(words)?;
+    Some(Event::Refused { seat, errno, op })
+}
+
+/// From where a processor's walk goes, and to where.
+fn way(seat: u32, cpu: u32, words: &mut Words<'_>) -> Option<Event>
+    ensures { result ≡ way_tail seat cpu words.old }
+{
+    let from = number(words.next()?)?;
+    let to = number(words.next()?)?;
+    words.done(Event::WalkBegin {
+        seat,
+        cpu,
+        from,
+        to,
+    })
+}
+
+/// The words behind `walk`.
+fn walk(words: &mut Words<'_>) -> Option<Event>
+    ensures { result ≡ walk_tail words.old }
+{
+    let seat = number(words.next()?)?;
+    let cpu = number(words.next()?)?;
+    way(seat, cpu, words)
+}
+
+/// In which direction an entry of this key goes, and how it was made.
+fn made(seat: u32, cpu: u32, key: Key, words: &mut Words<'_>) -> Option<Event>
+    ensures { result ≡ made_tail seat cpu key.state key.inst words.old }
+{
+    let dir = direction(words.next()?)?;
+    let how = how(words)?;
+    Some(Event::Call {
+        seat,
+        cpu,
+        state: key.state,
+        inst: key.inst,
+        dir,
+        how,
+    })
+}
+
+/// The key of an entry, its direction, and how it was made.
+fn entry(seat: u32, cpu: u32, words: &mut Words<'_>) -> Option<Event>
+    ensures { result ≡ entry_tail seat cpu words.old }
+{
+    let state = number(words.next()?)?;
+    let inst = number(words.next()?)?;
+    made(seat, cpu, Key { state, inst }, words)
+}
+
+/// The words behind `call`.
+fn call(words: &mut Words<'_>) -> Option<Event>
+    ensures { result ≡ call_tail words.old }
+{
+    let seat = number(words.next()?)?;
+    let cpu = number(words.next()?)?;
+    entry(seat, cpu, words)
+}
+
+/// The words behind `walked`.
+fn walked(words: &mut Words<'_>) -> Option<Event>
+    ensures { result ≡ walked_tail words.old }
+{
+    let seat = number(words.next()?)?;
+    let cpu = number(words.next()?)?;
+    let answer = walk_answer(words)?;
+    Some(Event::WalkEnd { seat, cpu, answer })
+}
+
+/// The words behind `done`.
+fn done(words: &mut Words<'_>) -> Option<Event>
+    ensures { result ≡ done_tail words.old }
+{
+    let seat = number(words.next()?)?;
+    let answer = answer(words)?;
+    Some(Event::OpEnd { seat, answer })
+}
+
+/// The words behind `reg`.
+fn reg(words: &mut Words<'_>) -> Option<Event>
+    ensures { result ≡ reg_tail words.old }
+{
+    let seat = number(words.next()?)?;
+    let state = number(words.next()?)?;
+    let op = op(words)?;
+    Some(Event::RegBegin { seat, state, op })
+}
+
+/// The words behind `regged`.
+fn regged(words: &mut Words<'_>) -> Option<Event>
+    ensures { result ≡ regged_tail words.old }
+{
+    let seat = number(words.next()?)?;
+    let answer = answer(words)?;
+    Some(Event::RegEnd { seat, answer })
+}
+
+/// The words behind `lock`.
+fn lock(words: &mut Words<'_>) -> Option<Event>
+    ensures { result ≡ numbered (λ seat. event.ReadLock seat) words.old }
+{
+    let seat = number(words.next()?)?;
+    words.done(Event::ReadLock { seat })
+}
+
+/// The words behind `unlock`.
+fn unlock(words: &mut Words<'_>) -> Option<Event>
+    ensures { result ≡ numbered (λ seat. event.ReadUnlock seat) words.old }
+{
+    let seat = number(words.next()?)?;
+    words.done(Event::ReadUnlock { seat })
+}
+
+/// The words behind `armed`.
+fn armed(words: &mut Words<'_>) -> Option<Event>
+    ensures { result ≡ armed_tail words.old }
+{
+    let seat = number(words.next()?)?;
+    let cpu = number(words.next()?)?;
+    let value = integer(words.next()?)?;
+    words.done(Event::Armed { seat, cpu, value })
+}
+
+/// The words behind the name of a processor's file.
+fn shown_of(seat: u32, file: File, words: &mut Words<'_>) -> Option<Event>
+    ensures { result ≡ valued (λ cpu value. event.Shown seat file cpu value) words.old }
+{
+    let cpu = number(words.next()?)?;
+    let value = integer(words.next()?)?;
+    words.done(Event::Shown {
+        seat,
+        file,
+        cpu,
+        value,
+    })
+}
+
+/// The words behind `states`.
+fn shown_states(seat: u32, words: &mut Words<'_>) -> Option<Event>
+    ensures { result ≡ shown_states_tail seat words.old }
+{
+    let value = integer(words.next()?)?;
+    words.done(Event::Shown {
+        seat,
+        file: File::States,
+        cpu: 0,
+        value,
+    })
+}
+
+/// A file that was shown to this seat.
+fn shown_file(seat: u32, words: &mut Words<'_>) -> Option<Event>
+    ensures { result ≡ file_tail seat words.old }
+{
+    match words.next()? {
+        b"state" => shown_of(seat, File::State, words),
+        b"target" => shown_of(seat, File::Target, words),
+        b"fail" => shown_of(seat, File::Fail, words),
+        b"states" => shown_states(seat, words),
+        _ => None,
+    }
+}
+
+/// The words behind `shown`.
+fn shown(words: &mut Words<'_>) -> Option<Event>
+    ensures { result ≡ shown_tail words.old }
+{
+    let seat = number(words.next()?)?;
+    shown_file(seat, words)
+}
+
+/// The words behind `wakeup`.
+fn wakeup(words: &mut Words<'_>) -> Option<Event>
+    ensures { result ≡ numbered (λ seat. event.Wakeup seat) words.old }
+{
+    let seat = number(words.next()?)?;
+    words.done(Event::Wakeup { seat })
+}
+
+/// The event that a line says.
+#[tactic(auto, unfolding(crate::specs::EventAt::event_at))]
+pub fn event_of_line(line: &Line<'_>) -> Option<Event>
+    ensures { result ≡ event_at line.now.bytes.now }
+{
+    let mut words = line.words()?;
+    event(&mut words)
+}
+
+/// The event that the words say which are left.
+fn event(words: &mut Words<'_>) -> Option<Event>
+    ensures { result ≡ event_tail words.old }
+{
+    let word = words.next()?;
+    match event_word(word)? {
+        EventWord::Admit => admit(words),
+        EventWord::Leave => leave(words),
+        EventWord::Enter => enter(words),
+        EventWord::Refused => refused(words),
+        EventWord::Walk => walk(words),
+        EventWord::Call => call(words),
+        EventWord::Walked => walked(words),
+        EventWord::Done => done(words),
+        EventWord::Reg => reg(words),
+        EventWord::Regged => regged(words),
+        EventWord::Lock => lock(words),
+        EventWord::Unlock => unlock(words),
+        EventWord::Armed => armed(words),
+        EventWord::Shown => shown(words),
+        EventWord::Wakeup => wakeup(words),
+    }
+}

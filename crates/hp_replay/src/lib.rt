@@ -1,0 +1,49 @@
+//! The reader and checker of a printed journal.
+//!
+//! `check_with` reads the text of a journal, with or without its summary, and answers the journal,
+//! or the first line that can't stand and why. Which event can stand next is said by a machine, any
+//! `Checker`; all else is decided here. Lines are slices of the input, and nothing is copied but the
+//! head and the events.
+//!
+//! To read the definitions, take `specs/Numbers.antt`, `LineWords`, `Readers`, `OpAt` and `EventAt`,
+//! which read a line by the grammar, apart from how it is printed; `HeadWords`, `HeadLines` and
+//! `EndAt` for the lines round the events. `Verdict` says the answer in the grammar's own words: a
+//! lawful journal, where the bytes are its text or its text and its summary, or the first line that
+//! can't stand, with its kind (`Kinds`); which lines can stand says `CanStand`. `Judged` says the
+//! answer line by line, as a reader finds it, by the stages of `Stages`. That both are the same is
+//! the contract of `judged_is_verdict`. `LinesLeft`, `WordsLeft`, `FirstWords` and `Reading` are what
+//! the clauses of the code say on the way.
+//!
+//! The functions of `laws` have no work to do: their contracts are laws, which callers cite.
+#![tactic(auto)]
+
+mod answer;
+mod check;
+mod checker;
+mod end;
+mod error;
+mod event;
+mod events;
+mod first_word;
+mod fits;
+mod head;
+mod head_lines;
+mod head_words;
+mod laws;
+mod line;
+mod numbers;
+mod op;
+mod summary_lines;
+#[cfg(test)]
+mod tests;
+mod words;
+
+pub use check::check_with;
+pub use checker::Checker;
+pub use error::{ReplayError, ReplayKind};
+pub use fits::{event_fits, events_fit};
+pub use laws::{
+    absent_line, accepted_is_text, cpus_line, end_line, event_is_read, head_line, judge_is_verdict,
+    judged_is_verdict, line_says_one, read_event_is_spelled, standing_is_spelled, text_is_accepted,
+    text_says_one,
+};

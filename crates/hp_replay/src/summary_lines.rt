@@ -1,0 +1,57 @@
+//! The lines behind the `end` line: none, or those of the journal's summary.
+
+ghost use Rattle.std.specs.Prelude.{List, OnOk, IfErr};
+ghost use Rattle.hp_event.specs.declared.head.Head.{Head as AHead};
+ghost use Rattle.hp_event.specs.declared.event.Event.{Event as AnEvent};
+ghost use Rattle.hp_replay.specs.InputLines.{lines_of};
+ghost use Rattle.hp_replay.specs.Stages.{whole, among_summary};
+ghost use Rattle.hp_replay.specs.Judged.{accepted, Judged};
+ghost use Rattle.hp_replay.specs.Reading.{RefusedFrom};
+
+use crate::error::{ReplayError, ReplayKind};
+use crate::line::{Lines, line_end};
+use hp_event::Journal;
+use hp_print::summary;
+use std::alloc::Global;
+
+/// Compares the lines that are left with those of a summary, of whichever journal it is.
+fn compare(text: &[u8], lines: &mut Lines<'_>) -> Result<(), ReplayError>
+    ensures same { OnOk result ((head : AHead) (events : List AnEvent) →
+        Judged (among_summary head events (lines_of text.now)) lines.old.number lines.old.lines
+        (accepted head events)) }
+    ensures bad { IfErr result (λ e. (head : AHead) (events : List AnEvent) →
+        RefusedFrom (among_summary head events (lines_of text.now)) lines.old e) }
+{
+    let mut rest = text;
+    while !rest.is_empty() {
+        let (wanted, others) = rest.split_at(line_end(rest));
+        let line = lines.expect()?;
+        if line.bytes != wanted {
+            return Err(line.bad(ReplayKind::Trailing));
+        }
+        rest = others;
+    }
+    match lines.next() {
+        None => Ok(()),
+        Some(line) => Err(line.bad(ReplayKind::Trailing)),
+    }
+}
+
+/// Takes the lines that are left behind the `end` line of a journal's text. The summary is printed
+/// only where there is one.
+pub fn read_summary(
+    alloc: Global,
+    journal: &Journal,
+    lines: &mut Lines<'_>,
+) -> Result<(), ReplayError>
+    ensures ok { OnOk result
+        (Judged (whole journal.now.head journal.now.events) lines.old.number lines.old.lines
+        (accepted journal.now.head journal.now.events)) }
+    ensures bad { IfErr result (RefusedFrom (whole journal.now.head journal.now.events) lines.old) }
+{
+    if lines.is_done() {
+        return Ok(());
+    }
+    let text = summary(alloc, journal)?;
+    compare(text.as_slice(), lines)
+}

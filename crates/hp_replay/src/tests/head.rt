@@ -1,0 +1,161 @@
+//! Texts that are refused before their first event, read with a machine that never starts.
+
+use crate::{Checker, ReplayError, ReplayKind, check_with};
+use hp_event::{Event, Head};
+use hp_states::NoMemory;
+use std::alloc::Global;
+use std::test::*;
+
+/// A machine for which memory is always wanting, so that there is none.
+#[derive(Drop)]
+struct NoMachine {
+    ghost never: { ⊥ },
+}
+
+impl Checker for NoMachine {
+    ghost use Rattle.std.specs.Prelude.{[]};
+
+    ghost head_of = { λ _. record { possible = 0; absent = []; subs = [] } };
+
+    ghost events_of = { λ _. [] };
+
+    fn start(_alloc: Global, _head: &Head) -> Result<NoMachine, NoMemory> {
+        Err(NoMemory)
+    }
+
+    fn can_stand(&self, _event: &Event) -> bool {
+        false
+    }
+
+    fn take(&mut self, _event: &Event) -> Result<(), NoMemory> {
+        Err(NoMemory)
+    }
+}
+
+const HEADER: ReplayKind = ReplayKind::Header;
+
+const MISSING: ReplayKind = ReplayKind::Missing;
+
+/// Texts, each with the line that is refused and the kind.
+const REFUSED: [(&'static [u8], u32, ReplayKind); 26] = [
+    (b"", 1, MISSING),
+    (b"\n", 1, HEADER),
+    (b"cpuhp journal 1", 1, HEADER),
+    (b"cpuhp journal 9\n", 1, HEADER),
+    (b"cpuhp  journal 1\n", 1, HEADER),
+    (b"cpuhp journal 1\n", 2, MISSING),
+    (b"cpuhp journal 1\ncpus 0\n", 2, HEADER),
+    (b"cpuhp journal 1\ncpus 65\n", 2, HEADER),
+    (b"cpuhp journal 1\ncpus 02\n", 2, HEADER),
+    (b"cpuhp journal 1\ncpus 2", 2, HEADER),
+    (b"cpuhp journal 1\ncpus 64\n", 3, MISSING),
+    (b"cpuhp journal 1\ncpus 2\nabsent\n", 3, HEADER),
+    (b"cpuhp journal 1\ncpus 2\nabsent 0\n", 3, HEADER),
+    (b"cpuhp journal 1\ncpus 2\nabsent 2\n", 3, HEADER),
+    (b"cpuhp journal 1\ncpus 1\nabsent 1\n", 3, HEADER),
+    (b"cpuhp journal 1\ncpus 4\nabsent 3 2\n", 3, HEADER),
+    (b"cpuhp journal 1\ncpus 4\nabsent 2 2\n", 3, HEADER),
+    (b"cpuhp journal 1\ncpus 4\nabsent - 2\n", 3, HEADER),
+    (b"cpuhp journal 1\ncpus 4\nabsent 1 2 3\n", 4, MISSING),
+    (
+        b"cpuhp journal 1\ncpus 2\nabsent -\nrule up * * * 5\n",
+        4,
+        HEADER,
+    ),
+    (
+        b"cpuhp journal 1\ncpus 2\nabsent -\nsub a both\n",
+        4,
+        HEADER,
+    ),
+    (
+        b"cpuhp journal 1\ncpus 2\nabsent -\nsub a,b both single\n",
+        4,
+        HEADER,
+    ),
+    (
+        b"cpuhp journal 1\ncpus 2\nabsent -\nsub - none multi\nrule up 256 * * 5\n",
+        5,
+        HEADER,
+    ),
+    (
+        b"cpuhp journal 1\ncpus 2\nabsent -\nsub - none multi\nrule up * * 0 5\n",
+        5,
+        HEADER,
+    ),
+    (
+        b"cpuhp journal 1\ncpus 2\nabsent -\nsub - none multi\nrule up * * * 4096\n",
+        5,
+        HEADER,
+    ),
+    (
+        b"cpuhp journal 1\ncpus 2\nabsent -\nadmit 0 ap 0\n",
+        4,
+        HEADER,
+    ),
+];
+
+#[test]
+fn what_stands_before_the_events(rt: HostRuntime) {
+    for (bytes, line, kind) in REFUSED {
+        let answer = check_with::<NoMachine>(rt.alloc(), bytes);
+        assert!(rt; answer.err() == Some(ReplayError::Bad { line, kind }));
+    }
+}
+
+/// Eight rules of a subsystem, and one more.
+const RULES: &'static [u8] =
+    b"cpuhp journal 1\ncpus 2\nabsent -\nsub a both single\nrule up * * * 1\nrule up * * * 2\nrule up * * * 3\nrule up * * * 4\nrule up * * * 5\nrule up * * * 6\nrule up * * * 7\nrule up * * * 8\nrule up * * * 9\nevents\n";
+
+#[test]
+fn a_ninth_rule(rt: HostRuntime) {
+    let answer = check_with::<NoMachine>(rt.alloc(), RULES);
+    let wanted = ReplayError::Bad {
+        line: 13,
+        kind: HEADER,
+    };
+    assert!(rt; answer.err() == Some(wanted));
+}
+
+#[test]
+fn a_head_alone_wants_a_machine(rt: HostRuntime) {
+    let bytes = b"cpuhp journal 1\ncpus 2\nabsent -\nevents\n";
+    let answer = check_with::<NoMachine>(rt.alloc(), bytes);
+    assert!(rt; answer.err() == Some(ReplayError::NoMemory));
+}
+
+/// One more subsystem than a head may have.
+fn many_subs(alloc: Global, subs: u32) -> Result<Vec<u8>, Fail> {
+    let mut text = Vec::new(alloc);
+    text.extend_from_slice(b"cpuhp journal 1\ncpus 2\nabsent -\n")?;
+    for _ in 0..subs {
+        text.extend_from_slice(b"sub a both single\n")?;
+    }
+    text.extend_from_slice(b"events\n")?;
+    Ok(text)
+}
+
+#[test]
+fn so_many_subsystems(rt: HostRuntime) -> Result<(), Fail> {
+    let text = many_subs(rt.alloc(), 128)?;
+    let answer = check_with::<NoMachine>(rt.alloc(), text.as_slice());
+    assert!(rt; answer.err() == Some(ReplayError::NoMemory));
+    let text = many_subs(rt.alloc(), 129)?;
+    let answer = check_with::<NoMachine>(rt.alloc(), text.as_slice());
+    let wanted = ReplayError::Bad {
+        line: 132,
+        kind: HEADER,
+    };
+    assert!(rt; answer.err() == Some(wanted));
+    Ok(())
+}
+
+#[test]
+fn the_words_of_an_error(rt: HostRuntime) -> Result<(), Fail> {
+    let bad = ReplayError::Bad {
+        line: 27,
+        kind: ReplayKind::Unlawful,
+    };
+    let text = format!(in rt.alloc(); "{bad}")?;
+    assert!(rt; text.as_str() == "line 27: unlawful");
+    Ok(())
+}

@@ -1,0 +1,72 @@
+//! The words of a line, one after another.
+
+ghost use Rattle.std.specs.Prelude.{◌≡◌, ◌==◌, ℕ, List, option_map};
+ghost use Rattle.std.specs.List.{slice_split};
+ghost use Rattle.hp_model.specs.Lists.{is_empty};
+ghost use Rattle.hp_replay.specs.WordsLeft.{first_of, others_of};
+ghost use Rattle.hp_replay.specs.Readers.{done as done_at};
+
+use std::marker::Model;
+
+/// The words of a line that are left to be read. Contracts see the list of them.
+#[derive(Drop)]
+pub struct Words<'a> {
+    left: Option<&'a [u8]>,
+}
+
+impl<'a> Model for Words<'a> {
+    ghost use Rattle.std.specs.Prelude.{ℕ, List};
+
+    ghost Value = { List (List ℕ) };
+
+    ghost use Rattle.std.specs.List.{slice_split};
+    ghost use Rattle.hp_model.specs.Lists.{is_empty};
+    ghost use Rattle.hp_replay.specs.WordsLeft.{words_left};
+
+    ghost view = { λ w. words_left w.left };
+}
+
+impl<'a> Words<'a> {
+    /// The pieces between the spaces of a text.
+    pub fn of(text: &'a [u8]) -> Words<'a>
+        ensures { result ≡ slice_split (λ b. b == 32) text.now }
+    {
+        Words { left: Some(text) }
+    }
+
+    /// The next word, which is then no longer left. None where no word is left.
+    pub fn next(&mut self) -> Option<&'a [u8]>
+        ensures word { option_map (λ w. w.now) result ≡ first_of self.old }
+        ensures rest { self.new ≡ others_of self.old }
+    {
+        let bytes = self.left?;
+        for (i, byte) in bytes.iter().enumerate() {
+            if *byte == b' ' {
+                self.left = Some(&bytes[i + 1..]);
+                return Some(&bytes[..i]);
+            }
+        }
+        self.left = None;
+        Some(bytes)
+    }
+
+    /// This value, where no word is left.
+    pub fn done<T: Copy>(&self, value: T) -> Option<T>
+        ensures { result ≡ done_at value self.now }
+    {
+        match self.left {
+            None => Some(value),
+            Some(_) => None,
+        }
+    }
+
+    /// Whether no word is left.
+    pub fn is_done(&self) -> bool
+        ensures { result ≡ is_empty self.now }
+    {
+        match self.left {
+            None => true,
+            Some(_) => false,
+        }
+    }
+}

@@ -1,0 +1,12 @@
+pub mod Taking
+pub mod Places
+pub mod Quiet
+pub mod Rows
+pub mod Stuck
+pub mod Sequenced
+pub mod Todo
+pub mod SequenceSteps
+pub mod SequenceKept
+pub mod NextIs
+pub mod Asking
+pub mod Few

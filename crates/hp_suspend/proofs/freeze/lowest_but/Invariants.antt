@@ -1,0 +1,6 @@
+use Rattle.std.proofs.Common.{◌≡◌, ◌&&◌, false, not, eqb, get_or}
+use Rattle.hp_suspend.proofs.Places.{passing}
+use Rattle.hp_suspend.proofs.freeze.lowest_but.Given as goal
+
+abbrev pub invariant-loop-cpu : goal.invariant-loop-cpu
+invariant-loop-cpu l = passing (λ c. get_or l.online c false && not (eqb c l.primary)) l.cpu ≡ 0

@@ -1,0 +1,6 @@
+pub mod Tables
+pub mod Freezing
+pub mod Thawing
+pub mod Booting
+pub mod Asked
+pub mod Quiet

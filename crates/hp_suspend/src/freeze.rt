@@ -1,0 +1,139 @@
+//! The walks of a freeze.
+
+ghost use Rattle.std.specs.Prelude.{◌≡◌, ℤ, ℕ, List, [], ◌∷◌, ◌++◌, ◌≤◌, length, filter, slice_get, slice_index_or, false, not, ◌&&◌, ◌==◌, Some};
+ghost use Rattle.hp_event.specs.declared.op.Op.TheVariants as op;
+ghost use Rattle.hp_event.specs.declared.head.Head.{Head};
+ghost use Rattle.hp_event.specs.declared.event.Event.{Event};
+ghost use Rattle.hp_event.specs.declared.event.Event.TheVariants.{Enter, WalkEnd};
+ghost use Rattle.hp_model.specs.Lists.{among, numbers};
+ghost use Rattle.hp_model.specs.Sequence.{first_of, primary_of, next as next_of};
+ghost use Rattle.hp_model.specs.Walks.{walking};
+ghost use Rattle.hp_model.specs.MapLock.{Operation, operation};
+ghost use Rattle.hp_model.specs.Suspend.{wakeup_pending};
+ghost use Rattle.hp_model.specs.Lawful.{IsLawful};
+ghost use Rattle.hp_suspend.specs.Asked.{meaning};
+ghost use Rattle.hp_suspend.specs.Tables.{AreOnline};
+ghost use Rattle.hp_suspend.specs.Freezing.{IsFreezing};
+
+use crate::asked::{Asked, WalkAsk};
+use crate::judged::is_ok;
+use hp_event::Answer;
+use hp_states::{EBUSY, MAX_CPUS, OFFLINE};
+
+/// A freeze on its way over the processors: the one that it leaves online, and the answer that ended
+/// it early, if one did.
+///
+/// It is plain data and takes no memory. After `freeze_secondary_cpus` of `kernel/cpu.c`.
+#[derive(Clone, Copy, Debug)]
+pub struct Freeze {
+    primary: u32,
+    ended: Option<Answer>,
+}
+
+impl Freeze {
+    /// The freeze that has just entered, with no walk behind it. It leaves processor `primary` online
+    /// where that is online, and else the lowest one that is.
+    ///
+    /// `online` says of each possible processor whether it is online, which some processor is: of a
+    /// list without one, processor 0 would be left. Any number may be asked for. Takes no memory, and
+    /// a time linear in the list. After `freeze_secondary_cpus` of `kernel/cpu.c`.
+    pub fn begin(primary: i32, online: &[bool]) -> Freeze
+        requires { length online.now ≤ MAX_CPUS }
+        ensures { (head : Head) (before : List Event) (seat : ℕ) → AreOnline head before online.now →
+            IsFreezing head before (before ++ Enter seat (op.Freeze primary) ∷ []) primary result }
+    {
+        Freeze {
+            primary: left_online(primary, online),
+            ended: None,
+        }
+    }
+
+    /// What comes next: a walk, or the end of the freeze with its answer.
+    ///
+    /// `online` says of each possible processor whether it is online now, and `wakeup` whether a
+    /// wakeup is pending. While the freeze is in flight and nothing walks, the answers are:
+    /// - `Ended` with the answer of a walk that wasn't Ok;
+    /// - `Ended(Ok(0))` where no processor is online but the one that is left so;
+    /// - `Ended(Refused(16))` where one is, and a wakeup is pending;
+    /// - `Walk` of the lowest of them, to OFFLINE.
+    ///
+    /// Takes no memory, and a time linear in the list. After `freeze_secondary_cpus` of
+    /// `kernel/cpu.c`.
+    pub fn next(&self, online: &[bool], wakeup: bool) -> Asked
+        requires { length online.now ≤ MAX_CPUS }
+        ensures { (head : Head) (events : List Event) (o : Operation) (primary : ℤ) → IsLawful head events →
+            operation events ≡ Some o → o.op ≡ op.Freeze primary → walking events ≡ [] →
+            IsFreezing head o.before events primary self.now →
+            AreOnline head events online.now → wakeup ≡ wakeup_pending events →
+            meaning result ≡ next_of head events o.before o.op }
+    {
+        if let Some(answer) = self.ended {
+            return Asked::Ended(answer);
+        }
+        match lowest_but(self.primary, online) {
+            None => Asked::Ended(Answer::Ok(0)),
+            Some(_) if wakeup => Asked::Ended(Answer::Refused(EBUSY)),
+            Some(cpu) => Asked::Walk(WalkAsk { cpu, to: OFFLINE }),
+        }
+    }
+
+    /// Goes on past the walk that `next` asked for: `answer` is that walk's.
+    ///
+    /// The first answer that isn't Ok ends the freeze, and what comes after it changes nothing.
+    /// Takes no memory. After `freeze_secondary_cpus` of `kernel/cpu.c`.
+    pub fn took(&mut self, answer: Answer)
+        ensures { (head : Head) (entered events : List Event) (primary : ℤ) (seat cpu : ℕ) →
+            IsFreezing head entered events primary self.old →
+            IsFreezing head entered (events ++ WalkEnd seat cpu answer ∷ []) primary self.new }
+    {
+        if self.ended.is_none() && !is_ok(&answer) {
+            self.ended = Some(answer);
+        }
+    }
+}
+
+/// The processor that a freeze leaves online.
+fn left_online(primary: i32, online: &[bool]) -> u32
+    requires { length online.now ≤ MAX_CPUS }
+    ensures { result ≡ primary_of primary (filter (λ c. slice_index_or online.now c false) (numbers (length online.now))) }
+{
+    if primary >= 0 && is_online(online, primary as u32) {
+        primary as u32
+    } else {
+        lowest(online)
+    }
+}
+
+/// Whether a processor is possible and online.
+fn is_online(online: &[bool], cpu: u32) -> bool
+    ensures { result ≡ among cpu (filter (λ c. slice_index_or online.now c false) (numbers (length online.now))) }
+{
+    (cpu as usize) < online.len() && online[cpu as usize]
+}
+
+/// The lowest processor that is online, or 0 where none is.
+fn lowest(online: &[bool]) -> u32
+    requires { length online.now ≤ MAX_CPUS }
+    ensures { result ≡ first_of (filter (λ c. slice_index_or online.now c false) (numbers (length online.now))) }
+{
+    for cpu in 0..online.len() as u32 {
+        if online[cpu as usize] {
+            return cpu;
+        }
+    }
+    0
+}
+
+/// The lowest processor that is online, but for one.
+fn lowest_but(primary: u32, online: &[bool]) -> Option<u32>
+    requires { length online.now ≤ MAX_CPUS }
+    ensures { result ≡ slice_get
+        (filter (λ c. slice_index_or online.now c false && not (c == primary)) (numbers (length online.now))) 0 }
+{
+    for cpu in 0..online.len() as u32 {
+        if online[cpu as usize] && cpu != primary {
+            return Some(cpu);
+        }
+    }
+    None
+}

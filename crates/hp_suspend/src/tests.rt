@@ -1,0 +1,167 @@
+//! What no clause says: the walks and the ends of some freezes, thaws and boots, as worked out by hand
+//! from the rules, with lists that change as the answers say.
+
+use crate::{Asked, Boot, Freeze, Thaw, WalkAsk};
+use hp_event::Answer;
+use std::process::Abort;
+use std::test::Fail;
+
+/// The walk of a processor to OFFLINE.
+fn down(cpu: u32) -> Asked {
+    Asked::Walk(WalkAsk { cpu, to: 0 })
+}
+
+/// The walk of a processor to ONLINE.
+fn up(cpu: u32) -> Asked {
+    Asked::Walk(WalkAsk { cpu, to: 200 })
+}
+
+/// A registration comes between the two walks, and the second one faults. The thaw brings up the one
+/// that went down.
+#[test]
+fn a_freeze_that_fails(rt: HostRuntime) -> Result<(), Fail> {
+    let mut freeze = Freeze::begin(0, &[true, true, true, true]);
+    assert_eq!(&rt; freeze.next(&[true, true, true, true], false), down(1));
+    freeze.took(Answer::Ok(0));
+    assert_eq!(&rt; freeze.next(&[true, false, true, true], false), down(2));
+    freeze.took(Answer::Fault(6));
+    assert_eq!(&rt;
+        freeze.next(&[true, false, true, true], false),
+        Asked::Ended(Answer::Fault(6))
+    );
+    let mut thaw = Thaw::begin();
+    let record = [false, true, false, false];
+    assert_eq!(&rt; thaw.next(&record, &[200, 0, 200, 200]), up(1));
+    thaw.took(Answer::Ok(0));
+    assert_eq!(&rt;
+        thaw.next(&record, &[200, 200, 200, 200]),
+        Asked::Ended(Answer::Ok(0))
+    );
+    Ok(())
+}
+
+#[test]
+fn a_primary_that_is_offline(rt: HostRuntime) -> Result<(), Fail> {
+    let mut freeze = Freeze::begin(2, &[false, true, false, true, true]);
+    assert_eq!(&rt;
+        freeze.next(&[false, true, false, true, true], false),
+        down(3)
+    );
+    freeze.took(Answer::Ok(0));
+    assert_eq!(&rt;
+        freeze.next(&[false, true, false, false, true], false),
+        down(4)
+    );
+    freeze.took(Answer::Ok(0));
+    assert_eq!(&rt;
+        freeze.next(&[false, true, false, false, false], false),
+        Asked::Ended(Answer::Ok(0))
+    );
+    let lowest = Freeze::begin(-1, &[true, true]);
+    assert_eq!(&rt; lowest.next(&[true, true], false), down(1));
+    let impossible = Freeze::begin(2, &[true, true]);
+    assert_eq!(&rt; impossible.next(&[true, true], false), down(1));
+    let highest = Freeze::begin(1, &[true, true]);
+    assert_eq!(&rt; highest.next(&[true, true], false), down(0));
+    Ok(())
+}
+
+#[test]
+fn a_freeze_that_a_wakeup_stops(rt: HostRuntime) -> Result<(), Fail> {
+    let mut freeze = Freeze::begin(0, &[true, true, true]);
+    assert_eq!(&rt;
+        freeze.next(&[true, true, true], true),
+        Asked::Ended(Answer::Refused(16))
+    );
+    freeze.took(Answer::Ok(0));
+    freeze.took(Answer::Ok(0));
+    assert_eq!(&rt;
+        freeze.next(&[true, false, false], true),
+        Asked::Ended(Answer::Ok(0))
+    );
+    freeze.took(Answer::Stuck {
+        first: 1,
+        second: 2,
+        at: 150,
+    });
+    let stuck = Answer::Stuck {
+        first: 1,
+        second: 2,
+        at: 150,
+    };
+    assert_eq!(&rt; freeze.next(&[true, true, true], true), Asked::Ended(stuck));
+    Ok(())
+}
+
+#[test]
+fn a_boot_that_stops_at_its_number(rt: HostRuntime) -> Result<(), Fail> {
+    let present = [true, true, true, true];
+    let mut boot = Boot::begin(2);
+    assert_eq!(&rt; boot.next(&present, &[true, false, false, false]), up(1));
+    boot.took(Answer::Ok(0));
+    assert_eq!(&rt;
+        boot.next(&present, &[true, true, false, false]),
+        Asked::Ended(Answer::Ok(0))
+    );
+    let none = Boot::begin(0);
+    assert_eq!(&rt;
+        none.next(&present, &[true, false, false, false]),
+        Asked::Ended(Answer::Ok(0))
+    );
+    Ok(())
+}
+
+#[test]
+fn a_thaw_after_a_fault(rt: HostRuntime) -> Result<(), Fail> {
+    let record = [false, true, true, true, true];
+    let mut thaw = Thaw::begin();
+    assert_eq!(&rt; thaw.next(&record, &[200, 0, 0, 0, 0]), up(1));
+    thaw.took(Answer::Fault(7));
+    assert_eq!(&rt; thaw.next(&record, &[200, 0, 0, 0, 0]), up(2));
+    thaw.took(Answer::Ok(0));
+    assert_eq!(&rt; thaw.next(&record, &[200, 0, 200, 0, 0]), up(3));
+    thaw.took(Answer::Stuck {
+        first: 7,
+        second: 8,
+        at: 150,
+    });
+    assert_eq!(&rt; thaw.next(&record, &[200, 0, 200, 150, 0]), up(4));
+    thaw.took(Answer::Fault(9));
+    assert_eq!(&rt;
+        thaw.next(&record, &[200, 0, 200, 150, 0]),
+        Asked::Ended(Answer::Ok(3))
+    );
+    Ok(())
+}
+
+/// The stuck processor is online, and the one that turned back isn't; neither is walked again, nor the
+/// one that is absent.
+#[test]
+fn a_stuck_walk_of_a_boot(rt: HostRuntime) -> Result<(), Fail> {
+    let present = [true, true, true, false, true];
+    let mut boot = Boot::begin(5);
+    assert_eq!(&rt;
+        boot.next(&present, &[true, false, false, false, false]),
+        up(1)
+    );
+    boot.took(Answer::Stuck {
+        first: 5,
+        second: 6,
+        at: 150,
+    });
+    assert_eq!(&rt;
+        boot.next(&present, &[true, true, false, false, false]),
+        up(2)
+    );
+    boot.took(Answer::Fault(9));
+    assert_eq!(&rt;
+        boot.next(&present, &[true, true, false, false, false]),
+        up(4)
+    );
+    boot.took(Answer::Ok(0));
+    assert_eq!(&rt;
+        boot.next(&present, &[true, true, false, false, true]),
+        Asked::Ended(Answer::Ok(2))
+    );
+    Ok(())
+}

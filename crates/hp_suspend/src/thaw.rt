@@ -1,0 +1,101 @@
+//! The walks of a thaw.
+
+ghost use Rattle.std.specs.Prelude.{◌≡◌, ℕ, ◌+◌, ◌<◌, ◌≤◌, Some, List, [], ◌∷◌, ◌++◌, length, filter, slice_get, slice_index, slice_index_or, nat_lt, false, ◌&&◌};
+ghost use Rattle.hp_event.specs.declared.op.Op.TheVariants as op;
+ghost use Rattle.hp_event.specs.declared.head.Head.{Head};
+ghost use Rattle.hp_event.specs.declared.event.Event.{Event};
+ghost use Rattle.hp_event.specs.declared.event.Event.TheVariants.{Enter, WalkEnd};
+ghost use Rattle.hp_model.specs.Lists.{numbers};
+ghost use Rattle.hp_model.specs.Walks.{walking};
+ghost use Rattle.hp_model.specs.MapLock.{Operation, operation};
+ghost use Rattle.hp_model.specs.Sequence.{next as next_of};
+ghost use Rattle.hp_model.specs.Lawful.{IsLawful};
+ghost use Rattle.hp_suspend.specs.Asked.{meaning};
+ghost use Rattle.hp_suspend.specs.Tables.{AreFrozen, AreSettled};
+ghost use Rattle.hp_suspend.specs.Thawing.{IsThawing};
+
+use crate::asked::{Asked, WalkAsk};
+use crate::judged::is_ok;
+use hp_event::Answer;
+use hp_states::{MAX_CPUS, MAX_EVENTS, ONLINE};
+
+/// A thaw on its way over the processors of the record: how many walks failed.
+///
+/// It is plain data and takes no memory. After `thaw_secondary_cpus` of `kernel/cpu.c`.
+#[derive(Clone, Copy, Debug)]
+pub struct Thaw {
+    failed: u32,
+}
+
+impl Thaw {
+    /// The thaw that has just entered, with no walk behind it.
+    ///
+    /// Takes no memory. After `thaw_secondary_cpus` of `kernel/cpu.c`.
+    pub fn begin() -> Thaw
+        ensures thawing { (before : List Event) (seat : ℕ) → IsThawing (before ++ Enter seat op.Thaw ∷ []) result }
+        ensures none_failed { result.failed ≡ 0 }
+    {
+        Thaw { failed: 0 }
+    }
+
+    /// What comes next: a walk, or the end of the thaw with its answer.
+    ///
+    /// `frozen` says of each possible processor whether it is in the record of the last freeze, and
+    /// `settled` where it stands now. No more walks failed than a journal has room for. While the thaw
+    /// is in flight and nothing walks, the answers are:
+    /// - `Walk` of the lowest processor of the record that is below ONLINE and wasn't walked yet, to
+    ///   ONLINE;
+    /// - `Ended(Ok)` with the number of walks that failed, where there is none.
+    ///
+    /// Takes no memory, and a time linear in the lists. After `thaw_secondary_cpus` of `kernel/cpu.c`;
+    /// that it answers how many walks failed is this project's own.
+    pub fn next(&self, frozen: &[bool], settled: &[u32]) -> Asked
+        requires few { length frozen.now ≤ MAX_CPUS }
+        requires as_long { length settled.now ≡ length frozen.now }
+        requires failed { self.now.failed ≤ MAX_EVENTS }
+        ensures { (head : Head) (events : List Event) (o : Operation) → IsLawful head events →
+            operation events ≡ Some o → o.op ≡ op.Thaw → walking events ≡ [] → IsThawing events self.now →
+            AreFrozen head events frozen.now → AreSettled head events settled.now →
+            meaning result ≡ next_of head events o.before o.op }
+    {
+        match first_left(self.failed, frozen, settled) {
+            None => Asked::Ended(Answer::Ok(self.failed as i32)),
+            Some(cpu) => Asked::Walk(WalkAsk { cpu, to: ONLINE }),
+        }
+    }
+
+    /// Goes on past the walk that `next` asked for: `answer` is that walk's.
+    ///
+    /// Fewer walks failed than a journal has room for, as is so of any journal. Takes no memory. After
+    /// `thaw_secondary_cpus` of `kernel/cpu.c`; that it counts the failures is this project's own.
+    pub fn took(&mut self, answer: Answer)
+        requires { self.old.failed < MAX_EVENTS }
+        ensures thawing { (events : List Event) (seat cpu : ℕ) → IsThawing events self.old →
+            IsThawing (events ++ WalkEnd seat cpu answer ∷ []) self.new }
+        ensures one_more { self.new.failed ≤ self.old.failed + 1 }
+    {
+        if !is_ok(&answer) {
+            self.failed += 1;
+        }
+    }
+}
+
+/// Of the frozen processors that aren't up, the one that has so many below it.
+fn first_left(below: u32, frozen: &[bool], settled: &[u32]) -> Option<u32>
+    requires few { length frozen.now ≤ MAX_CPUS }
+    requires as_long { length settled.now ≡ length frozen.now }
+    ensures { result ≡ slice_get
+        (filter (λ c. slice_index_or frozen.now c false && nat_lt (slice_index settled.now c) ONLINE)
+        (numbers (length frozen.now))) below }
+{
+    let mut passed = 0;
+    for cpu in 0..frozen.len() as u32 {
+        if frozen[cpu as usize] && settled[cpu as usize] < ONLINE {
+            if passed == below {
+                return Some(cpu);
+            }
+            passed += 1;
+        }
+    }
+    None
+}
