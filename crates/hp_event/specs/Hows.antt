@@ -31,6 +31,15 @@ is_called Empty = false
 is_called Presumed = false
 is_called (Overruled code) = true
 
+-- whether a callback was called and answered a code
+abbrev pub is_hook_fault : How → Bool
+is_hook_fault RanOk = false
+is_hook_fault (RanFault code) = true
+is_hook_fault Injected = false
+is_hook_fault Empty = false
+is_hook_fault Presumed = false
+is_hook_fault (Overruled code) = true
+
 -- a callback that answers 0 ran; a code is a fault where the entry may fail, and else overruled
 abbrev pub how_answered : (may_fail : Bool) → (code : ℕ) → How
 how_answered may_fail zero = RanOk

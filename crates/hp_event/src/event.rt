@@ -2,6 +2,9 @@
 //!
 //! All of it is this project's own; walks and callbacks are named after those of `kernel/cpu.c`.
 
+ghost use Rattle.std.specs.Prelude.{◌≡◌};
+ghost use Rattle.hp_event.specs.Events.{seat_of};
+
 use crate::answer::Answer;
 use crate::how::How;
 use crate::op::Op;
@@ -120,6 +123,33 @@ pub enum Event {
     Wakeup {
         seat: u32,
     },
+}
+
+impl Event {
+    /// The seat that made it.
+    ///
+    /// Takes no memory. This project's own.
+    pub fn seat(&self) -> u32
+        ensures { result ≡ seat_of self.now }
+    {
+        match *self {
+            Event::Admit { seat, .. }
+            | Event::Leave { seat }
+            | Event::Enter { seat, .. }
+            | Event::Refused { seat, .. }
+            | Event::WalkBegin { seat, .. }
+            | Event::Call { seat, .. }
+            | Event::WalkEnd { seat, .. }
+            | Event::OpEnd { seat, .. }
+            | Event::RegBegin { seat, .. }
+            | Event::RegEnd { seat, .. }
+            | Event::ReadLock { seat }
+            | Event::ReadUnlock { seat }
+            | Event::Armed { seat, .. }
+            | Event::Shown { seat, .. }
+            | Event::Wakeup { seat } => seat,
+        }
+    }
 }
 
 /// The most bytes that an event may take: a journal of `MAX_EVENTS` events stays below 48 MiB.

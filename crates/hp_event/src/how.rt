@@ -2,7 +2,7 @@
 
 ghost use Rattle.std.specs.Prelude.{◌≡◌};
 ghost use Rattle.hp_states.specs.Sections.{can_fail};
-ghost use Rattle.hp_event.specs.Hows.{is_done as is_done_of, is_called as is_called_of, fault_of, how_answered};
+ghost use Rattle.hp_event.specs.Hows.{is_done as is_done_of, is_called as is_called_of, is_hook_fault as is_hook_fault_of, fault_of, how_answered};
 
 use hp_states::{Dir, EAGAIN, Place, may_fail};
 
@@ -62,6 +62,18 @@ impl How {
         match self {
             How::RanOk | How::RanFault(_) | How::Overruled(_) => true,
             How::Injected | How::Empty | How::Presumed => false,
+        }
+    }
+
+    /// Whether a callback was called and answered a code, whatever became of it.
+    ///
+    /// Takes no memory. This project's own.
+    pub fn is_hook_fault(self) -> bool
+        ensures { result ≡ is_hook_fault_of self }
+    {
+        match self {
+            How::RanFault(_) | How::Overruled(_) => true,
+            How::RanOk | How::Injected | How::Empty | How::Presumed => false,
         }
     }
 

@@ -35,7 +35,7 @@ made head events k x only = go (eqb x.seat k) (due_of head events k (entry_event
 
 pub due_is : (head : Head) (events : List Event) (k : ℕ) (what : Option Coming) → IsUnderWay head events what →
     IsDue head events k (due_by k what)
-due_is head events k None is = due_of head events k [] is
+due_is head events k None is = due_of head events k [] is.none
 due_is head events k (Some (coming.Entry client cpu None)) is = due_of head events k [] is.none
 due_is head events k (Some (coming.Entry client cpu (Some x))) is = made head events k x is.only
 due_is head events k (Some (coming.End e)) is = due_of head events k (e ∷ []) is.only ∙ no_entry k e is.no_entry

@@ -121,7 +121,7 @@ first_none : (head : Head) (es : List Event) (k : ℕ) (op : Op) → role_of k e
 first_none head es k op client names passes waits = rw (client, names, passes, waits) refl
 
 -- whether there is room for it
-room_said : (head : Head) (es : List Event) (n : Option ℕ) (room : ℕ) → room + length es + promised head es ≡ MAX_EVENTS →
+pub room_said : (head : Head) (es : List Event) (n : Option ℕ) (room : ℕ) → room + length es + promised head es ≡ MAX_EVENTS →
     taken n ≤ room → is_room head es n ≡ true
 room_said head es None room is few = refl
 room_said head es (Some n) room is few = fits (length es + promised head es + n) (omega (arith, is, few))
@@ -129,7 +129,7 @@ room_said head es (Some n) room is few = fits (length es + promised head es + n)
     fits : (m : ℕ) → m ≤ MAX_EVENTS → leb m MAX_EVENTS ≡ true
     fits m h = grind (arith, nat_tests)
 
-no_room_said : (head : Head) (es : List Event) (n : Option ℕ) (room : ℕ) → room + length es + promised head es ≡ MAX_EVENTS →
+pub no_room_said : (head : Head) (es : List Event) (n : Option ℕ) (room : ℕ) → room + length es + promised head es ≡ MAX_EVENTS →
     room < taken n → is_room head es n ≡ false
 no_room_said head es None room is many = absurd (omega arith)
 no_room_said head es (Some n) room is many = past (length es + promised head es + n) (omega (arith, is, many))
@@ -154,6 +154,20 @@ full_said head es k op e room takes is idle first at many =
     rw (first, idle, none) refl
 
 -- what it waits for
+same_why : (x y : Why) → Some x ≡ Some y → x ≡ y
+same_why x y h = cc
+
+pub why_said : (head : Head) (es : List Event) (k : ℕ) (op : Op) (why : Why) (w : Option Wait) → refusal head es k op ≡ None →
+    wait head es k op ≡ w → Some why ≡ option_map why_of w → IsWhy head es k op why
+why_said head es k op why None passes is h = absurd (none_some why (sym h))
+why_said head es k op why (Some w) passes is h = subst (IsWhy head es k op) (sym (same_why why (why_of w) h)) (says w is)
+  where
+    says : (w : Wait) → wait head es k op ≡ Some w → IsWhy head es k op (why_of w)
+    says (maps_held n) h = record { not_refused = passes; wait_is = h }
+    says (readers_in n) h = record { not_refused = passes; wait_is = h }
+    says (reg_in n) h = record { not_refused = passes; wait_is = h }
+    says (writer_in n) h = record { not_refused = passes; wait_is = h }
+
 pub kept_said : (head : Head) (es : List Event) (k : ℕ) (op : Op) (why : Why) → role_of k es ≡ Some Client → is_busy k es ≡ false →
     names_sub head op ≡ true → IsKeptBack head es k op why → IsKept head es k op why
 unfolding next_event is_full
@@ -162,22 +176,9 @@ kept_said head es k op why client idle names b =
     record {
       no_event = rw (none, idle) refl;
       not_full = rw (none, idle) refl;
-      why_is = is_why (wait_to_begin es op) refl b.why_is;
+      why_is = why_said head es k op why (wait_to_begin es op) b.not_refused (rw idle refl) b.why_is;
     }
   where
     waits : (w : Option Wait) → Some why ≡ option_map why_of w → is_some w ≡ true
     waits None h = absurd (none_some why (sym h))
     waits (Some w) h = refl
-
-    same : (x y : Why) → Some x ≡ Some y → x ≡ y
-    same x y h = cc
-
-    says : (w : Wait) → wait head es k op ≡ Some w → IsWhy head es k op (why_of w)
-    says (maps_held n) h = record { not_refused = b.not_refused; wait_is = h }
-    says (readers_in n) h = record { not_refused = b.not_refused; wait_is = h }
-    says (reg_in n) h = record { not_refused = b.not_refused; wait_is = h }
-    says (writer_in n) h = record { not_refused = b.not_refused; wait_is = h }
-
-    is_why : (w : Option Wait) → wait_to_begin es op ≡ w → Some why ≡ option_map why_of w → IsWhy head es k op why
-    is_why None e h = absurd (none_some why (sym h))
-    is_why (Some w) e h = subst (IsWhy head es k op) (sym (same why (why_of w) h)) (says w (rw idle e))

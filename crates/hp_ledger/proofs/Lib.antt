@@ -33,3 +33,5 @@ pub mod RefusalsSaid
 pub mod FileBounds
 pub mod FilesSaid
 pub mod FirstSaid
+pub mod WalkKeys
+pub mod BusyNext

@@ -1,7 +1,6 @@
 -- What a registration in flight asks for is what is under way.
-use Rattle.std.proofs.Common.{◌≡◌, ℕ, zero, suc, Bool, true, false, not, ◌&&◌, ◌||◌, cond, eqb, Option, Some, None, IfSome, List, [], ◌∷◌, refl, sym, ap, ◌∙◌, subst, inl, inr}
+use Rattle.std.proofs.Common.{◌≡◌, ℕ, zero, suc, Bool, true, false, not, ◌&&◌, cond, Option, Some, None, IfSome, List, [], ◌∷◌, refl, sym, ap, ◌∙◌, subst, inl, inr}
 use Rattle.std.specs.Prelude.{option_map, option_to_list}
-use Rattle.std.proofs.lemmas.Bool.{eq-eqb}
 use Rattle.hp_states.specs.declared.dir.Dir.{Dir}
 use Rattle.hp_states.specs.declared.dir.Dir.TheVariants.{Up, Down}
 use Rattle.hp_states.specs.declared.place.Place.{Place}
@@ -18,8 +17,7 @@ use Rattle.hp_model.specs.Registrations.{Registration, registration}
 use Rattle.hp_model.specs.Registered.{registered}
 use Rattle.hp_model.specs.RegistrationShape.{key_of}
 use Rattle.hp_model.specs.Processors.{processors}
-use Rattle.hp_model.specs.Seats.{is_busy, ap_seat, holds_map}
-use Rattle.hp_model.specs.MapLock.{operation}
+use Rattle.hp_model.specs.Seats.{ap_seat}
 use Rattle.hp_model.specs.Calls.{sub_at}
 use Rattle.hp_model.specs.Subsystems.{has_callback}
 use Rattle.hp_model.specs.How.{how_answered, answer_at, is_nocalls, how_in_registration}
@@ -37,7 +35,7 @@ use Rattle.hp_ledger.specs.declared.entry.Means.{Means}
 use Rattle.hp_ledger.specs.declared.entry.Means.TheVariants as means
 use Rattle.hp_ledger.specs.declared.coming.Coming.TheVariants as coming
 use Rattle.hp_ledger.specs.Entries.{entry_event, how_of_means}
-use Rattle.hp_ledger.specs.Coming.{IsComing, has_callback_by}
+use Rattle.hp_ledger.specs.Coming.{IsComing, IsInFlightOf, has_callback_by}
 use Rattle.hp_ledger.specs.Registering.{IsRegistering}
 use Rattle.hp_ledger.specs.RegistrationMeans.{means_of, seat_by}
 use Rattle.hp_ledger.specs.Table.{IsTableOf, IsStepOf, HasRegistration}
@@ -79,14 +77,8 @@ under_way_is : (head : Head) (es : List Event) (g : Registering) (r : IsRegister
 unfolding under_way
 under_way_is head es g r e next = rw (r.no_walk, next) refl
 
-or_true : (b : Bool) → (b || true) ≡ true
-or_true true = refl
-or_true false = refl
-
-busy : (head : Head) (es : List Event) (g : Registering) (r : IsRegistering head es g) → is_busy g.seat es ≡ true
-busy head es g r =
-    let self : eqb r.of.seat g.seat ≡ true = eq-eqb r.of.seat g.seat (sym r.seat_is) in
-    rw (r.in_flight, self) (or_true (holds_map g.seat (operation es)))
+in_flight : (head : Head) (es : List Event) (g : Registering) → IsRegistering head es g → IsInFlightOf es g.seat
+in_flight head es g r = inr (r.of, r.in_flight, sym r.seat_is, r.no_walk)
 
 pub comes_to_end : (head : Head) (es : List Event) (places : List (Option Step)) (p : Standing) (g : Registering) →
     IsRegistering head es g → IsTableOf head es places → IsStanding head es p → (answer : Answer) →
@@ -98,7 +90,7 @@ comes_to_end head es places p g r t standing answer asks =
       only = under_way_is head es g r (Some (event.RegEnd g.seat answer)) next;
       no_entry = refl;
       takes_none = refl;
-      busy = busy head es g r;
+      of_client = in_flight head es g r;
     }
 
 callback_is : (head : Head) (es : List Event) (s : ℕ) (step : Step) (k : IsStepOf head es s step) (d : Dir) →
@@ -227,13 +219,13 @@ comes_by_entry head es places p roll g r t standing seated c key d place by at a
     by_thread None is next b = record {
       none = under_way_is head es g r None next;
       turn = turn b;
-      busy = busy head es g r;
+      of_client = in_flight head es g r;
     }
     by_thread (Some k) is next b = record {
       only = only k next;
       cpu_is = refl;
       made_by = inr (record { thread_is = seated.threads_are c ∙ is; turn = turn b });
-      busy = busy head es g r;
+      of_client = in_flight head es g r;
     }
 
     go : (b : Bool) → is_ap_state key.state && not (is_nocalls g.reg.op) ≡ b →
@@ -246,5 +238,5 @@ comes_by_entry head es places p roll g r t standing seated c key d place by at a
           only = only g.seat (next ∙ rw b refl);
           cpu_is = refl;
           made_by = inl refl;
-          busy = busy head es g r;
+          of_client = in_flight head es g r;
         })

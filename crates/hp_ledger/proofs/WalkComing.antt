@@ -16,7 +16,7 @@ use Rattle.hp_model.specs.Caller.{is_made_by_ap, caller}
 use Rattle.hp_model.specs.How.{how_answered, answer_at, how_in_walk}
 use Rattle.hp_model.specs.Registered.{keys}
 use Rattle.hp_model.specs.Registrations.{registration}
-use Rattle.hp_model.specs.Seats.{ap_seat, is_busy}
+use Rattle.hp_model.specs.Seats.{ap_seat}
 use Rattle.hp_model.specs.StandsCalls.{WalkEntry}
 use Rattle.hp_model.specs.UnderWay.{next_of_walk, under_way}
 use Rattle.hp_model.specs.Walks.{walk, walking}
@@ -34,11 +34,11 @@ use Rattle.hp_ledger.specs.declared.entry.Means.{Means}
 use Rattle.hp_ledger.specs.declared.entry.Entry.{Entry}
 use Rattle.hp_ledger.specs.declared.coming.Coming.TheVariants as coming
 use Rattle.hp_ledger.specs.declared.flights.Flight.{Flight}
-use Rattle.hp_ledger.specs.Coming.{IsComing, IsByThread, means_in_walk}
+use Rattle.hp_ledger.specs.Coming.{IsComing, IsByThread, IsInFlightOf, means_in_walk}
 use Rattle.hp_ledger.specs.Entries.{entry_event, how_of_means}
 use Rattle.hp_ledger.specs.Table.{registered_by, IsStepOf}
 use Rattle.hp_ledger.specs.Walking.{IsOneOf, IsBeside}
-use Rattle.hp_ledger.proofs.FlightFacts.{flight_at, no_registration, registered_there, keys_same, alone, walker_busy}
+use Rattle.hp_ledger.proofs.FlightFacts.{flight_at, no_registration, registered_there, keys_same, alone}
 use Rattle.hp_ledger.proofs.WalkEntries.{entry_asked, end_asked, gives_by_caller, by_thread_at, has_same, made_same}
 
 -- where nothing walks and no registration is in flight, nothing is under way
@@ -75,10 +75,10 @@ entry_at c key d place means k = record { seat = k; cpu = c; key = key; dir = d;
 coming_entry : (head : Head) (events : List Event) (client c : ℕ) (key : Key) (d : Dir) (place : Place) (means : Means) (how : How)
     (e : WalkEntry head events c key.state key.inst d how) → e.of.seat ≡ client →
     under_way head events ≡ option_to_list (option_map (λ k. Call k c key.state key.inst d how) (caller events c key.state how client)) →
-    is_busy client events ≡ true →
+    IsInFlightOf events client →
     ((k : ℕ) → entry_event head events (entry_at c key d place means k) ≡ Call k c key.state key.inst d how) →
     IsComing head events (coming.Entry client c (option_map (entry_at c key d place means) (caller events c key.state how client)))
-coming_entry head events client c key d place means how e own under busy made =
+coming_entry head events client c key d place means how e own under flies made =
     go (caller events c key.state how client) refl under
   where
     turn : is_made_by_ap key.state how ≡ true → IsApTurn head events client c
@@ -93,13 +93,13 @@ coming_entry head events client c key d place means how e own under busy made =
         under_way head events ≡ option_to_list (option_map (λ k. Call k c key.state key.inst d how) o) →
         IsComing head events (coming.Entry client c (option_map (entry_at c key d place means) o))
     go None h u =
-        record { none = u; turn = turn (by_none (is_made_by_ap key.state how) (ap_seat c events) client h); busy = busy }
+        record { none = u; turn = turn (by_none (is_made_by_ap key.state how) (ap_seat c events) client h); of_client = flies }
     go (Some k) h u =
         record {
           only = u ∙ ap (λ z. z ∷ []) (sym (made k));
           cpu_is = refl;
           made_by = either k (made_by (is_made_by_ap key.state how) (ap_seat c events) client k h);
-          busy = busy;
+          of_client = flies;
         }
 
 -- a state with a key has a place in the table
@@ -134,7 +134,7 @@ flight_entry head events f places armed_at thread key d place first means seat e
     let under : Under f.seat =
     subst Under e.1
     (one_under_way head events c (alone head events one.flights c b.of one.flights_are b.in_flight) idle ∙ ap option_to_list given) in
-    let busy : is_busy f.seat events ≡ true = rw b.seat_is (walker_busy head events c b.of beside.lawful b.in_flight) in
+    let flies : IsInFlightOf events f.seat = inl (c, b.of, b.in_flight, sym b.seat_is) in
     let some = asked_state (keys_by places) f.walk key d place first within (sym is) in
     let made : (k : ℕ) → entry_event head events (entry_at c key d place means k) ≡ Call k c key.state key.inst d how =
     has_step (λ step. means ≡ means_in_walk step.kept armed_at key.state d place first)
@@ -149,7 +149,7 @@ flight_entry head events f places armed_at thread key d place first means seat e
     let by_seat : seat ≡ caller events c key.state how f.seat =
     seat_is ∙ rw (by_thread_at head events c key.state key.inst d place first, beside.thread_is) refl in
     subst (λ o. IsComing head events (coming.Entry f.seat c o)) (sym (entry_is ∙ ap (option_map (entry_at c key d place means)) by_seat))
-    (coming_entry head events f.seat c key d place means how e.0 e.1 under busy made)
+    (coming_entry head events f.seat c key d place means how e.0 e.1 under flies made)
 
 -- the end of the walk of a flight
 pub flight_end : (head : Head) (events : List Event) (f : Flight) (places : List (Option Step)) (armed_at thread : Option ℕ)
@@ -169,5 +169,5 @@ flight_end head events f places armed_at thread answer one beside is =
           ∙ ap option_to_list (gives_end head events f.seat c answer ends);
       no_entry = refl;
       takes_none = refl;
-      busy = rw b.seat_is (walker_busy head events c b.of beside.lawful b.in_flight);
+      of_client = inl (c, b.of, b.in_flight, sym b.seat_is);
     }

@@ -1,6 +1,6 @@
 -- What it means that this comes next in a walk or a registration in flight: that it is what is under way, and nothing else is.
 -- This project's own.
-use Rattle.std.specs.Prelude.{◌≡◌, ◌⊎◌, ◌&&◌, if◌then◌else◌, ℕ, Bool, true, false, Option, Some, None, List, [], ◌∷◌}
+use Rattle.std.specs.Prelude.{◌≡◌, ◌⊎◌, ◌&&◌, if◌then◌else◌, ℕ, Bool, false, Option, Some, None, List, [], ◌∷◌}
 use Rattle.hp_states.specs.declared.dir.Dir.{Dir}
 use Rattle.hp_states.specs.declared.dir.Dir.TheVariants.{Up, Down}
 use Rattle.hp_states.specs.declared.place.Place.{Place}
@@ -9,10 +9,12 @@ use Rattle.hp_event.specs.declared.head.Head.{Head}
 use Rattle.hp_event.specs.declared.event.Event.{Event}
 use Rattle.hp_model.specs.Armed.{is_armed_at}
 use Rattle.hp_model.specs.Events.{seat_of, is_call}
-use Rattle.hp_model.specs.Seats.{ap_seat, is_busy}
+use Rattle.hp_model.specs.Seats.{ap_seat}
 use Rattle.hp_model.specs.Needs.{need}
 use Rattle.hp_model.specs.ApTurn.{IsApTurn}
+use Rattle.hp_model.specs.Registrations.{Registration, registration}
 use Rattle.hp_model.specs.UnderWay.{under_way}
+use Rattle.hp_model.specs.Walks.{Walk, walk, walking}
 use Rattle.hp_table.specs.Kept.{Kept}
 use Rattle.hp_ledger.specs.declared.entry.Means.{Means}
 use Rattle.hp_ledger.specs.declared.entry.Means.TheVariants.{Empty, Injected, Hook}
@@ -35,6 +37,12 @@ abbrev pub means_in_walk : Kept → (armed_at : Option ℕ) → (state : ℕ) �
 means_in_walk kept armed_at s d place first =
     if has_callback_by kept d then (if is_injected armed_at s d place first then Injected else Hook) else Empty
 
+-- what is under way is the client's: a walk of its operation, or its registration, while nothing walks
+abbrev pub IsInFlightOf : List Event → (client : ℕ) → Type 0
+IsInFlightOf events client =
+    ((c : ℕ) × (w : Walk) × (walk c events ≡ Some w) × (w.seat ≡ client))
+    ⊎ ((r : Registration) × (registration events ≡ Some r) × (r.seat ≡ client) × (walking events ≡ []))
+
 -- the seat is that of the processor's thread, whose turn the client waits for
 pub record IsByThread (head : Head) (events : List Event) (client cpu seat : ℕ) : Type 0 where
   pub thread_is : ap_seat cpu events ≡ Some seat
@@ -45,20 +53,20 @@ pub record ComesByEntry (head : Head) (events : List Event) (client cpu : ℕ) (
   pub only : under_way head events ≡ entry_event head events x ∷ []
   pub cpu_is : x.cpu ≡ cpu
   pub made_by : (x.seat ≡ client) ⊎ IsByThread head events client cpu x.seat
-  pub busy : is_busy client events ≡ true
+  pub of_client : IsInFlightOf events client
 
 -- nothing is, since the next entry is a thread's to make that isn't in
 pub record Awaits (head : Head) (events : List Event) (client cpu : ℕ) : Type 0 where
   pub none : under_way head events ≡ []
   pub turn : IsApTurn head events client cpu
-  pub busy : is_busy client events ≡ true
+  pub of_client : IsInFlightOf events client
 
 -- the end is, which takes no room of its own
 pub record ComesToEnd (head : Head) (events : List Event) (e : Event) : Type 0 where
   pub only : under_way head events ≡ e ∷ []
   pub no_entry : is_call e ≡ false
   pub takes_none : need head events e ≡ None
-  pub busy : is_busy (seat_of e) events ≡ true
+  pub of_client : IsInFlightOf events (seat_of e)
 
 abbrev pub IsComing : Head → List Event → Coming → Type 0
 IsComing head events (coming.Entry client cpu None) = Awaits head events client cpu

@@ -26,3 +26,4 @@ pub mod CanShow
 pub mod First
 pub mod Way
 pub mod NamedIn
+pub mod Between

@@ -92,27 +92,34 @@ impl Ledger {
         self.parts.is_busy(seat)
     }
 
-    /// What comes next of an operation of a client's seat that has nothing in flight.
+    /// What comes next of a client's seat and its operation: where it has one in flight, of that one,
+    /// whatever `op` is.
     ///
     /// The table is the journal's, and the operation speaks of subsystems of the head alone.
-    /// - `Event` with the room that it takes: its refusal, or its begin where it is neither refused nor
-    ///   kept waiting.
-    /// - `Full` where there is no room for that event.
-    /// - `Wait` where the operation isn't refused, and waits for this.
+    /// - `Event` with the room that it takes. Of an operation that isn't in flight: its refusal, or its
+    ///   begin where it is neither refused nor kept waiting. Of one that is: the end of its walk or its
+    ///   registration, or between walks the begin of the next one or the operation's end, with `LogFull`
+    ///   where there is no room for a walk.
+    /// - `Entry` where the entry that comes next in flight is the seat's to make.
+    /// - `Full` where there is no room for the operation's first event.
+    /// - `Wait` where nothing of the operation can come, which isn't refused and has room, and waits for
+    ///   this.
     ///
-    /// What is reserved counts as room. Takes no memory, and time for the state's instances, the range or
-    /// the processors, and none for the journal. After the calls of `kernel/cpu.c`; that each begins with
-    /// one event, and room, are this project's own.
-    pub fn first<H: Hook>(&self, table: &Table<H>, seat: u32, op: Op) -> Next
+    /// What is reserved counts as room. Takes no memory, and time for the state's instances, the range,
+    /// the processors or the states that a walk crosses, and none for the journal. After the calls of
+    /// `kernel/cpu.c`; that one event comes next, and room, are this project's own.
+    pub fn next<H: Hook>(&self, table: &Table<H>, seat: u32, op: Op) -> Next
         requires table { IsTableOf self.now.head self.now.events table.now }
         requires client { role_of seat self.now.events ≡ Some Client }
-        requires idle { is_busy seat self.now.events ≡ false }
         requires subs { names_sub self.now.head op ≡ true }
         ensures { IsNext self.now.head self.now.events seat op result }
     {
         let taken = self.journal.len() + (self.journal.promised() - self.reserved);
-        self.parts
-            .first(self.journal.head(), table, seat, op, MAX_EVENTS - taken)
+        let room = MAX_EVENTS - taken;
+        if self.is_busy(seat) {
+            return self.parts.goes_on(&self.journal, table, seat, room);
+        }
+        self.parts.first(self.journal.head(), table, seat, op, room)
     }
 
     /// The entry that is due from a seat: what comes next of what is under way, where it is an entry and

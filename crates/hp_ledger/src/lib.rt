@@ -13,6 +13,7 @@
 #![tactic(auto)]
 
 mod append;
+mod between;
 mod blocked;
 mod coming;
 mod entry;

@@ -70,12 +70,11 @@ impl Processors {
         self.settled.as_slice()
     }
 
-    /// The state where a processor stands. Takes no memory.
+    /// The state where a processor stands: 0 where it is no possible one. Takes no memory.
     pub fn state(&self, cpu: u32) -> u32
-        requires { cpu < length self.now.settled }
         ensures { result ≡ slice_index self.now.settled cpu }
     {
-        self.settled[cpu as usize]
+        self.settled.get(cpu as usize).copied().unwrap_or(OFFLINE)
     }
 
     /// The state at which a processor is armed, if it is. Takes no memory.

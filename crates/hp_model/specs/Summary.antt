@@ -5,8 +5,7 @@ use Rattle.std.specs.Prelude.{ℕ, ◌+◌, Bool, true, false, ◌&&◌, ◌==�
 use Rattle.std.specs.List.{flat_map}
 use Rattle.hp_states.specs.declared.limits.TheConstants.{ONLINE}
 use Rattle.hp_event.specs.declared.key.Key.{Key}
-use Rattle.hp_event.specs.declared.how.How.{How}
-use Rattle.hp_event.specs.declared.how.How.TheVariants.{RanOk, RanFault, Injected, Empty, Presumed, Overruled}
+pub use Rattle.hp_event.specs.Hows.{is_hook_fault}
 use Rattle.hp_event.specs.declared.op.Op.{Op}
 use Rattle.hp_event.specs.declared.op.Op.TheVariants.{Setup}
 use Rattle.hp_event.specs.declared.answer.Answer.{Answer}
@@ -26,14 +25,6 @@ use Rattle.hp_model.specs.Processors.{is_present}
 use Rattle.hp_model.specs.Subsystems.{sub_numbered}
 use Rattle.hp_model.specs.Suspend.{disabled, frozen}
 use Rattle.hp_model.specs.Calls.{sites}
-
-abbrev pub is_hook_fault : How → Bool
-is_hook_fault RanOk = false
-is_hook_fault (RanFault code) = true
-is_hook_fault Injected = false
-is_hook_fault Empty = false
-is_hook_fault Presumed = false
-is_hook_fault (Overruled code) = true
 
 abbrev pub faults_begun : (state : ℕ) → (at : ℕ) → Op → ℕ → ℕ
 faults_begun s at (Setup asked sub form) n = if at == s then 0 else n

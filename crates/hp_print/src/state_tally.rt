@@ -36,16 +36,6 @@ pub struct StateTally {
     pub faults: Vec<usize>,
 }
 
-/// Whether the hook answered a code.
-fn is_fault(how: How) -> bool
-    ensures { result ≡ is_hook_fault how }
-{
-    match how {
-        How::RanFault(_) | How::Overruled(_) => true,
-        How::RanOk | How::Injected | How::Empty | How::Presumed => false,
-    }
-}
-
 /// Counts one more at a state.
 fn raise(counts: &mut Vec<usize>, state: u32)
     ensures { counts.new.items
@@ -174,7 +164,7 @@ impl StateTally {
         if how.is_called() {
             raise(&mut self.made, state);
         }
-        if is_fault(how) {
+        if how.is_hook_fault() {
             raise(&mut self.faults, state);
         }
     }

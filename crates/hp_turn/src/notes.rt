@@ -29,33 +29,11 @@ impl Grown for Notes {
     }
 }
 
-fn is_of(event: &Event, other: u32) -> bool
-    ensures { result ≡ (seat_of event.now == other) }
-{
-    match *event {
-        Event::Admit { seat, .. }
-        | Event::Leave { seat }
-        | Event::Enter { seat, .. }
-        | Event::Refused { seat, .. }
-        | Event::WalkBegin { seat, .. }
-        | Event::Call { seat, .. }
-        | Event::WalkEnd { seat, .. }
-        | Event::OpEnd { seat, .. }
-        | Event::RegBegin { seat, .. }
-        | Event::RegEnd { seat, .. }
-        | Event::ReadLock { seat }
-        | Event::ReadUnlock { seat }
-        | Event::Armed { seat, .. }
-        | Event::Shown { seat, .. }
-        | Event::Wakeup { seat } => seat == other,
-    }
-}
-
 // No event is of the seat.
 fn is_new(events: &[Event], seat: u32) -> bool
     ensures { result ≡ list_all (λ e. not (seat_of e == seat)) events.now }
 {
-    events.iter().all(|event| !is_of(event, seat))
+    events.iter().all(|event| event.seat() != seat)
 }
 
 impl Notes {

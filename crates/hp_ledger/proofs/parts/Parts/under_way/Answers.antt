@@ -44,4 +44,4 @@ returns-in-None g c =
     let p = c.args.self.now in
     let still = none_walks j.head j.events p.flights r.account.flights (sym c.walking.ensures ∙ c.in_default.is) in
     let idle : registration j.events ≡ None = subst (IsRegisteringOf j.head j.events) c.in-None.is r.account.registration in
-    nothing_under_way j.head j.events still idle
+    record { none = nothing_under_way j.head j.events still idle; no_walk = still; no_registration = idle }

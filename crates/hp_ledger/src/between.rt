@@ -1,0 +1,138 @@
+//! What comes next of a seat that has an operation in flight.
+
+ghost use Rattle.std.specs.Prelude.{◌≡◌, ◌+◌, ◌≤◌, true, None, List, length};
+ghost use Rattle.hp_states.specs.declared.limits.TheConstants.{MAX_TABLE_INSTANCES, ONLINE};
+ghost use Rattle.hp_event.specs.declared.event.Event.{Event as AnEvent};
+ghost use Rattle.hp_event.specs.declared.event.Event.TheVariants.{OpEnd};
+ghost use Rattle.hp_event.specs.declared.head.Head.{Head as AHead};
+ghost use Rattle.hp_event.specs.declared.op.Op.{Op as AnOp};
+ghost use Rattle.hp_model.specs.Plan.{keys_on};
+ghost use Rattle.hp_model.specs.Seats.{is_busy};
+ghost use Rattle.hp_model.specs.Sequence.{walks};
+ghost use Rattle.hp_model.specs.Waits.{wait_to_walk};
+ghost use Rattle.hp_table.specs.Keys.{keys_by};
+ghost use Rattle.hp_ledger.specs.Between.{IsCurrent, IsBetween, Gives};
+ghost use Rattle.hp_ledger.specs.Next.{IsNext};
+ghost use Rattle.hp_ledger.specs.Operations.{IsFew, IsHeld};
+ghost use Rattle.hp_ledger.specs.UnderWay.{next_by};
+
+use crate::coming::Coming;
+use crate::next::Next;
+use crate::operation::Held;
+use crate::parts::Parts;
+use hp_event::{Answer, Event, Journal};
+use hp_hook::Hook;
+use hp_locks::Why;
+use hp_states::Dir;
+use hp_suspend::{Asked, WalkAsk};
+use hp_table::Table;
+
+impl Parts {
+    /// What comes next of a seat that has an operation in flight, whichever operation that is.
+    ///
+    /// The parts are the account of the journal, which is lawful, the table is its, and `room` is how many
+    /// events more it can promise.
+    /// - `Entry` where the entry that comes next is the seat's to make.
+    /// - `Event` with the room that it takes: the end of its walk or its registration, or, while nothing
+    ///   walks, the begin of its next walk or its end, with `LogFull` where there is no room for a walk.
+    /// - `Wait` where the thread of a processor has to make the next entry, or readers or a registration
+    ///   keep out the next walk.
+    ///
+    /// Takes no memory, and time for the processors and for the states that a walk crosses. After
+    /// `_cpu_up` and `_cpu_down` of `kernel/cpu.c`; that one event comes next, and room, are this
+    /// project's own.
+    pub(crate) fn goes_on<H: Hook>(
+        &self,
+        journal: &Journal,
+        table: &Table<H>,
+        seat: u32,
+        room: u32,
+    ) -> Next
+        requires current { IsCurrent journal.now.head journal.now.events self.now table.now room }
+        requires busy { is_busy seat journal.now.events ≡ true }
+        ensures { (op : AnOp) → IsNext journal.now.head journal.now.events seat op result }
+    {
+        if let Some(next) = next_from(self.under_way(journal, table), seat) {
+            return next;
+        }
+        match &self.operation {
+            Some(held) => self.next_of_holder(table, held, room),
+            None => unreachable!(),
+        }
+    }
+
+    /// What comes next of the operation that holds the map lock, while nothing walks.
+    fn next_of_holder<H: Hook>(&self, table: &Table<H>, held: &Held, room: u32) -> Next
+        requires few { IsFew held.now.sequence }
+        requires frozen { length self.now.suspended.frozen ≡ length self.now.processors.settled }
+        requires present { length self.now.processors.present ≡ length self.now.processors.settled }
+        ensures { (head : AHead) (events : List AnEvent) → IsCurrent head events self.now table.now room →
+            IsHeld head events held.now → IsBetween head events held.now.seat →
+            (op : AnOp) → IsNext head events held.now.seat op result }
+    {
+        match held.next(&self.processors, &self.suspended) {
+            Asked::Ended(answer) => end(held.seat, answer),
+            Asked::Walk(ask) => match self.wait_to_walk() {
+                Some(why) => Next::Wait(why),
+                None => self.next_walk(table, held.seat, ask, room),
+            },
+        }
+    }
+
+    /// The begin of a walk that nothing keeps out, or the end of its operation where there is no room.
+    fn next_walk<H: Hook>(&self, table: &Table<H>, seat: u32, ask: WalkAsk, room: u32) -> Next
+        ensures { (head : AHead) (events : List AnEvent) → IsCurrent head events self.now table.now room →
+            Gives head events seat (walks ask.cpu ask.to) → wait_to_walk events ≡ None →
+            (op : AnOp) → IsNext head events seat op result }
+    {
+        let from = self.processors.state(ask.cpu);
+        let need = 3 * keys_crossed(table, from, ask.to) + 4;
+        if need > room {
+            return end(seat, Answer::LogFull);
+        }
+        let event = Event::WalkBegin {
+            seat,
+            cpu: ask.cpu,
+            from,
+            to: ask.to,
+        };
+        Next::Event { event, need }
+    }
+}
+
+/// What comes next of a seat in what is under way: its event, its entry, or that its client waits for
+/// the thread of a processor.
+fn next_from(coming: Option<Coming>, seat: u32) -> Option<Next>
+    ensures { result ≡ next_by seat coming }
+{
+    match coming? {
+        Coming::End(event) if event.seat() == seat => Some(Next::Event { event, need: 0 }),
+        Coming::Entry {
+            entry: Some(entry),
+            ..
+        } if entry.seat == seat => Some(Next::Entry(entry)),
+        Coming::Entry { client, cpu, .. } if client == seat => Some(Next::Wait(Why::ApTurn(cpu))),
+        _ => None,
+    }
+}
+
+/// The end of a seat's operation, with its answer.
+fn end(seat: u32, answer: Answer) -> Next
+    ensures { result ≡ Next.Event (OpEnd seat answer) 0 }
+{
+    Next::Event {
+        event: Event::OpEnd { seat, answer },
+        need: 0,
+    }
+}
+
+/// How many keys a walk from one state to another crosses.
+fn keys_crossed<H: Hook>(table: &Table<H>, from: u32, to: u32) -> u32
+    ensures keys { result ≡ keys_on (keys_by table.now) from to }
+    ensures few { result ≤ MAX_TABLE_INSTANCES + ONLINE + 1 }
+{
+    match Dir::between(from, to) {
+        Dir::Up => table.keys_between(from, to),
+        Dir::Down => table.keys_between(to, from),
+    }
+}
