@@ -14,12 +14,12 @@ use Rattle.hp_event.specs.declared.event.Event.TheVariants.{WalkBegin, OpEnd}
 use Rattle.hp_locks.specs.declared.why.Why.{Why}
 use Rattle.hp_locks.specs.declared.why.Why.TheVariants.{ApTurn}
 use Rattle.hp_model.specs.Events.{seat_of}
-use Rattle.hp_model.specs.Lawful.{IsLawful}
+use Rattle.hp_model.specs.Lawful.{Comes, IsLawful}
 use Rattle.hp_model.specs.Lists.{among}
 use Rattle.hp_model.specs.MapLock.{Operation, operation}
 use Rattle.hp_model.specs.Needs.{walk_need}
 use Rattle.hp_model.specs.NextEvent.{next_of_holder, event_of_holder, next_in_flight, next_event, is_full, walk_or_end, walk_begin}
-use Rattle.hp_model.specs.Plan.{plan, keys_on}
+use Rattle.hp_model.specs.Plan.{plan}
 use Rattle.hp_model.specs.Promised.{promised}
 use Rattle.hp_model.specs.Registered.{keys}
 use Rattle.hp_model.specs.Registrations.{registration}
@@ -47,7 +47,7 @@ use Rattle.hp_ledger.specs.declared.operation.Held.{Held}
 use Rattle.hp_ledger.specs.declared.operation.Sequence.{Sequence}
 use Rattle.hp_ledger.specs.declared.operation.Sequence.TheVariants.{Single, Freeze, Thaw, Boot, NoWalk}
 use Rattle.hp_ledger.specs.declared.next.Next.TheVariants as answer
-use Rattle.hp_ledger.specs.Between.{IsBetween, Gives}
+use Rattle.hp_ledger.specs.Between.{IsBetween, Gives, CountsKeys}
 use Rattle.hp_ledger.specs.Coming.{IsInFlightOf, IsByThread}
 use Rattle.hp_ledger.specs.Entries.{entry_event}
 use Rattle.hp_ledger.specs.Locks.{why_of}
@@ -322,14 +322,18 @@ weights_alike K L same (s ∷ ss) =
     let r = weights_alike K L same ss in
     omega (arith, a, b, h, r)
 
-pub need_said : (head : Head) (es : List Event) (places : List (Option Step)) (from to : ℕ) → IsTableOf head es places →
-    wait_to_walk es ≡ None → 3 * keys_on (keys_by places) from to + 4 ≡ walk_need head es from to
-need_said head es places from to t ready =
+pub counts_keys : (head : Head) (es : List Event) (places : List (Option Step)) (seat cpu from to : ℕ) → IsTableOf head es places →
+    wait_to_walk es ≡ None → CountsKeys head es places (WalkBegin seat cpu from to)
+counts_keys head es places seat cpu from to t ready =
     let idle = none_of (registration es) (walks_alone es ready).1 in
     let same : (s : ℕ) → keys_by places s ≡ keys head es s = λ s. sym (keys_there head es places s t idle) in
-    ap (λ n. 3 * n + 4)
-    (weights_alike (keys_by places) (keys head es) same (plan (keys_by places) from to)
-    ∙ ap (sum_by (λ s. length (keys head es s))) (plan_alike (keys_by places) (keys head es) same from to))
+    weights_alike (keys_by places) (keys head es) same (plan (keys_by places) from to)
+    ∙ ap (sum_by (λ s. length (keys head es s))) (plan_alike (keys_by places) (keys head es) same from to)
+
+pub stands_counts : (head : Head) (es : List Event) (places : List (Option Step)) (e : Event) → IsTableOf head es places → Comes head es e →
+    CountsKeys head es places e
+stands_counts head es places (WalkBegin seat cpu from to) t h = counts_keys head es places seat cpu from to t h.no_wait
+stands_counts head es places e t h = tt
 
 -- the holder, as the account keeps it
 same_operation : (a b : Operation) → Some a ≡ Some b → a ≡ b

@@ -16,7 +16,7 @@ use Rattle.hp_event.specs.declared.op.Form.{Form}
 use Rattle.hp_event.specs.declared.op.Op.{Op}
 use Rattle.hp_event.specs.declared.op.Op.TheVariants.{Setup, Remove, Add, Del}
 use Rattle.hp_event.specs.declared.event.Event.{Event}
-use Rattle.hp_event.specs.declared.event.Event.TheVariants.{Refused, RegBegin}
+use Rattle.hp_event.specs.declared.event.Event.TheVariants.{Refused, RegBegin, WalkBegin}
 use Rattle.hp_locks.specs.declared.why.Why.{Why}
 use Rattle.hp_model.specs.Events.{is_registration_op}
 use Rattle.hp_model.specs.FirstEvent.{begin_of, first_event}
@@ -39,7 +39,9 @@ use Rattle.hp_table.specs.declared.error.TableError.{TableError}
 use Rattle.hp_table.specs.declared.error.TableError.TheVariants.{NoSpace}
 use Rattle.hp_table.specs.Slots.{IsLowestFree, IsFull}
 use Rattle.hp_table.specs.Step.{Step}
+use Rattle.hp_ledger.specs.Between.{CountsKeys}
 use Rattle.hp_ledger.specs.Blocked.{IsKeptBack}
+use Rattle.hp_ledger.specs.First.{IsFirst}
 use Rattle.hp_ledger.specs.Locks.{why_of}
 use Rattle.hp_ledger.specs.Next.{IsKept, IsWhy}
 use Rattle.hp_ledger.specs.Processors.{Standing, IsStanding}
@@ -182,3 +184,8 @@ kept_said head es k op why client idle names b =
     waits : (w : Option Wait) → Some why ≡ option_map why_of w → is_some w ≡ true
     waits None h = absurd (none_some why (sym h))
     waits (Some w) h = refl
+
+-- a first event begins no walk
+pub first_counts : (head : Head) (es : List Event) (places : List (Option Step)) (e : Event) → IsFirst e → CountsKeys head es places e
+first_counts head es places (WalkBegin seat cpu from to) h = elim h [ ]
+first_counts head es places e h = tt

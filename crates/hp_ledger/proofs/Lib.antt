@@ -35,3 +35,5 @@ pub mod FilesSaid
 pub mod FirstSaid
 pub mod WalkKeys
 pub mod BusyNext
+pub mod HookAnswers
+pub mod EventTables

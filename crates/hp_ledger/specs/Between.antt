@@ -4,13 +4,17 @@ use Rattle.std.specs.Prelude.{◌≡◌, ◌+◌, ◌==◌, ℕ, Option, Some, N
 use Rattle.hp_states.specs.declared.limits.TheConstants.{MAX_EVENTS}
 use Rattle.hp_event.specs.declared.head.Head.{Head}
 use Rattle.hp_event.specs.declared.event.Event.{Event}
+use Rattle.hp_event.specs.declared.event.Event.TheVariants.{WalkBegin}
 use Rattle.hp_model.specs.Events.{seat_of}
 use Rattle.hp_model.specs.Lawful.{IsLawful}
 use Rattle.hp_model.specs.MapLock.{Operation, operation}
+use Rattle.hp_model.specs.Plan.{keys_on}
 use Rattle.hp_model.specs.Promised.{promised}
+use Rattle.hp_model.specs.Registered.{keys}
 use Rattle.hp_model.specs.Sequence.{Next, next}
 use Rattle.hp_model.specs.UnderWay.{under_way}
 use Rattle.hp_model.specs.Walks.{walking}
+use Rattle.hp_table.specs.Keys.{keys_by}
 use Rattle.hp_table.specs.Step.{Step}
 use Rattle.hp_ledger.specs.declared.parts.Parts.{Parts}
 use Rattle.hp_ledger.specs.Account.{IsAccount}
@@ -35,3 +39,9 @@ pub record IsBetween (head : Head) (events : List Event) (seat : ℕ) : Type 0 w
 pub record Gives (head : Head) (events : List Event) (seat : ℕ) (what : Next) : Type 0 where
   pub between : IsBetween head events seat
   pub what_is : next head events between.of.before between.of.op ≡ what
+
+-- a walk crosses as many keys of the table as are registered
+abbrev pub CountsKeys : Head → List Event → (places : List (Option Step)) → Event → Type 0
+CountsKeys head events places (WalkBegin seat cpu from to) =
+    keys_on (keys_by places) from to ≡ keys_on (keys head events) from to
+CountsKeys head events places _ = Unit {0}

@@ -1,16 +1,13 @@
 //! What comes next of a seat that has an operation in flight.
 
-ghost use Rattle.std.specs.Prelude.{◌≡◌, ◌+◌, ◌≤◌, true, None, List, length};
-ghost use Rattle.hp_states.specs.declared.limits.TheConstants.{MAX_TABLE_INSTANCES, ONLINE};
+ghost use Rattle.std.specs.Prelude.{◌≡◌, true, None, List, length};
 ghost use Rattle.hp_event.specs.declared.event.Event.{Event as AnEvent};
 ghost use Rattle.hp_event.specs.declared.event.Event.TheVariants.{OpEnd};
 ghost use Rattle.hp_event.specs.declared.head.Head.{Head as AHead};
 ghost use Rattle.hp_event.specs.declared.op.Op.{Op as AnOp};
-ghost use Rattle.hp_model.specs.Plan.{keys_on};
 ghost use Rattle.hp_model.specs.Seats.{is_busy};
 ghost use Rattle.hp_model.specs.Sequence.{walks};
 ghost use Rattle.hp_model.specs.Waits.{wait_to_walk};
-ghost use Rattle.hp_table.specs.Keys.{keys_by};
 ghost use Rattle.hp_ledger.specs.Between.{IsCurrent, IsBetween, Gives};
 ghost use Rattle.hp_ledger.specs.Next.{IsNext};
 ghost use Rattle.hp_ledger.specs.Operations.{IsFew, IsHeld};
@@ -23,7 +20,6 @@ use crate::parts::Parts;
 use hp_event::{Answer, Event, Journal};
 use hp_hook::Hook;
 use hp_locks::Why;
-use hp_states::Dir;
 use hp_suspend::{Asked, WalkAsk};
 use hp_table::Table;
 
@@ -86,17 +82,18 @@ impl Parts {
             (op : AnOp) → IsNext head events seat op result }
     {
         let from = self.processors.state(ask.cpu);
-        let need = 3 * keys_crossed(table, from, ask.to) + 4;
-        if need > room {
-            return end(seat, Answer::LogFull);
-        }
         let event = Event::WalkBegin {
             seat,
             cpu: ask.cpu,
             from,
             to: ask.to,
         };
-        Next::Event { event, need }
+        let need = self.need(table, event);
+        if need <= room {
+            Next::Event { event, need }
+        } else {
+            end(seat, Answer::LogFull)
+        }
     }
 }
 
@@ -123,16 +120,5 @@ fn end(seat: u32, answer: Answer) -> Next
     Next::Event {
         event: Event::OpEnd { seat, answer },
         need: 0,
-    }
-}
-
-/// How many keys a walk from one state to another crosses.
-fn keys_crossed<H: Hook>(table: &Table<H>, from: u32, to: u32) -> u32
-    ensures keys { result ≡ keys_on (keys_by table.now) from to }
-    ensures few { result ≤ MAX_TABLE_INSTANCES + ONLINE + 1 }
-{
-    match Dir::between(from, to) {
-        Dir::Up => table.keys_between(from, to),
-        Dir::Down => table.keys_between(to, from),
     }
 }

@@ -7,7 +7,6 @@ ghost use Rattle.hp_event.specs.declared.event.Role.TheVariants.{Client};
 ghost use Rattle.hp_event.specs.declared.head.Head.{Head as AHead};
 ghost use Rattle.hp_model.specs.FirstEvent.{begin_of, file_shown, first_event};
 ghost use Rattle.hp_model.specs.Lawful.{IsLawful};
-ghost use Rattle.hp_model.specs.Needs.{need, taken, registration_need};
 ghost use Rattle.hp_model.specs.Promised.{promised};
 ghost use Rattle.hp_model.specs.Refusals.{Passes};
 ghost use Rattle.hp_model.specs.Registrations.{registration};
@@ -26,7 +25,7 @@ use crate::parts::Parts;
 use hp_event::{Event, File, Head, Op};
 use hp_hook::Hook;
 use hp_locks::Why;
-use hp_states::{MAX_CPUS, OFFLINE, Range};
+use hp_states::{OFFLINE, Range};
 use hp_table::Table;
 
 impl Parts {
@@ -59,7 +58,7 @@ impl Parts {
             Ok(event) => event,
             Err(why) => return Next::Wait(why),
         };
-        let need = self.need_of_first(event);
+        let need = self.need(table, event);
         if need <= room {
             Next::Event { event, need }
         } else {
@@ -136,36 +135,6 @@ impl Parts {
             cpu,
             value,
         }
-    }
-
-    /// The room that the first event of an operation takes: two events for an operation of the map lock
-    /// and for a read section, one for a refusal and for what is done with one event, and for a
-    /// registration two for each present processor and two besides.
-    fn need_of_first(&self, event: Event) -> u32
-        ensures { (head : AHead) (events : List AnEvent) → IsLawful head events → IsAccount head events self.now →
-            IsFirst event →
-            result ≡ taken (need head events event) }
-    {
-        match event {
-            Event::Enter { .. } | Event::ReadLock { .. } => 2,
-            Event::RegBegin { .. } => self.need_of_registration(),
-            Event::Refused { .. }
-            | Event::Armed { .. }
-            | Event::Shown { .. }
-            | Event::Wakeup { .. } => 1,
-            _ => 0,
-        }
-    }
-
-    /// The room that a registration takes.
-    fn need_of_registration(&self) -> u32
-        ensures { (head : AHead) (events : List AnEvent) → IsLawful head events → IsAccount head events self.now →
-            result ≡ registration_need head }
-    {
-        let possible = self.processors.present();
-        let places = possible.len().min(MAX_CPUS as usize);
-        let present = possible[..places].iter().filter(|is_present| **is_present);
-        2 * present.count() as u32 + 2
     }
 }
 

@@ -1,15 +1,18 @@
 //! The ledger.
 
-ghost use Rattle.std.specs.Prelude.{◌≡◌, ◌+◌, ◌<◌, ◌↔◌, ◌++◌, ◌∷◌, [], true, false, Option, None, Some, IfOk, OnOk, OnErr, IsErrOf, List, length};
+ghost use Rattle.std.specs.Prelude.{◌≡◌, ◌+◌, ◌<◌, ◌↔◌, ◌++◌, ◌∷◌, [], true, false, Option, None, Some, IfOk, IfSome, OnOk, OnErr, IsErrOf, List, length, option_map};
 ghost use Rattle.hp_states.specs.declared.limits.TheConstants.{MAX_EVENTS};
 ghost use Rattle.hp_event.specs.declared.event.Event.TheVariants.{Admit};
 ghost use Rattle.hp_event.specs.declared.event.Role.TheVariants.{Client};
 ghost use Rattle.hp_event.specs.declared.journal.JournalError.{JournalError};
+ghost use Rattle.hp_model.specs.Events.{is_registration_op};
 ghost use Rattle.hp_model.specs.Heads.{IsHead};
 ghost use Rattle.hp_model.specs.Lawful.{Stands};
 ghost use Rattle.hp_model.specs.Needs.{need, taken};
 ghost use Rattle.hp_model.specs.Promised.{promised};
-ghost use Rattle.hp_model.specs.Seats.{admits, role_of, is_busy};
+ghost use Rattle.hp_model.specs.Readers.{is_reading};
+ghost use Rattle.hp_model.specs.Registrations.{registration};
+ghost use Rattle.hp_model.specs.Seats.{admits, ap_seat, role_of, is_busy};
 ghost use Rattle.hp_model.specs.Subsystems.{names_sub};
 ghost use Rattle.hp_ledger.specs.Ledger.{NoAdmission};
 ghost use Rattle.hp_ledger.specs.Next.{IsNext, IsDue};
@@ -21,7 +24,7 @@ use crate::parts::Parts;
 use crate::under_way::due_from;
 use hp_event::{Event, Head, Journal, JournalError, Op, Role};
 use hp_hook::Hook;
-use hp_states::{MAX_EVENTS, NoMemory, OFFLINE};
+use hp_states::{MAX_EVENTS, NoMemory};
 use hp_table::Table;
 use std::alloc::Global;
 use std::marker::Model;
@@ -85,6 +88,60 @@ impl Ledger {
         self.parts.seats.role(seat)
     }
 
+    /// How many seats were ever admitted, which is the number of the next. Takes no memory.
+    pub fn admitted(&self) -> u32
+        ensures { result ≡ admits self.now.events }
+    {
+        self.parts.seats.admitted()
+    }
+
+    /// The seat of a processor's thread, if it is in. Takes no memory.
+    pub fn thread(&self, cpu: u32) -> Option<u32>
+        ensures { result ≡ ap_seat cpu self.now.events }
+    {
+        self.parts.seats.thread(cpu)
+    }
+
+    /// Whether a seat is in a read section. Takes no memory.
+    pub fn is_reading(&self, seat: u32) -> bool
+        ensures { result ≡ is_reading seat self.now.events }
+    {
+        self.parts.locks.reading(seat)
+    }
+
+    /// The registration in flight, if one is: its operation, and its state. Takes no memory.
+    pub fn registration(&self) -> Option<(Op, u32)>
+        ensures there { result ≡ option_map (λ r. (r.op, r.state)) (registration self.now.events) }
+        ensures op { IfSome result (λ found. is_registration_op found.0 ≡ true) }
+    {
+        let _ = &self.reserved;
+        match &self.parts.registration {
+            Some(registration) => Some((registration.reg.op(), registration.reg.state())),
+            None => None,
+        }
+    }
+
+    /// How many events more the journal can promise; what is reserved counts. Takes no memory.
+    pub fn room(&self) -> u32
+        ensures { result + length self.now.events + promised self.now.head self.now.events ≡ MAX_EVENTS }
+    {
+        let taken = self.journal.len() + (self.journal.promised() - self.reserved);
+        MAX_EVENTS - taken
+    }
+
+    /// The room that an event takes which stands: for itself and for what has to follow it.
+    ///
+    /// The table is the journal's. Takes no memory, and time for the processors or for the states that a
+    /// walk crosses.
+    pub fn need<H: Hook>(&self, table: &Table<H>, event: Event) -> u32
+        requires table { IsTableOf self.now.head self.now.events table.now }
+        requires stands { Stands self.now.head self.now.events event }
+        ensures { result ≡ taken (need self.now.head self.now.events event) }
+    {
+        let _ = &self.reserved;
+        self.parts.need(table, event)
+    }
+
     /// Whether an operation of a seat is in flight. Takes no memory.
     pub fn is_busy(&self, seat: u32) -> bool
         ensures { result ≡ is_busy seat self.now.events }
@@ -114,8 +171,7 @@ impl Ledger {
         requires subs { names_sub self.now.head op ≡ true }
         ensures { IsNext self.now.head self.now.events seat op result }
     {
-        let taken = self.journal.len() + (self.journal.promised() - self.reserved);
-        let room = MAX_EVENTS - taken;
+        let room = self.room();
         if self.is_busy(seat) {
             return self.parts.goes_on(&self.journal, table, seat, room);
         }
@@ -176,8 +232,7 @@ impl Ledger {
               reserved = 0;
             } }
     {
-        // Each answer of a table says that it has a place for each state.
-        let _ = table.is_named(OFFLINE);
+        table.sound();
         let freed = self.parts.append(table, event, self.reserved);
         self.journal.push(event);
         self.journal.give_back(freed);

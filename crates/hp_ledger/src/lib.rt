@@ -21,6 +21,7 @@ mod files;
 mod first;
 mod flights;
 mod ledger;
+mod need;
 mod next;
 mod operation;
 mod parts;

@@ -58,6 +58,15 @@ impl<H: Hook> Table<H> {
         Ok(Table { places, count: 0 })
     }
 
+    /// What is so of every table, which callers cite: it does nothing.
+    ///
+    /// Takes no memory. The limits are this project's own.
+    pub fn sound(&self)
+        ensures { IsSound self.now }
+    {
+        let _ = &self.places;
+    }
+
     /// What is registered at a state, if anything is.
     fn registered(&self, state: u32) -> Option<&Registered<H>>
         ensures there { option_copied result ≡ step_at self.now state }

@@ -16,7 +16,7 @@ append-freed-requires g c =
     let j = c.self.inside.journal in
     can_append j.head j.events c.args.table.now c.self.inside.parts c.self.inside.reserved e c.requires.no_admission i.lawful
     (subst (λ (l : Entries). Stands l.head l.events e) at c.requires.stands)
-    (subst (λ (l : Entries). l.reserved ≡ taken (need l.head l.events e)) at c.requires.room) c.is_named.ensures.sound.states
+    (subst (λ (l : Entries). l.reserved ≡ taken (need l.head l.events e)) at c.requires.room) c.sound.ensures.states
     (subst (λ (l : Entries). IsTableOf l.head (l.events ++ e ∷ []) c.args.table.now) at c.requires.table) i.account
 
 pub push-requires : goal.push-requires

@@ -1,6 +1,6 @@
 use Rattle.std.proofs.Common.{◌∙◌, sym}
 use Rattle.hp_ledger.proofs.WalkKeys.{keys_up, keys_down}
-use Rattle.hp_ledger.proofs.between.keys_crossed.Goals as goal
+use Rattle.hp_ledger.proofs.need.keys_crossed.Goals as goal
 
 pub returns-in-Up-clause-keys : goal.returns-in-Up-clause-keys
 returns-in-Up-clause-keys g c =

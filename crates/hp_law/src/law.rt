@@ -1,0 +1,179 @@
+//! The machine of a journal's checker.
+
+ghost use Rattle.std.specs.Prelude.{◌≡◌, ◌↔◌, ◌++◌, ◌∷◌, [], true, IsTrue, IfOk, OnOk, OnErr};
+ghost use Rattle.hp_event.specs.declared.event.Event.TheVariants.{Admit, Leave};
+ghost use Rattle.hp_model.specs.Heads.{IsHead};
+ghost use Rattle.hp_model.specs.How.{answer_at};
+ghost use Rattle.hp_model.specs.Lawful.{Stands};
+ghost use Rattle.hp_model.specs.NextEvent.{due_entry};
+ghost use Rattle.hp_model.specs.FirstEvent.{is_client};
+ghost use Rattle.hp_model.specs.Seats.{role_of};
+ghost use Rattle.hp_model.specs.Subsystems.{names_sub};
+ghost use Rattle.hp_law.specs.Asked.{IsOfOperation};
+
+use crate::asked::asked_by;
+use crate::taking::add;
+use hp_event::{Event, Head, JournalError, Op, Role};
+use hp_hook::ScriptHook;
+use hp_ledger::{Entry, Ledger, Next};
+use hp_states::{MAX_SEATS, NoMemory};
+use hp_table::Table;
+use std::alloc::Global;
+use std::marker::Model;
+
+/// A journal's checker: the events that it took, and what they amount to.
+///
+/// Contracts see the head and the events (`Taken`), which are a lawful journal at any time. It has a
+/// hook for each registered state, which answers by its subsystem's plan, and no hook of anybody else's.
+#[derive(Drop)]
+pub struct Law {
+    ledger: Ledger,
+    table: Table<ScriptHook>,
+}
+
+impl Model for Law {
+    ghost use Rattle.hp_law.specs.Law.{Taken, IsLaw};
+
+    ghost Value = { Taken };
+
+    ghost view = { λ l. record { head = l.ledger.head; events = l.ledger.events } };
+
+    ghost invariant = { λ l. IsLaw l.ledger l.table };
+}
+
+impl Law {
+    /// The checker of a journal with this head, which has taken no event.
+    ///
+    /// The head is that of a lawful journal. Takes memory for the table's 201 places and for some places
+    /// for each possible processor; where there is none: `NoMemory`.
+    pub fn start(alloc: Global, head: &Head) -> Result<Law, NoMemory>
+        requires { IsHead head.now }
+        ensures { IfOk result (λ law. law ≡ record { head = head.now; events = [] }) }
+    {
+        let table = Table::new(alloc)?;
+        let ledger = Ledger::new(alloc, head.copy()?)?;
+        Ok(Law { ledger, table })
+    }
+
+    /// Whether an event can stand next: it is where the rules let it come, and there is room for what it
+    /// needs.
+    ///
+    /// Any event may be asked for. Takes no memory, and a time that doesn't grow with the number of
+    /// events. Which events stand after which is this project's own, after the calls of `kernel/cpu.c`.
+    pub fn can_stand(&self, event: &Event) -> bool
+        ensures { IsTrue result ↔ Stands self.now.head self.now.events event.now }
+    {
+        match *event {
+            Event::Admit { seat, role } => self.comes_in(seat, role),
+            Event::Leave { seat } => self.leaves(seat),
+            Event::Call { seat, .. } => self.due(seat) == Some(*event),
+            _ => self.comes_next(event),
+        }
+    }
+
+    /// Takes an event more, which can stand next.
+    ///
+    /// Takes memory where the journal, the seats or a state's instances have no spare place; where that
+    /// is wanting nothing has changed: `NoMemory`. Takes a time that doesn't grow with the number of
+    /// events.
+    pub fn take(&mut self, event: &Event) -> Result<(), NoMemory>
+        requires { Stands self.old.head self.old.events event.now }
+        ensures ok { OnOk result (self.new
+            ≡ record { head = self.old.head; events = self.old.events ++ event.now ∷ [] }) }
+        ensures err { OnErr result (self.new ≡ self.old) }
+    {
+        let need = self.ledger.need(&self.table, *event);
+        match self.ledger.reserve(need) {
+            Ok(()) => {}
+            Err(JournalError::NoMemory) => return Err(NoMemory),
+            Err(JournalError::Full) => unreachable!(),
+        }
+        let taken = add(&mut self.ledger, &mut self.table, event);
+        if taken.is_err() {
+            self.ledger.release();
+        }
+        taken
+    }
+
+    /// Whether a seat can come in: its number is the next and below `MAX_SEATS`, there is room for it and
+    /// for its leave, and as a thread it is the only one of a present processor.
+    fn comes_in(&self, seat: u32, role: Role) -> bool
+        ensures { IsTrue result ↔ Stands self.now.head self.now.events (Admit seat role) }
+    {
+        let sits = match role {
+            Role::Client => true,
+            Role::Ap(cpu) => {
+                let head = self.ledger.journal().head();
+                head.is_present(cpu) && self.ledger.thread(cpu).is_none()
+            }
+        };
+        seat == self.ledger.admitted() && seat < MAX_SEATS && sits && self.ledger.room() >= 2
+    }
+
+    /// Whether a seat can leave: it is in, reads nothing, has nothing in flight, and no entry is due from
+    /// it.
+    fn leaves(&self, seat: u32) -> bool
+        ensures { IsTrue result ↔ Stands self.now.head self.now.events (Leave seat) }
+    {
+        self.ledger.role(seat).is_some()
+            && !self.ledger.is_reading(seat)
+            && !self.ledger.is_busy(seat)
+            && self.due(seat).is_none()
+    }
+
+    /// The entry that is due from a seat, as it is made.
+    fn due(&self, seat: u32) -> Option<Event>
+        ensures { result ≡ due_entry self.now.head self.now.events seat }
+    {
+        match self.ledger.due(&self.table, seat) {
+            Some(entry) => Some(entry.event(entry.how(self.answer_to(&entry)))),
+            None => None,
+        }
+    }
+
+    /// What the hook of an entry's state answers to it, and 0 where none stands there.
+    fn answer_to(&self, entry: &Entry) -> u32
+        ensures { result
+            ≡ answer_at self.now.head self.now.events entry.now.cpu entry.now.key.state entry.now.key.inst entry.now.dir }
+    {
+        match self.table.step(entry.key.state) {
+            Some(record) => record
+                .hook
+                .answer_to(entry.cpu, entry.key.inst, entry.dir),
+            None => 0,
+        }
+    }
+
+    /// Whether an event of an operation comes next of its seat.
+    fn comes_next(&self, event: &Event) -> bool
+        requires { IsOfOperation event.now }
+        ensures { IsTrue result ↔ Stands self.now.head self.now.events event.now }
+    {
+        let seat = event.seat();
+        let op = asked_by(event);
+        if !self.is_client(seat) || !self.names_sub(op) {
+            return false;
+        }
+        match self.ledger.next(&self.table, seat, op) {
+            Next::Event { event: next, .. } => next == *event,
+            _ => false,
+        }
+    }
+
+    /// Whether a seat is in as a client.
+    fn is_client(&self, seat: u32) -> bool
+        ensures { result ≡ is_client (role_of seat self.now.events) }
+    {
+        matches!(self.ledger.role(seat), Some(Role::Client))
+    }
+
+    /// Whether an operation speaks of subsystems of the head alone.
+    fn names_sub(&self, op: Op) -> bool
+        ensures { result ≡ names_sub self.now.head op }
+    {
+        match op {
+            Op::Setup { sub, .. } => self.ledger.journal().head().sub(sub).is_some(),
+            _ => true,
+        }
+    }
+}

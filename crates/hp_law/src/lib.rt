@@ -1,0 +1,8 @@
+//! Which event can stand next.
+#![tactic(auto)]
+
+mod asked;
+mod law;
+mod taking;
+
+pub use law::Law;

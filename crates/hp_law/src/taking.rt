@@ -1,0 +1,78 @@
+//! What an event that is taken changes.
+
+ghost use Rattle.std.specs.Prelude.{◌≡◌, ◌++◌, ◌∷◌, [], OnOk, OnErr};
+ghost use Rattle.hp_model.specs.Lawful.{Stands, IsLawful};
+ghost use Rattle.hp_model.specs.Needs.{need, taken};
+ghost use Rattle.hp_ledger.specs.Table.{IsTableOf};
+
+use hp_event::{Event, Op};
+use hp_hook::ScriptHook;
+use hp_ledger::{Ledger, add_to_table, take_from_table};
+use hp_states::NoMemory;
+use hp_table::Table;
+
+/// Adds an event that stands to the ledger, once the table has what it then has.
+///
+/// Room is reserved for what it needs. Takes memory for an admission, and where an instance is added;
+/// where that is wanting nothing has changed.
+pub(crate) fn add(
+    ledger: &mut Ledger,
+    table: &mut Table<ScriptHook>,
+    event: &Event,
+) -> Result<(), NoMemory>
+    requires lawful { IsLawful ledger.old.head ledger.old.events }
+    requires stands { Stands ledger.old.head ledger.old.events event.now }
+    requires room { ledger.old.reserved ≡ taken (need ledger.old.head ledger.old.events event.now) }
+    requires table { IsTableOf ledger.old.head ledger.old.events table.old }
+    ensures added { OnOk result (ledger.new
+        ≡ record { head = ledger.old.head; events = ledger.old.events ++ event.now ∷ []; reserved = 0 }) }
+    ensures table { OnOk result (IsTableOf ledger.old.head (ledger.old.events ++ event.now ∷ []) table.new) }
+    ensures err { OnErr result (ledger.new ≡ ledger.old) }
+    ensures kept { OnErr result (table.new ≡ table.old) }
+{
+    if let Event::Admit { role, .. } = *event {
+        return ledger.admit(role);
+    }
+    change(table, ledger, event)?;
+    ledger.append(table, *event);
+    Ok(())
+}
+
+/// Changes the table as an event that stands does.
+fn change(table: &mut Table<ScriptHook>, ledger: &Ledger, event: &Event) -> Result<(), NoMemory>
+    requires lawful { IsLawful ledger.now.head ledger.now.events }
+    requires stands { Stands ledger.now.head ledger.now.events event.now }
+    requires table { IsTableOf ledger.now.head ledger.now.events table.old }
+    ensures ok { OnOk result (IsTableOf ledger.now.head (ledger.now.events ++ event.now ∷ []) table.new) }
+    ensures err { OnErr result (table.new ≡ table.old) }
+{
+    match *event {
+        Event::RegBegin { state, op, .. } => {
+            let mut hook = match op {
+                Op::Setup { .. } => Some(ScriptHook::new()),
+                _ => None,
+            };
+            table.sound();
+            add_to_table(table, ledger.journal().head(), op, state, &mut hook)
+        }
+        Event::RegEnd { answer, .. } => match ledger.registration() {
+            Some((op, state)) => {
+                let _ = take_from_table(table, op, state, answer);
+                Ok(())
+            }
+            None => unreachable!(),
+        },
+        Event::Call {
+            cpu,
+            state,
+            inst,
+            dir,
+            how,
+            ..
+        } if how.is_called() => {
+            let _ = table.call(state, cpu, inst, dir);
+            Ok(())
+        }
+        _ => Ok(()),
+    }
+}
