@@ -1,1 +1,4 @@
-
+pub mod Begun
+pub mod ClientEvents
+pub mod Comes
+pub mod TableOfEvent

@@ -2,7 +2,7 @@
 use Rattle.hp_event.specs.declared.op.Op.{Op}
 use Rattle.hp_event.specs.declared.op.Op.TheVariants as op
 use Rattle.hp_event.specs.declared.event.Event.{Event}
-use Rattle.hp_event.specs.declared.event.Event.TheVariants.{Admit, Leave, Enter, Refused, Call, RegBegin, ReadLock, ReadUnlock, Armed, Shown, Wakeup}
+use Rattle.hp_event.specs.declared.event.Event.TheVariants.{Admit, Leave, Enter, Refused, Call, RegBegin, ReadUnlock, Armed, Shown, Wakeup}
 use Rattle.hp_model.specs.Events.{showing}
 
 -- the operation that an event begins or refuses; of an event in flight, which says none, any will do

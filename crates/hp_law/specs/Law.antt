@@ -1,6 +1,6 @@
 -- What contracts see of the machine of a journal's checker, and what is so of it: the events that it took are a lawful journal,
 -- and the table is that journal's. This project's own.
-use Rattle.std.specs.Prelude.{◌≡◌, ℕ, Option, List}
+use Rattle.std.specs.Prelude.{◌≡◌, Option, List}
 use Rattle.hp_event.specs.declared.head.Head.{Head}
 use Rattle.hp_event.specs.declared.event.Event.{Event}
 use Rattle.hp_model.specs.Lawful.{IsLawful}

@@ -1,17 +1,18 @@
 //! The machine of a journal's checker.
 
 ghost use Rattle.std.specs.Prelude.{◌≡◌, ◌↔◌, ◌++◌, ◌∷◌, [], true, IsTrue, IfOk, OnOk, OnErr};
-ghost use Rattle.hp_event.specs.declared.event.Event.TheVariants.{Admit, Leave};
+ghost use Rattle.hp_event.specs.declared.event.Event.TheVariants.{Admit};
 ghost use Rattle.hp_model.specs.Heads.{IsHead};
 ghost use Rattle.hp_model.specs.How.{answer_at};
 ghost use Rattle.hp_model.specs.Lawful.{Stands};
 ghost use Rattle.hp_model.specs.NextEvent.{due_entry};
 ghost use Rattle.hp_model.specs.FirstEvent.{is_client};
-ghost use Rattle.hp_model.specs.Seats.{role_of};
 ghost use Rattle.hp_model.specs.Subsystems.{names_sub};
 ghost use Rattle.hp_law.specs.Asked.{IsOfOperation};
+ghost use Rattle.hp_law.specs.Leaving.{can_leave};
 
 use crate::asked::asked_by;
+use crate::same::same;
 use crate::taking::add;
 use hp_event::{Event, Head, JournalError, Op, Role};
 use hp_hook::ScriptHook;
@@ -63,10 +64,14 @@ impl Law {
     pub fn can_stand(&self, event: &Event) -> bool
         ensures { IsTrue result ↔ Stands self.now.head self.now.events event.now }
     {
+        let _ = &self.table;
         match *event {
             Event::Admit { seat, role } => self.comes_in(seat, role),
             Event::Leave { seat } => self.leaves(seat),
-            Event::Call { seat, .. } => self.due(seat) == Some(*event),
+            Event::Call { seat, .. } => match self.due(seat) {
+                Some(entry) => same(&entry, event),
+                None => false,
+            },
             _ => self.comes_next(event),
         }
     }
@@ -88,11 +93,13 @@ impl Law {
             Err(JournalError::NoMemory) => return Err(NoMemory),
             Err(JournalError::Full) => unreachable!(),
         }
-        let taken = add(&mut self.ledger, &mut self.table, event);
-        if taken.is_err() {
-            self.ledger.release();
+        match add(&mut self.ledger, &mut self.table, event) {
+            Ok(()) => Ok(()),
+            Err(NoMemory) => {
+                self.ledger.release();
+                Err(NoMemory)
+            }
         }
-        taken
     }
 
     /// Whether a seat can come in: its number is the next and below `MAX_SEATS`, there is room for it and
@@ -113,7 +120,7 @@ impl Law {
     /// Whether a seat can leave: it is in, reads nothing, has nothing in flight, and no entry is due from
     /// it.
     fn leaves(&self, seat: u32) -> bool
-        ensures { IsTrue result ↔ Stands self.now.head self.now.events (Leave seat) }
+        ensures { result ≡ can_leave self.now.head self.now.events seat }
     {
         self.ledger.role(seat).is_some()
             && !self.ledger.is_reading(seat)
@@ -137,9 +144,7 @@ impl Law {
             ≡ answer_at self.now.head self.now.events entry.now.cpu entry.now.key.state entry.now.key.inst entry.now.dir }
     {
         match self.table.step(entry.key.state) {
-            Some(record) => record
-                .hook
-                .answer_to(entry.cpu, entry.key.inst, entry.dir),
+            Some(record) => record.hook.answer_to(entry.cpu, entry.key.inst, entry.dir),
             None => 0,
         }
     }
@@ -151,29 +156,33 @@ impl Law {
     {
         let seat = event.seat();
         let op = asked_by(event);
-        if !self.is_client(seat) || !self.names_sub(op) {
+        let role = self.ledger.role(seat);
+        if !is_client(role) {
+            return false;
+        }
+        if !names_sub(self.ledger.journal().head(), op) {
             return false;
         }
         match self.ledger.next(&self.table, seat, op) {
-            Next::Event { event: next, .. } => next == *event,
+            Next::Event { event: next, .. } => same(&next, event),
             _ => false,
         }
     }
+}
 
-    /// Whether a seat is in as a client.
-    fn is_client(&self, seat: u32) -> bool
-        ensures { result ≡ is_client (role_of seat self.now.events) }
-    {
-        matches!(self.ledger.role(seat), Some(Role::Client))
-    }
+/// Whether a seat with this role is in as a client.
+fn is_client(role: Option<Role>) -> bool
+    ensures { result ≡ is_client role }
+{
+    matches!(role, Some(Role::Client))
+}
 
-    /// Whether an operation speaks of subsystems of the head alone.
-    fn names_sub(&self, op: Op) -> bool
-        ensures { result ≡ names_sub self.now.head op }
-    {
-        match op {
-            Op::Setup { sub, .. } => self.ledger.journal().head().sub(sub).is_some(),
-            _ => true,
-        }
+/// Whether an operation speaks of subsystems of the head alone.
+fn names_sub(head: &Head, op: Op) -> bool
+    ensures { result ≡ names_sub head.now op }
+{
+    match op {
+        Op::Setup { sub, .. } => head.sub(sub).is_some(),
+        _ => true,
     }
 }

@@ -3,6 +3,7 @@
 
 mod asked;
 mod law;
+mod same;
 mod taking;
 
 pub use law::Law;

@@ -57,7 +57,7 @@ fn change(table: &mut Table<ScriptHook>, ledger: &Ledger, event: &Event) -> Resu
         }
         Event::RegEnd { answer, .. } => match ledger.registration() {
             Some((op, state)) => {
-                let _ = take_from_table(table, op, state, answer);
+                take_from_table(table, op, state, answer);
                 Ok(())
             }
             None => unreachable!(),
@@ -69,8 +69,10 @@ fn change(table: &mut Table<ScriptHook>, ledger: &Ledger, event: &Event) -> Resu
             dir,
             how,
             ..
-        } if how.is_called() => {
-            let _ = table.call(state, cpu, inst, dir);
+        } => {
+            if how.is_called() {
+                table.call(state, cpu, inst, dir);
+            }
             Ok(())
         }
         _ => Ok(()),

@@ -72,7 +72,7 @@ not_full head es k op busy = rw busy refl
 abbrev of_seat : (k : ℕ) → List Event → Option Event
 of_seat k es = find (λ e. eqb (seat_of e) k) es
 
-found : (head : Head) (es : List Event) (k : ℕ) (op : Op) (e : Event) → is_busy k es ≡ true → under_way head es ≡ e ∷ [] →
+pub found : (head : Head) (es : List Event) (k : ℕ) (op : Op) (e : Event) → is_busy k es ≡ true → under_way head es ≡ e ∷ [] →
     eqb (seat_of e) k ≡ true → next_event head es k op ≡ Some e
 found head es k op e busy only own = next_is head es k op (Some e) busy (rw (only, own) refl)
 

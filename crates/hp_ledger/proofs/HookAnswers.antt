@@ -17,8 +17,8 @@ use Rattle.hp_model.specs.Journal.{over_from}
 use Rattle.hp_model.specs.Registered.{Registered, registered}
 use Rattle.hp_model.specs.Registrations.{Registration, registration}
 use Rattle.hp_model.specs.Subsystems.{sub_numbered, plan_of}
-use Rattle.hp_table.specs.Kept.{answer_at}
-use Rattle.hp_table.specs.Step.{Step, step_at}
+use Rattle.hp_table.specs.Kept.{Kept, answer_at}
+use Rattle.hp_table.specs.Step.{Step, step_at, kept_of}
 use Rattle.hp_ledger.specs.Table.{IsTableOf, IsStepOf, HasRegistration, registered_by, registered_in_flight, registered_meanwhile}
 
 same_step : (a b : Step) → Some a ≡ Some b → a ≡ b
@@ -96,6 +96,27 @@ pub answers_none : (head : Head) (es : List Event) (places : List (Option Step))
     step_at places s ≡ None → answer_of_plan head es c s i d ≡ 0
 answers_none head es places c s i d t none =
     ap (λ o. answer_of (plan_of o) (sites s es) (site_at c i d)) (none_there head es places s t none)
+
+-- by the record that stands there
+pub kept_answers : (head : Head) (es : List Event) (places : List (Option Step)) (c s i : ℕ) (d : Dir) (kept : Kept) →
+    IsTableOf head es places → Some kept ≡ kept_of (step_at places s) → answer_at kept (site_at c i d) ≡ answer_of_plan head es c s i d
+kept_answers head es places c s i d kept t is = go (step_at places s) refl is
+  where
+    same : (a b : Kept) → Some a ≡ Some b → a ≡ b
+    same a b h = cc
+
+    go : (o : Option Step) → step_at places s ≡ o → Some kept ≡ kept_of o → answer_at kept (site_at c i d) ≡ answer_of_plan head es c s i d
+    go None at h = absurd (cc)
+    go (Some step) at h =
+        ap (λ k. answer_at k (site_at c i d)) (same kept step.kept h) ∙ answers_there head es places c s i d step t at
+
+pub unkept_answers : (head : Head) (es : List Event) (places : List (Option Step)) (c s i : ℕ) (d : Dir) →
+    IsTableOf head es places → None ≡ kept_of (step_at places s) → answer_of_plan head es c s i d ≡ 0
+unkept_answers head es places c s i d t is = go (step_at places s) refl is
+  where
+    go : (o : Option Step) → step_at places s ≡ o → None ≡ kept_of o → answer_of_plan head es c s i d ≡ 0
+    go None at h = answers_none head es places c s i d t at
+    go (Some step) at h = absurd (cc)
 
 -- no hook was called more often than there are events
 sites_grow : (s : ℕ) (found : List Site) (xs : List Event) (e : Event) → length (sites_step s found xs e) ≤ length found + 1

@@ -1,0 +1,196 @@
+-- What comes next of a seat and an operation decides whether an event of it can stand.
+use Rattle.std.proofs.Common.{◌≡◌, ℕ, ◌+◌, ◌<◌, ◌≤◌, Bool, true, false, not, cond, ◌&&◌, IsTrue, is_some, is_none, ◌↔◌, Option, Some, None, List, [], ◌∷◌, ◌++◌, length, refl, sym, ap, ◌∙◌, subst, arith}
+use Rattle.std.proofs.lemmas.Bool.{true≢false, and_parts, leb-true}
+use Rattle.hp_states.specs.declared.dir.Dir.{Dir}
+use Rattle.hp_event.specs.declared.how.How.{How}
+use Rattle.hp_event.specs.declared.event.Role.{Role}
+use Rattle.hp_event.specs.declared.op.Op.{Op}
+use Rattle.hp_event.specs.declared.head.Head.{Head}
+use Rattle.hp_event.specs.declared.event.Event.{Event}
+use Rattle.hp_event.specs.declared.event.Event.TheVariants as event
+use Rattle.hp_states.specs.declared.limits.TheConstants.{MAX_EVENTS}
+use Rattle.hp_model.specs.Events.{seat_of, is_call}
+use Rattle.hp_model.specs.Lawful.{Stands, IsLawful}
+use Rattle.hp_model.specs.Needs.{need, taken}
+use Rattle.hp_model.specs.Promised.{promised}
+use Rattle.hp_model.specs.FirstEvent.{first_event, is_client}
+use Rattle.hp_model.specs.NextEvent.{next_event, is_full, due_entry, lacks_room, if_room, next_in_flight}
+use Rattle.hp_model.specs.Room.{is_room, has_room}
+use Rattle.hp_model.specs.Readers.{is_reading}
+use Rattle.hp_model.specs.Seats.{role_of, is_busy}
+use Rattle.hp_model.proofs.OneFate.{not_true}
+use Rattle.hp_model.proofs.RoomKept.{promises_fit}
+use Rattle.hp_model.proofs.HeadlineProof.{lawful_more}
+use Rattle.hp_model.proofs.DueGives.{due_exactly, due_nothing}
+use Rattle.hp_table.specs.Step.{Step}
+use Rattle.hp_ledger.specs.Ledger.{Entries}
+use Rattle.hp_ledger.specs.Table.{IsTableOf}
+use Rattle.hp_ledger.specs.declared.next.Next.{Next}
+use Rattle.hp_ledger.specs.declared.next.Next.TheVariants as answer
+use Rattle.hp_ledger.specs.Entries.{entry_event}
+use Rattle.hp_ledger.specs.Next.{IsNext}
+use Rattle.hp_model.specs.Subsystems.{names_sub}
+use Rattle.hp_model.proofs.NextStands.{next_stands}
+use Rattle.hp_law.specs.Asked.{asked_by, IsOfOperation}
+use Rattle.hp_law.proofs.ClientEvents.{asked_for}
+use Rattle.hp_law.specs.Law.{IsLaw}
+use Rattle.hp_law.specs.Leaving.{can_leave}
+
+pub same_event : (a b : Event) → Some a ≡ Some b → a ≡ b
+same_event a b h = cc
+
+none_some : (e : Event) → None ≡ Some e → ⊥
+none_some e h = cc
+
+-- where there is no room for a first event, none comes
+no_room : (head : Head) (es : List Event) (o : Option Event) → lacks_room head es o ≡ true → if_room head es o ≡ None
+no_room head es None h = refl
+no_room head es (Some e) h = go (has_room head es e) h
+  where
+    go : (room : Bool) → not room ≡ true → cond room (Some e) None ≡ None
+    go true h = absurd (true≢false (sym h))
+    go false h = refl
+
+skip : (b : Bool) (e o : Option Event) → b ≡ false → o ≡ None → cond b e o ≡ None
+skip true e o h k = absurd (true≢false h)
+skip false e o h k = k
+
+full_none : (head : Head) (es : List Event) (k : ℕ) (op : Op) → is_full head es k op ≡ true → next_event head es k op ≡ None
+unfolding is_full next_event
+full_none head es k op h =
+    let p = and_parts (not (is_busy k es)) (lacks_room head es (first_event head es k op)) h in
+    skip (is_busy k es) (next_in_flight head es k) (if_room head es (first_event head es k op)) (not_true (is_busy k es) p.0)
+    (no_room head es (first_event head es k op) p.1)
+
+-- what comes next is no event of the operation's own, where it is answered otherwise
+pub no_event : (head : Head) (es : List Event) (k : ℕ) (op : Op) (n : Next) (e : Event) → IsNext head es k op n →
+    ((next : Event) (takes : ℕ) → n ≡ answer.Event next takes → ⊥) → IsOfOperation e → next_event head es k op ≡ Some e → ⊥
+no_event head es k op (answer.Event next takes) e is other of at = other next takes refl
+no_event head es k op (answer.Entry x) e is other of at =
+    subst IsOfOperation (sym (same_event (entry_event head es x) e (sym is ∙ at))) of
+no_event head es k op answer.Full e is other of at = none_some e (sym (full_none head es k op is) ∙ at)
+no_event head es k op (answer.Wait why) e is other of at = none_some e (sym is.no_event ∙ at)
+
+-- an event that is no seat's coming or leaving and no entry is an operation's
+pub of_operation : (e : Event) → ((seat : ℕ) (role : Role) → e ≡ event.Admit seat role → ⊥) → ((seat : ℕ) → e ≡ event.Leave seat → ⊥) →
+    ((seat cpu state inst : ℕ) (dir : Dir) (how : How) → e ≡ event.Call seat cpu state inst dir how → ⊥) → IsOfOperation e
+of_operation (event.Admit seat role) a l c = absurd (a seat role refl)
+of_operation (event.Leave seat) a l c = absurd (l seat refl)
+of_operation (event.Call seat cpu state inst dir how) a l c = absurd (c seat cpu state inst dir how refl)
+of_operation e a l c = tt
+
+-- room is there for what an event that stands needs
+pub room_for : (head : Head) (es : List Event) (e : Event) → IsLawful head es → Stands head es e →
+    MAX_EVENTS < length es + promised head es + 0 + taken (need head es e) → ⊥
+room_for head es e lawful stands past = go (need head es e) refl stands.1
+  where
+    go : (n : Option ℕ) → need head es e ≡ n → is_room head es n ≡ true → ⊥
+    go None is h =
+        let fits = promises_fit head es lawful in
+        let none : taken (need head es e) ≡ 0 = rw is refl in
+        omega (arith, past, fits, none)
+    go (Some n) is h =
+        let fits : length es + promised head es + n ≤ MAX_EVENTS = leb-true (length es + promised head es + n) MAX_EVENTS h in
+        let some : taken (need head es e) ≡ n = rw is refl in
+        omega (arith, past, fits, some)
+
+-- an entry stands where it is the one that is due from its seat
+pub by_due : (head : Head) (es : List Event) (k : ℕ) (e : Event) (due : Option Event) → IsLawful head es → is_call e ≡ true →
+    seat_of e ≡ k → due ≡ due_entry head es k → (due ≡ Some e) ↔ Stands head es e
+by_due head es k e due lawful call by is =
+    let x = due_exactly head es k e lawful in (λ h. (x.0 (sym is ∙ h)).0, λ s. is ∙ x.1 (s, call, by))
+
+pub some_due : (head : Head) (es : List Event) (k : ℕ) (e entry : Event) (same : Bool) → IsLawful head es → is_call e ≡ true →
+    seat_of e ≡ k → Some entry ≡ due_entry head es k → IsTrue same ↔ (entry ≡ e) → IsTrue same ↔ Stands head es e
+some_due head es k e entry same lawful call by is decides =
+    let x = by_due head es k e (Some entry) lawful call by is in
+    (λ h. x.0 (ap Some (decides.0 h)), λ s. decides.1 (same_event entry e (x.1 s)))
+
+pub none_due : (head : Head) (es : List Event) (k : ℕ) (e : Event) → IsLawful head es → is_call e ≡ true →
+    seat_of e ≡ k → None ≡ due_entry head es k → IsTrue false ↔ Stands head es e
+none_due head es k e lawful call by is =
+    let x = by_due head es k e None lawful call by is in (λ h. absurd (true≢false (sym h)), λ s. absurd (none_some e (x.1 s)))
+
+-- a seat leaves where it can
+all_four : (a b c d : Bool) → (a && (not b && (not c && d))) ≡ true → (a ≡ true) × (b ≡ false) × (c ≡ false) × (d ≡ true)
+all_four true false false true h = (refl, refl, refl, refl)
+all_four false b c d h = absurd (true≢false (sym h))
+all_four true true c d h = absurd (true≢false (sym h))
+all_four true false true d h = absurd (true≢false (sym h))
+all_four true false false false h = absurd (true≢false (sym h))
+
+is_in : (o : Option Role) → is_some o ≡ true → (role : Role) × (o ≡ Some role)
+is_in None h = absurd (true≢false (sym h))
+is_in (Some role) h = (role, refl)
+
+none_is : (o : Option Event) → is_none o ≡ true → o ≡ None
+none_is None h = refl
+none_is (Some e) h = absurd (true≢false (sym h))
+
+pub leaves_so : (head : Head) (es : List Event) (k : ℕ) → (can_leave head es k ≡ true) ↔ Stands head es (event.Leave k)
+leaves_so head es k = (there, back)
+  where
+    there : can_leave head es k ≡ true → Stands head es (event.Leave k)
+    there h =
+        let a = all_four (is_some (role_of k es)) (is_reading k es) (is_busy k es) (is_none (due_entry head es k)) h in (
+          record {
+            is_in = is_in (role_of k es) a.0;
+            not_reading = a.1;
+            idle = a.2;
+            no_entry_due = (due_nothing head es k).0 (none_is (due_entry head es k) a.3);
+          },
+          refl,
+        )
+
+    back : Stands head es (event.Leave k) → can_leave head es k ≡ true
+    back h =
+        let b = h.0 in
+        let role = b.is_in.1 in
+        let reads = b.not_reading in
+        let idle = b.idle in
+        let none = (due_nothing head es k).1 b.no_entry_due in
+        rw (role, reads, idle, none) refl
+
+-- what a machine has once it took an event
+pub law_goes_on : (old new : Entries) (e : Event) (places : List (Option Step)) → IsLawful old.head old.events →
+    Stands old.head old.events e → new ≡ record { head = old.head; events = old.events ++ e ∷ []; reserved = 0 } →
+    IsTableOf old.head (old.events ++ e ∷ []) places → IsLaw new places
+law_goes_on old new e places lawful stands is t =
+    subst (λ (l : Entries). IsLaw l places) (sym is)
+    (record { lawful = lawful_more old.head old.events e lawful stands; table_is = t; nothing_reserved = refl })
+
+-- what the ledger says comes next decides
+pub comes_event : (head : Head) (es : List Event) (k : ℕ) (op : Op) (e next : Event) (takes : ℕ) (same : Bool) → IsLawful head es →
+    IsOfOperation e → k ≡ seat_of e → op ≡ asked_by e → IsNext head es k op (answer.Event next takes) → IsTrue same ↔ (next ≡ e) →
+    IsTrue same ↔ Stands head es e
+comes_event head es k op e next takes same lawful of k_is op_is is decides = (
+  λ h. (next_stands head es k op e (is.0 ∙ ap Some (decides.0 h))).0,
+  λ s. decides.1
+      (same_event next e
+      (sym is.0 ∙ (ap (λ n. next_event head es n op) k_is ∙ ap (next_event head es (seat_of e)) op_is)
+      ∙ (asked_for head es e lawful of s).next)),
+)
+
+pub comes_other : (head : Head) (es : List Event) (k : ℕ) (op : Op) (e : Event) (n : Next) → IsLawful head es →
+    IsOfOperation e → k ≡ seat_of e → op ≡ asked_by e → IsNext head es k op n →
+    ((next : Event) (takes : ℕ) → n ≡ answer.Event next takes → ⊥) → IsTrue false ↔ Stands head es e
+comes_other head es k op e n lawful of k_is op_is is other = (
+  λ h. absurd (true≢false (sym h)),
+  λ s. absurd
+      (no_event head es k op n e is other of
+      ((ap (λ m. next_event head es m op) k_is ∙ ap (next_event head es (seat_of e)) op_is) ∙ (asked_for head es e lawful of s).next)),
+)
+
+pub not_client : (head : Head) (es : List Event) (k : ℕ) (e : Event) → IsLawful head es → IsOfOperation e → k ≡ seat_of e →
+    is_client (role_of k es) ≡ false → IsTrue false ↔ Stands head es e
+not_client head es k e lawful of k_is other = (
+  λ h. absurd (true≢false (sym h)),
+  λ s. absurd (true≢false (sym (asked_for head es e lawful of s).client ∙ ap (λ n. is_client (role_of n es)) (sym k_is) ∙ other)),
+)
+
+pub not_named : (head : Head) (es : List Event) (op : Op) (e : Event) → IsLawful head es → IsOfOperation e → op ≡ asked_by e →
+    names_sub head op ≡ false → IsTrue false ↔ Stands head es e
+not_named head es op e lawful of op_is other = (
+  λ h. absurd (true≢false (sym h)),
+  λ s. absurd (true≢false (sym (asked_for head es e lawful of s).names ∙ ap (names_sub head) (sym op_is) ∙ other)),
+)

@@ -1,0 +1,81 @@
+-- What the table has once an event is taken.
+use Rattle.std.proofs.Common.{◌≡◌, ℕ, true, Option, Some, None, OnOk, Ok, Err, IfSome, List, [], ◌∷◌, ◌++◌, refl, sym, ap, ◌∙◌, subst}
+use Rattle.std.specs.Prelude.{Result, option_map}
+use Rattle.hp_states.specs.declared.dir.Dir.{Dir}
+use Rattle.hp_event.specs.declared.op.Op.{Op}
+use Rattle.hp_event.specs.declared.answer.Answer.{Answer}
+use Rattle.hp_event.specs.declared.head.Head.{Head}
+use Rattle.hp_event.specs.declared.how.How.{How}
+use Rattle.hp_event.specs.declared.event.Event.{Event}
+use Rattle.hp_event.specs.declared.event.Event.TheVariants.{RegBegin, RegEnd, Call}
+use Rattle.hp_model.specs.Events.{is_registration_op}
+use Rattle.hp_model.specs.Registrations.{Registration, registration}
+use Rattle.hp_table.specs.Step.{Step, step_at}
+use Rattle.hp_ledger.specs.Table.{IsTableOf, HasRegistration, HasOf}
+use Rattle.hp_ledger.specs.TableChanges.{CanTakeOut, without_left}
+use Rattle.hp_ledger.proofs.TableMore.{LeavesTable}
+use Rattle.hp_ledger.proofs.TableChanged.{can_take_out, table_left}
+
+pub on_ok : {T E : Type 0} (r : Result T E) (P Q : Type 0) → OnOk r P → (P → Q) → OnOk r Q
+on_ok (Ok x) P Q h f = f h
+on_ok (Err e) P Q h f = tt
+
+pub always : {T E : Type 0} (r : Result T E) (Q : Type 0) → Q → OnOk r Q
+always (Ok x) Q h = h
+always (Err e) Q h = tt
+
+none_some : {X : Type 0} (x : X) → None ≡ Some x → ⊥
+none_some x h = cc
+
+-- the registration in flight, by what the ledger says of it
+pub record Flies (es : List Event) (op : Op) (state : ℕ) : Type 0 where
+  pub of : Registration
+  pub in_flight : registration es ≡ Some of
+  pub op_is : of.op ≡ op
+  pub state_is : of.state ≡ state
+
+abbrev both : (o : Option (Op × ℕ)) → Op × ℕ → Op × ℕ
+both None d = d
+both (Some p) d = p
+
+same_pair : (p q : Op × ℕ) → Some p ≡ Some q → p ≡ q
+same_pair p q h = ap (λ o. both o p) h
+
+pub flies : (es : List Event) (op : Op) (state : ℕ) →
+    ◌≡◌ {A = Option (Op × ℕ)} (Some (op, state)) (option_map (λ (r : Registration). (r.op, r.state)) (registration es)) →
+    Flies es op state
+flies es op state is = go (registration es) refl is
+  where
+    go : (o : Option Registration) → registration es ≡ o →
+        ◌≡◌ {A = Option (Op × ℕ)} (Some (op, state)) (option_map (λ (r : Registration). (r.op, r.state)) o) →
+        Flies es op state
+    go None at h = absurd (none_some (op, state) (sym h))
+    go (Some r) at h =
+        let p = same_pair (r.op, r.state) (op, state) (sym h) in
+        record { of = r; in_flight = at; op_is = ap (λ (x : Op × ℕ). x.0) p; state_is = ap (λ (x : Op × ℕ). x.1) p }
+
+pub takes_out : (head : Head) (es : List Event) (places : List (Option Step)) (op : Op) (state : ℕ) → IsTableOf head es places →
+    is_registration_op op ≡ true → Flies es op state → CanTakeOut op (step_at places state)
+takes_out head es places op state t registers f =
+    let h : HasRegistration head es places f.of = subst (λ o. IfSome o (HasRegistration head es places)) f.in_flight t.in_flight in
+    let here = ap (step_at places) (sym f.state_is) ∙ h.place_is in
+    can_take_out op (step_at places state) h.step here registers (subst (λ o. HasOf o h.step) f.op_is h.has)
+
+pub left_table : (head : Head) (es : List Event) (places : List (Option Step)) (seat : ℕ) (answer : Answer) (op : Op) (state : ℕ) →
+    IsTableOf head es places → is_registration_op op ≡ true → Flies es op state →
+    IsTableOf head (es ++ RegEnd seat answer ∷ []) (without_left op answer state places)
+left_table head es places seat answer op state t registers f =
+    let h : HasRegistration head es places f.of = subst (λ o. IfSome o (HasRegistration head es places)) f.in_flight t.in_flight in
+    let left =
+    table_left head es places seat answer f.of f.in_flight (ap is_registration_op f.op_is ∙ registers) t h in
+    subst (λ o. IsTableOf head (es ++ RegEnd seat answer ∷ []) (without_left o answer state places)) f.op_is
+    (subst (λ s. IsTableOf head (es ++ RegEnd seat answer ∷ []) (without_left f.of.op answer s places)) f.state_is left)
+
+-- every event but those three leaves the table
+pub leaves_it : (e : Event) → ((seat state : ℕ) (op : Op) → e ≡ RegBegin seat state op → ⊥) →
+    ((seat : ℕ) (answer : Answer) → e ≡ RegEnd seat answer → ⊥) →
+    ((seat cpu state inst : ℕ) (dir : Dir) (how : How) → e ≡ Call seat cpu state inst dir how → ⊥) → LeavesTable e
+leaves_it (RegBegin seat state op) b r c = absurd (b seat state op refl)
+leaves_it (RegEnd seat answer) b r c = absurd (r seat answer refl)
+leaves_it (Call seat cpu state inst dir how) b r c = absurd (c seat cpu state inst dir how refl)
+leaves_it e b r c = tt
