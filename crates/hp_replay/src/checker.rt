@@ -1,6 +1,7 @@
 //! The machine that says which event can stand next.
 
 use hp_event::{Event, Head};
+use hp_law::Law;
 use hp_states::NoMemory;
 use std::alloc::Global;
 
@@ -42,4 +43,24 @@ pub trait Checker: Sized + Drop {
         requires { Stands (head_of self.old) (events_of self.old) event.now }
         ensures head { OnOk result (head_of self.new ≡ head_of self.old) }
         ensures events { OnOk result (events_of self.new ≡ events_of self.old ++ event.now ∷ []) };
+}
+
+/// The journal's checker of `hp_law`, which takes a time for each event that doesn't grow with the
+/// journal.
+impl Checker for Law {
+    ghost head_of = { λ l. l.head };
+
+    ghost events_of = { λ l. l.events };
+
+    fn start(alloc: Global, head: &Head) -> Result<Law, NoMemory> {
+        Law::start(alloc, head)
+    }
+
+    fn can_stand(&self, event: &Event) -> bool {
+        Law::can_stand(self, event)
+    }
+
+    fn take(&mut self, event: &Event) -> Result<(), NoMemory> {
+        Law::take(self, event)
+    }
 }

@@ -1,8 +1,8 @@
 //! The reader and checker of a printed journal.
 //!
-//! `check_with` reads the text of a journal, with or without its summary, and answers the journal,
-//! or the first line that can't stand and why. Which event can stand next is said by a machine, any
-//! `Checker`; all else is decided here. Lines are slices of the input, and nothing is copied but the
+//! `check` reads the text of a journal, with or without its summary, and answers the journal, or the
+//! first line that can't stand and why. Which event can stand next is said by a machine, that of
+//! `hp_law` or any `Checker` (`check_with`); all else is decided here. Lines are slices of the input, and nothing is copied but the
 //! head and the events.
 //!
 //! To read the definitions, take `specs/Numbers.antt`, `LineWords`, `Readers`, `OpAt` and `EventAt`,
@@ -18,7 +18,6 @@
 #![tactic(auto)]
 
 mod answer;
-mod check;
 mod checker;
 mod end;
 mod error;
@@ -33,12 +32,12 @@ mod laws;
 mod line;
 mod numbers;
 mod op;
+mod replay;
 mod summary_lines;
 #[cfg(test)]
 mod tests;
 mod words;
 
-pub use check::check_with;
 pub use checker::Checker;
 pub use error::{ReplayError, ReplayKind};
 pub use fits::{event_fits, events_fit};
@@ -47,3 +46,4 @@ pub use laws::{
     judged_is_verdict, line_says_one, read_event_is_spelled, standing_is_spelled, text_is_accepted,
     text_says_one,
 };
+pub use replay::{check, check_with};

@@ -1,36 +1,8 @@
-//! Texts that are refused before their first event, read with a machine that never starts.
+//! Texts that are refused before their first event.
 
-use crate::{Checker, ReplayError, ReplayKind, check_with};
-use hp_event::{Event, Head};
-use hp_states::NoMemory;
+use crate::{ReplayError, ReplayKind, check};
 use std::alloc::Global;
 use std::test::*;
-
-/// A machine for which memory is always wanting, so that there is none.
-#[derive(Drop)]
-struct NoMachine {
-    ghost never: { ⊥ },
-}
-
-impl Checker for NoMachine {
-    ghost use Rattle.std.specs.Prelude.{[]};
-
-    ghost head_of = { λ _. record { possible = 0; absent = []; subs = [] } };
-
-    ghost events_of = { λ _. [] };
-
-    fn start(_alloc: Global, _head: &Head) -> Result<NoMachine, NoMemory> {
-        Err(NoMemory)
-    }
-
-    fn can_stand(&self, _event: &Event) -> bool {
-        false
-    }
-
-    fn take(&mut self, _event: &Event) -> Result<(), NoMemory> {
-        Err(NoMemory)
-    }
-}
 
 const HEADER: ReplayKind = ReplayKind::Header;
 
@@ -97,7 +69,7 @@ const REFUSED: [(&'static [u8], u32, ReplayKind); 26] = [
 #[test]
 fn what_stands_before_the_events(rt: HostRuntime) {
     for (bytes, line, kind) in REFUSED {
-        let answer = check_with::<NoMachine>(rt.alloc(), bytes);
+        let answer = check(rt.alloc(), bytes);
         assert!(rt; answer.err() == Some(ReplayError::Bad { line, kind }));
     }
 }
@@ -108,7 +80,7 @@ const RULES: &'static [u8] =
 
 #[test]
 fn a_ninth_rule(rt: HostRuntime) {
-    let answer = check_with::<NoMachine>(rt.alloc(), RULES);
+    let answer = check(rt.alloc(), RULES);
     let wanted = ReplayError::Bad {
         line: 13,
         kind: HEADER,
@@ -117,10 +89,14 @@ fn a_ninth_rule(rt: HostRuntime) {
 }
 
 #[test]
-fn a_head_alone_wants_a_machine(rt: HostRuntime) {
+fn a_head_alone(rt: HostRuntime) {
     let bytes = b"cpuhp journal 1\ncpus 2\nabsent -\nevents\n";
-    let answer = check_with::<NoMachine>(rt.alloc(), bytes);
-    assert!(rt; answer.err() == Some(ReplayError::NoMemory));
+    let answer = check(rt.alloc(), bytes);
+    let wanted = ReplayError::Bad {
+        line: 5,
+        kind: MISSING,
+    };
+    assert!(rt; answer.err() == Some(wanted));
 }
 
 /// One more subsystem than a head may have.
@@ -137,10 +113,14 @@ fn many_subs(alloc: Global, subs: u32) -> Result<Vec<u8>, Fail> {
 #[test]
 fn so_many_subsystems(rt: HostRuntime) -> Result<(), Fail> {
     let text = many_subs(rt.alloc(), 128)?;
-    let answer = check_with::<NoMachine>(rt.alloc(), text.as_slice());
-    assert!(rt; answer.err() == Some(ReplayError::NoMemory));
+    let answer = check(rt.alloc(), text.as_slice());
+    let wanted = ReplayError::Bad {
+        line: 133,
+        kind: MISSING,
+    };
+    assert!(rt; answer.err() == Some(wanted));
     let text = many_subs(rt.alloc(), 129)?;
-    let answer = check_with::<NoMachine>(rt.alloc(), text.as_slice());
+    let answer = check(rt.alloc(), text.as_slice());
     let wanted = ReplayError::Bad {
         line: 132,
         kind: HEADER,

@@ -1,14 +1,7 @@
-//! Whole texts, but for which events stand: that is the machine's to say.
+//! Whole texts.
 
-use crate::event::event_of_line;
-use crate::events::take_end;
-use crate::head::read_head;
-use crate::line::Lines;
-use crate::summary_lines::read_summary;
-use crate::{ReplayError, ReplayKind, events_fit, text_is_accepted};
-use hp_event::Journal;
+use crate::{ReplayError, ReplayKind, check, events_fit, text_is_accepted};
 use hp_print::{journal_text, summary};
-use hp_states::MAX_JOURNAL_BYTES;
 use std::alloc::Global;
 use std::test::*;
 
@@ -20,35 +13,6 @@ const TEXT: &'static [u8] =
 const SUMMARY: &'static [u8] =
     b"cpu 0 present state 200 keys 150.1 150.2 150.3\ncpu 1 present state 0 keys -\ndisabled 0\nfrozen -\nsub 150 net:q made 8 faults 1 instances 3 2 1\nops ok 4 refused 0 fault 1 stuck 0 full 0\nevents 23\n";
 
-/// Takes the events' lines and the `end` line, as if each event stood.
-fn take_events(journal: &mut Journal, lines: &mut Lines<'_>) -> Result<(), ReplayError> {
-    for _ in 0..1000 {
-        let line = lines.expect()?;
-        match event_of_line(&line) {
-            None => return take_end(journal, &line),
-            Some(event) => {
-                if journal.reserve(1).is_ok() && journal.promised() > 0 {
-                    journal.push(event);
-                }
-            }
-        }
-    }
-    Ok(())
-}
-
-/// What is said of a text, as if each event of it stood.
-fn read(alloc: Global, bytes: &[u8]) -> Result<Journal, ReplayError> {
-    if bytes.len() > MAX_JOURNAL_BYTES as usize {
-        return Err(ReplayError::NoMemory);
-    }
-    let mut lines = Lines::of(bytes);
-    let head = read_head(alloc, &mut lines)?;
-    let mut journal = Journal::new(alloc, head);
-    take_events(&mut journal, &mut lines)?;
-    read_summary(alloc, &journal, &mut lines)?;
-    Ok(journal)
-}
-
 /// The text, and these bytes behind it.
 fn with(alloc: Global, more: &[u8]) -> Result<Vec<u8>, Fail> {
     let mut all = Vec::from_slice(alloc, TEXT)?;
@@ -58,14 +22,14 @@ fn with(alloc: Global, more: &[u8]) -> Result<Vec<u8>, Fail> {
 
 #[test]
 fn a_text_with_and_without_its_summary(rt: HostRuntime) -> Result<(), Fail> {
-    let journal = read(rt.alloc(), TEXT)?;
+    let journal = check(rt.alloc(), TEXT)?;
     assert!(rt; journal.len() == 23);
     assert!(rt; journal_text(rt.alloc(), &journal)?.as_slice() == TEXT);
     assert!(rt; summary(rt.alloc(), &journal)?.as_slice() == SUMMARY);
     events_fit(journal.events());
     text_is_accepted(&journal, TEXT);
     let all = with(rt.alloc(), SUMMARY)?;
-    let again = read(rt.alloc(), all.as_slice())?;
+    let again = check(rt.alloc(), all.as_slice())?;
     assert!(rt; again.events() == journal.events());
     Ok(())
 }
@@ -110,7 +74,7 @@ const BEHIND: [(&'static [u8], u32, ReplayKind); 8] = [
 fn what_stands_behind_the_text(rt: HostRuntime) -> Result<(), Fail> {
     for (more, line, kind) in BEHIND {
         let all = with(rt.alloc(), more)?;
-        let answer = read(rt.alloc(), all.as_slice());
+        let answer = check(rt.alloc(), all.as_slice());
         assert!(rt; answer.err() == Some(ReplayError::Bad { line, kind }));
     }
     Ok(())
@@ -134,8 +98,60 @@ fn what_stands_among_the_events(rt: HostRuntime) -> Result<(), Fail> {
     for (more, line, kind) in AMONG {
         let mut all = Vec::from_slice(rt.alloc(), b"cpuhp journal 1\ncpus 2\nabsent -\nevents\n")?;
         all.extend_from_slice(more)?;
-        let answer = read(rt.alloc(), all.as_slice());
+        let answer = check(rt.alloc(), all.as_slice());
         assert!(rt; answer.err() == Some(ReplayError::Bad { line, kind }));
+    }
+    Ok(())
+}
+
+/// The text with another line in place of one, counted from 1.
+fn with_line(alloc: Global, number: u32, line: &[u8]) -> Result<Vec<u8>, Fail> {
+    let mut all = Vec::new(alloc);
+    let mut at = 1;
+    for byte in TEXT {
+        if at != number {
+            all.push(*byte)?;
+        }
+        if *byte == b'\n' {
+            if at == number {
+                all.extend_from_slice(line)?;
+            }
+            at = at.saturating_add(1);
+        }
+    }
+    Ok(all)
+}
+
+/// Lines that can't stand in place of the text's, with their numbers.
+const UNLAWFUL: [(u32, &'static [u8]); 16] = [
+    (8, b"admit 1 ap 0\n"),
+    (8, b"admit 2 ap 1\n"),
+    (9, b"leave 2\n"),
+    (10, b"reg 2 151 setup 150 1\n"),
+    (10, b"reg 3 150 setup 150 1\n"),
+    (11, b"regged 2 fault 5\n"),
+    (13, b"call 1 0 150 1 up ok\n"),
+    (13, b"call 0 0 150 1 up fault 5\n"),
+    (13, b"call 0 0 150 1 up empty\n"),
+    (15, b"reg 2 150 add 150 1\n"),
+    (21, b"walk 2 1 0 200\n"),
+    (22, b"walk 2 1 0 199\n"),
+    (23, b"call 1 1 150 1 up ok\n"),
+    (26, b"walked 2 1 fault 5\n"),
+    (28, b"walked 2 1 fault 6\n"),
+    (29, b"done 2 ok 0\n"),
+];
+
+#[test]
+fn an_event_that_cannot_stand(rt: HostRuntime) -> Result<(), Fail> {
+    for (line, text) in UNLAWFUL {
+        let all = with_line(rt.alloc(), line, text)?;
+        let answer = check(rt.alloc(), all.as_slice());
+        let wanted = ReplayError::Bad {
+            line,
+            kind: ReplayKind::Unlawful,
+        };
+        assert!(rt; answer.err() == Some(wanted));
     }
     Ok(())
 }

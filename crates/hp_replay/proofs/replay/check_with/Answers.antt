@@ -6,7 +6,7 @@ use Rattle.hp_replay.specs.Judged.{accepted}
 use Rattle.hp_replay.specs.Reading.{GoesOver, RefusedFrom}
 use Rattle.hp_replay.proofs.ReadingLaws.{goes_on, refused_later}
 use Rattle.hp_replay.proofs.SummaryReading.{all_of, is_refusal, is_replay, is_head, judged_over}
-use Rattle.hp_replay.proofs.check.check_with.Goals as goal
+use Rattle.hp_replay.proofs.replay.check_with.Goals as goal
 
 pub returns-in_err-head-clause-refused : goal.returns-in_err-head-clause-refused
 returns-in_err-head-clause-refused g c =

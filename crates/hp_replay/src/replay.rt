@@ -11,10 +11,34 @@ use crate::head::read_head;
 use crate::line::Lines;
 use crate::summary_lines::read_summary;
 use hp_event::Journal;
+use hp_law::Law;
 use hp_states::MAX_JOURNAL_BYTES;
 use std::alloc::Global;
 
 /// The lawful journal whose text an input is, or whose text with its summary.
+///
+/// The bytes may be any.
+///
+/// - `Bad` where they are no such text: with the first line that can't stand, counted from 1, and
+///   its kind (`ReplayKind`); with the line behind the last, where one is missing; or with line 0,
+///   where there are more than `MAX_JOURNAL_BYTES` bytes, of which none is looked at then.
+/// - `NoMemory` where memory was wanting.
+///
+/// Takes a time linear in the bytes, but for what the processors, the states and the instances of an
+/// event's own operation take. Takes memory for the journal, for what its events amount to, and for
+/// the summary where the input has one. Nothing is promised a place in the journal. The text of
+/// journals is this project's own.
+pub fn check(alloc: Global, bytes: &[u8]) -> Result<Journal, ReplayError>
+    // The bytes are the text of this lawful journal, or its text and its summary.
+    ensures journal { IfOk result (λ j. IsReplay bytes.now (accepted j.head j.events)) }
+    ensures promised { IfOk result (λ j. j.promised ≡ 0) }
+    // They are none, and this is the first line that can't stand, or that is missing.
+    ensures refused { IfErr result (IsRefusal bytes.now) }
+{
+    check_with::<Law>(alloc, bytes)
+}
+
+/// As `check`, by any machine.
 ///
 /// The bytes may be any. The machine `C` says which event can stand next.
 ///
