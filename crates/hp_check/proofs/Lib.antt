@@ -1,9 +1,7 @@
 pub mod AddSteps
 pub mod DueAmong
-pub mod EachRow
 pub mod FirstFree
 pub mod Firsts
-pub mod HeadSteps
 pub mod OperationRows
 pub mod Rising
 pub mod RoomSteps

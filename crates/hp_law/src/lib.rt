@@ -1,0 +1,48 @@
+//! The law of journals, one event at a time.
+//!
+//! A journal is lawful where its head is one that a machine can be started with, and each event stands
+//! after those before it. `is_head` decides the first; a `Law` is started with such a head, says whether
+//! one event more can stand, and takes it. Both contracts are equivalences with hp_model's definitions
+//! `IsHead` and `Stands`.
+//!
+//! It asks no hook and calls nothing: how an entry is made follows from the rules of its subsystem in
+//! the head, and from the entries before it.
+#![tactic(auto)]
+
+mod heads;
+mod law;
+#[cfg(test)]
+mod test_answers;
+#[cfg(test)]
+mod test_client_journals;
+#[cfg(test)]
+mod test_clients;
+#[cfg(test)]
+mod test_file_journals;
+#[cfg(test)]
+mod test_files;
+#[cfg(test)]
+mod test_heads;
+#[cfg(test)]
+mod test_lines;
+#[cfg(test)]
+mod test_refusals;
+#[cfg(test)]
+mod test_registration_journals;
+#[cfg(test)]
+mod test_registrations;
+#[cfg(test)]
+mod test_seat_journals;
+#[cfg(test)]
+mod test_seats;
+#[cfg(test)]
+mod test_summaries;
+#[cfg(test)]
+mod test_verdicts;
+#[cfg(test)]
+mod test_walk_journals;
+#[cfg(test)]
+mod test_walks;
+
+pub use heads::is_head;
+pub use law::Law;
