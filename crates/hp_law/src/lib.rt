@@ -26,6 +26,8 @@ mod test_heads;
 #[cfg(test)]
 mod test_lines;
 #[cfg(test)]
+mod test_mixed_journal;
+#[cfg(test)]
 mod test_refusals;
 #[cfg(test)]
 mod test_registration_journals;
@@ -37,6 +39,8 @@ mod test_seat_journals;
 mod test_seats;
 #[cfg(test)]
 mod test_summaries;
+#[cfg(test)]
+mod test_swaps;
 #[cfg(test)]
 mod test_verdicts;
 #[cfg(test)]
