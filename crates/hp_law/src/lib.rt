@@ -24,6 +24,8 @@ mod test_files;
 #[cfg(test)]
 mod test_heads;
 #[cfg(test)]
+mod test_instances;
+#[cfg(test)]
 mod test_lines;
 #[cfg(test)]
 mod test_mixed_journal;
@@ -40,6 +42,8 @@ mod test_seats;
 #[cfg(test)]
 mod test_summaries;
 #[cfg(test)]
+mod test_suspends;
+#[cfg(test)]
 mod test_swaps;
 #[cfg(test)]
 mod test_verdicts;
@@ -47,6 +51,8 @@ mod test_verdicts;
 mod test_walk_journals;
 #[cfg(test)]
 mod test_walks;
+#[cfg(test)]
+mod test_ways_back;
 
 pub use heads::is_head;
 pub use law::Law;

@@ -1,7 +1,7 @@
 //! Journals of several clients that are accepted, and refused with one line changed.
 
 use crate::test_client_journals::{
-    holders_in_turn, read_freeze, readers_in_turn, turns_of_clients, waits_for_a_registration,
+    holders_in_turn, readers_in_turn, turns_of_clients, waits_for_a_registration,
 };
 use crate::test_lines::{
     OK, add, armed, call, done, down, enter, leave, lock, locked, refused, reg, remove, setup,
@@ -129,32 +129,6 @@ fn the_map_lock_has_one_holder(rt: HostRuntime) -> Result<(), Fail> {
         (14, Some(enter(3, Op::Enable))),
         (18, Some(done(2, OK))),
         (18, Some(walk(2, 0, 200, 200))),
-    ];
-    assert_eq!(rt; first_let_through(rt.alloc(), &journal, &changes)?, None);
-    Ok(())
-}
-
-/// A freeze, and a thaw.
-#[test]
-fn readers_stop_a_freeze_between_its_walks(rt: HostRuntime) -> Result<(), Fail> {
-    let journal = read_freeze(rt.alloc())?;
-    assert!(rt; is_lawful(rt.alloc(), &journal)?);
-    let changes = [
-        (13, Some(walk(3, 0, 200, 0))),
-        (13, Some(lock(4))),
-        (13, Some(enter(4, Op::Thaw))),
-        (16, Some(walk(3, 2, 200, 0))),
-        (16, Some(walk(3, 1, 200, 0))),
-        (17, Some(lock(4))),
-        (17, Some(shown(4, File::Target, 0, 200))),
-        (20, Some(walk(3, 2, 200, 0))),
-        (23, Some(walk(3, 1, 200, 0))),
-        (24, Some(enter(4, Op::Up(2)))),
-        (25, Some(refused(4, 16, Op::Thaw))),
-        (26, Some(walk(4, 2, 0, 200))),
-        (26, Some(walk(3, 0, 0, 200))),
-        (31, Some(refused(3, 16, Op::Up(2)))),
-        (32, Some(walk(3, 2, 200, 200))),
     ];
     assert_eq!(rt; first_let_through(rt.alloc(), &journal, &changes)?, None);
     Ok(())
