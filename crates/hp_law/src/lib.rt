@@ -1,12 +1,11 @@
 //! The law of journals, one event at a time.
 //!
 //! A journal is lawful where its head is one that a machine can be started with, and each event stands
-//! after those before it. `is_head` decides the first; a `Law` is started with such a head, says whether
-//! one event more can stand, and takes it. Both contracts are equivalences with hp_model's definitions
-//! `IsHead` and `Stands`.
+//! after those before it: hp_model's definitions `IsHead` and `Stands`. `is_head` decides the first; a
+//! `Law` is started with such a head, says whether one event more can stand, and takes it.
 //!
-//! It asks no hook and calls nothing: how an entry is made follows from the rules of its subsystem in
-//! the head, and from the entries before it.
+//! No hook is called: how an entry is made follows from the rules of its subsystem in the head, and
+//! from the entries before it.
 #![tactic(auto)]
 
 mod heads;
