@@ -1,4 +1,5 @@
 pub mod Begun
 pub mod ClientEvents
 pub mod Comes
+pub mod HeadSteps
 pub mod TableOfEvent
