@@ -1,6 +1,0 @@
-use Rattle.std.proofs.Common.{◌∙◌}
-use Rattle.hp_event.proofs.Among.{among_any}
-use Rattle.hp_check.proofs.lists.among.Goals as goal
-
-pub returns : goal.returns
-returns c = c.contains.ensures.value ∙ among_any c.args.number _

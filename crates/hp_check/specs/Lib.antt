@@ -1,9 +1,0 @@
-pub mod Counts
-pub mod Due
-pub mod Entry
-pub mod Faults
-pub mod InFlight
-pub mod Nexts
-pub mod Replay
-pub mod Sites
-pub mod Spots
