@@ -9,9 +9,10 @@ use hp_event::{Event, Journal};
 use std::alloc::Global;
 use std::test::Fail;
 
-/// The first place at which swapping the event with the next one does something else than is listed. At
-/// the places of the first list the journal stays lawful; at those of the second the next one can stand first,
-/// and the event itself can't after it; at all others the next one can't stand first.
+/// The first place at which swapping the event with the next one does something else than is listed.
+///
+/// At the places of the first list the journal stays lawful. At those of the second the next event can
+/// stand first, and the event itself can't after it. At all others the next event can't stand first.
 fn first_unexpected(
     alloc: Global,
     journal: &Journal,
