@@ -39,6 +39,8 @@ mod test_registration_journals;
 #[cfg(test)]
 mod test_registrations;
 #[cfg(test)]
+mod test_room;
+#[cfg(test)]
 mod test_seat_journals;
 #[cfg(test)]
 mod test_seats;
