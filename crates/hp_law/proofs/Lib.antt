@@ -2,4 +2,3 @@ pub mod Begun
 pub mod ClientEvents
 pub mod Comes
 pub mod HeadSteps
-pub mod TableOfEvent

@@ -1,13 +1,14 @@
 //! What an event that is taken changes.
 
-ghost use Rattle.std.specs.Prelude.{◌≡◌, ◌++◌, ◌∷◌, [], OnOk, OnErr};
+ghost use Rattle.std.specs.Prelude.{◌≡◌, ◌++◌, ◌∷◌, [], OnOk, OnErr, is_some};
 ghost use Rattle.hp_model.specs.Lawful.{Stands, IsLawful};
 ghost use Rattle.hp_model.specs.Needs.{need, taken};
 ghost use Rattle.hp_ledger.specs.Table.{IsTableOf};
+ghost use Rattle.hp_ledger.specs.TableChanges.{brings_hook};
 
 use hp_event::{Event, Op};
 use hp_hook::ScriptHook;
-use hp_ledger::{Ledger, add_to_table, take_from_table};
+use hp_ledger::{Ledger, change_table};
 use hp_states::NoMemory;
 use hp_table::Table;
 
@@ -47,21 +48,6 @@ fn change(table: &mut Table<ScriptHook>, ledger: &Ledger, event: &Event) -> Resu
     ensures err { OnErr result (table.new ≡ table.old) }
 {
     match *event {
-        Event::RegBegin { state, op, .. } => {
-            let mut hook = match op {
-                Op::Setup { .. } => Some(ScriptHook::new()),
-                _ => None,
-            };
-            table.sound();
-            add_to_table(table, ledger.journal().head(), op, state, &mut hook)
-        }
-        Event::RegEnd { answer, .. } => match ledger.registration() {
-            Some((op, state)) => {
-                take_from_table(table, op, state, answer);
-                Ok(())
-            }
-            None => unreachable!(),
-        },
         Event::Call {
             cpu,
             state,
@@ -75,6 +61,19 @@ fn change(table: &mut Table<ScriptHook>, ledger: &Ledger, event: &Event) -> Resu
             }
             Ok(())
         }
-        _ => Ok(()),
+        _ => change_table(table, ledger, *event, &mut hook_for(event)),
+    }
+}
+
+/// The hook that an event brings: that of a setup which begins.
+fn hook_for(event: &Event) -> Option<ScriptHook>
+    ensures { is_some result ≡ brings_hook event.now }
+{
+    match event {
+        Event::RegBegin {
+            op: Op::Setup { .. },
+            ..
+        } => Some(ScriptHook::new()),
+        _ => None,
     }
 }

@@ -37,3 +37,4 @@ pub mod WalkKeys
 pub mod BusyNext
 pub mod HookAnswers
 pub mod EventTables
+pub mod TableOfEvent

@@ -4,19 +4,23 @@
 use Rattle.std.specs.Prelude.{◌≡◌, ◌<◌, ℕ, Bool, true, false, not, ◌&&◌, if◌then◌else◌, Option, Some, None, IsSome, List, [], slice_set}
 use Rattle.hp_states.specs.declared.limits.TheConstants.{OFFLINE, ONLINE}
 use Rattle.hp_states.specs.declared.plan.Rule.{Rule}
-use Rattle.hp_states.specs.Rules.{counts_of}
+use Rattle.hp_states.specs.Rules.{counts_of, site_at}
 use Rattle.hp_event.specs.Ops.{is_adding}
 use Rattle.hp_event.specs.declared.op.Op.{Op}
 use Rattle.hp_event.specs.declared.op.Op.TheVariants.{Setup, Remove, Add, Del}
 use Rattle.hp_event.specs.declared.answer.Answer.{Answer}
+use Rattle.hp_event.specs.declared.event.Event.{Event}
+use Rattle.hp_event.specs.declared.event.Event.TheVariants.{RegBegin, RegEnd, Call}
+use Rattle.hp_event.specs.Hows.{is_called}
 use Rattle.hp_event.specs.declared.head.Sub.{Sub}
 use Rattle.hp_event.specs.declared.head.Head.{Head}
 use Rattle.hp_event.specs.Heads.{sub_numbered}
+use Rattle.hp_model.specs.Registrations.{Registration, registration}
 use Rattle.hp_model.specs.Suspend.{is_ok}
 use Rattle.hp_table.specs.Kept.{Kept}
 use Rattle.hp_table.specs.Instances.{with_instance, without_instance, instances_of, instances_at, is_multi, is_multi_at, is_among, has_instance, CanAdd}
 use Rattle.hp_table.specs.Named.{is_named}
-use Rattle.hp_table.specs.Step.{Step, step_at, changed_at, bare}
+use Rattle.hp_table.specs.Step.{Step, step_at, changed_at, called_step, bare}
 
 -- the record of a subsystem that was just registered, its hook loaded with its plan
 abbrev pub new_record : (number : ℕ) → Sub → Kept
@@ -99,3 +103,34 @@ pub record IsHookOf (plan : List Rule) (seen : List ℕ) (made faults : ℕ) (ke
   pub seen_is : seen ≡ kept.seen
   pub made_is : made ≡ kept.made
   pub faults_are : faults ≡ kept.faults
+
+-- the table at the end of a registration
+abbrev pub left_at_end : Option Registration → Answer → List (Option Step) → List (Option Step)
+left_at_end None answer places = places
+left_at_end (Some r) answer places = without_left r.op answer r.state places
+
+-- the table once an event is made: a registration begins or ends, or the hook of an entry was called
+abbrev pub table_after : Head → List Event → Event → List (Option Step) → List (Option Step)
+table_after head events (RegBegin seat state op) places = with_added head op state places
+table_after head events (RegEnd seat answer) places = left_at_end (registration events) answer places
+table_after head events (Call seat cpu state inst dir how) places =
+    if is_called how then changed_at places state (called_step (site_at cpu inst dir)) else places
+table_after head events _ places = places
+
+-- whether an event brings a hook, and whether it hands one out: that of a setup that answers a fault, or of a state that was removed
+abbrev pub brings_hook : Event → Bool
+brings_hook (RegBegin seat state op) = is_setup op
+brings_hook _ = false
+
+abbrev pub hands_at_end : Option Registration → Answer → Bool
+hands_at_end None answer = false
+hands_at_end (Some r) answer = hands_out r.op answer
+
+abbrev pub hands_hook : List Event → Event → Bool
+hands_hook events (RegEnd seat answer) = hands_at_end (registration events) answer
+hands_hook events _ = false
+
+-- what stands at the state of the registration in flight
+abbrev pub registering_step : Option Registration → List (Option Step) → Option Step
+registering_step None places = None
+registering_step (Some r) places = step_at places r.state

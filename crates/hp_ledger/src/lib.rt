@@ -50,4 +50,4 @@ pub use processors::Processors;
 pub use registering::Registering;
 pub use seats::Seats;
 pub use suspended::Suspended;
-pub use table_changes::{add_to_table, take_from_table};
+pub use table_changes::change_table;

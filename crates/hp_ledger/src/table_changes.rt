@@ -1,17 +1,64 @@
 //! What registrations change in the table of states.
 
-ghost use Rattle.std.specs.Prelude.{◌≡◌, ◌<◌, true, false, None, Some, IfSome, IsSome, OnOk, OnErr, is_some, slice_set, []};
+ghost use Rattle.std.specs.Prelude.{◌≡◌, ◌<◌, ◌++◌, ◌∷◌, true, false, None, Some, IfSome, IsSome, OnOk, OnErr, is_some, slice_set, []};
 ghost use Rattle.hp_event.specs.Heads.{sub_numbered};
 ghost use Rattle.hp_states.specs.declared.limits.TheConstants.{OFFLINE, ONLINE};
+ghost use Rattle.hp_model.specs.Events.{is_call};
+ghost use Rattle.hp_model.specs.Lawful.{Stands};
+ghost use Rattle.hp_model.specs.Registrations.{registration};
 ghost use Rattle.hp_table.specs.Instances.{instances_at};
 ghost use Rattle.hp_table.specs.Named.{is_named};
 ghost use Rattle.hp_table.specs.Step.{step_at, bare};
-ghost use Rattle.hp_ledger.specs.TableChanges.{new_record, is_setup, takes_out, with_added, CanChange, without_left, taken_out, CanTakeOut, hands_out, IsHookOf};
+ghost use Rattle.hp_ledger.specs.TableChanges.{new_record, is_setup, takes_out, with_added, CanChange, without_left, taken_out, CanTakeOut, hands_out, IsHookOf, table_after, brings_hook, hands_hook, registering_step};
+ghost use Rattle.hp_ledger.specs.Table.{IsTableOf};
 
-use hp_event::{Answer, Head, Op, Sub};
+use crate::ledger::Ledger;
+use hp_event::{Answer, Event, Head, Op, Sub};
 use hp_hook::Hook;
 use hp_states::NoMemory;
 use hp_table::{Record, Table, TableError};
+
+/// Changes the table as an event does that stands and is no entry: a registration that begins adds, and
+/// one that ends leaves.
+///
+/// The table is the ledger's journal's. The begin of a setup brings its hook, and no other event brings
+/// any. Where the event hands a hook out, that of a setup that answers a fault or of a state that is
+/// removed, it is in `hook` then, as it stood in the table; otherwise there is none. Takes memory where
+/// an instance is added; where that is wanting nothing has changed: `NoMemory`. After
+/// `cpuhp_store_callbacks` of `kernel/cpu.c`.
+pub fn change_table<H: Hook>(
+    table: &mut Table<H>,
+    ledger: &Ledger,
+    event: Event,
+    hook: &mut Option<H>,
+) -> Result<(), NoMemory>
+    requires stands { Stands ledger.now.head ledger.now.events event }
+    requires no_entry { is_call event ≡ false }
+    requires table { IsTableOf ledger.now.head ledger.now.events table.old }
+    requires brings { is_some hook.old ≡ brings_hook event }
+    ensures changed { OnOk result (table.new ≡ table_after ledger.now.head ledger.now.events event table.old) }
+    ensures table { OnOk result (IsTableOf ledger.now.head (ledger.now.events ++ event ∷ []) table.new) }
+    ensures hands { OnOk result (is_some hook.new ≡ hands_hook ledger.now.events event) }
+    ensures hook { OnOk result (IfSome hook.new (λ h. IfSome (registering_step (registration ledger.now.events) table.old)
+        (λ step. IsHookOf (H.plan h) (H.seen h) (H.made h) (H.faults h) step.kept))) }
+    ensures err { OnErr result (table.new ≡ table.old) }
+    ensures kept { OnErr result (hook.new ≡ hook.old) }
+{
+    match event {
+        Event::RegBegin { state, op, .. } => {
+            table.sound();
+            add_to_table(table, ledger.journal().head(), op, state, hook)
+        }
+        Event::RegEnd { answer, .. } => match ledger.registration() {
+            Some((op, state)) => {
+                *hook = take_from_table(table, op, state, answer);
+                Ok(())
+            }
+            None => unreachable!(),
+        },
+        _ => Ok(()),
+    }
+}
 
 /// Puts into the table what a registration adds as it begins: a setup's state with its hook, loaded
 /// with the subsystem's plan, or an add's instance. A remove and a del add nothing.

@@ -1,7 +1,7 @@
 use Rattle.std.proofs.Common.{[], ◌∷◌, ◌++◌, sym, subst}
 use Rattle.hp_ledger.specs.Table.{IsTableOf}
 use Rattle.hp_ledger.proofs.TableMore.{LeavesTable, table_same}
-use Rattle.hp_law.proofs.TableOfEvent.{always}
+use Rattle.hp_ledger.proofs.TableOfEvent.{always}
 use Rattle.hp_law.proofs.taking.add.Goals as goal
 
 pub returns-in-Admit-clause-table : goal.returns-in-Admit-clause-table

@@ -1,24 +1,30 @@
 -- What the table has once an event is taken.
-use Rattle.std.proofs.Common.{◌≡◌, ℕ, true, Option, Some, None, OnOk, Ok, Err, IfSome, List, [], ◌∷◌, ◌++◌, refl, sym, ap, ◌∙◌, subst}
+use Rattle.std.proofs.Common.{is_some, ◌≡◌, ℕ, true, false, Option, Some, None, OnOk, Ok, Err, IfSome, List, [], ◌∷◌, ◌++◌, refl, sym, ap, ◌∙◌, subst}
 use Rattle.std.specs.Prelude.{Result, option_map}
-use Rattle.hp_states.specs.declared.dir.Dir.{Dir}
+use Rattle.std.proofs.lemmas.Bool.{true≢false}
 use Rattle.hp_event.specs.declared.op.Op.{Op}
 use Rattle.hp_event.specs.declared.answer.Answer.{Answer}
 use Rattle.hp_event.specs.declared.head.Head.{Head}
-use Rattle.hp_event.specs.declared.how.How.{How}
 use Rattle.hp_event.specs.declared.event.Event.{Event}
 use Rattle.hp_event.specs.declared.event.Event.TheVariants.{RegBegin, RegEnd, Call}
-use Rattle.hp_model.specs.Events.{is_registration_op}
+use Rattle.hp_model.specs.Events.{is_registration_op, is_call}
 use Rattle.hp_model.specs.Registrations.{Registration, registration}
+use Rattle.hp_model.specs.StandsRegistrations.{RegBegins}
+use Rattle.hp_table.specs.Sound.{IsSound}
 use Rattle.hp_table.specs.Step.{Step, step_at}
 use Rattle.hp_ledger.specs.Table.{IsTableOf, HasRegistration, HasOf}
-use Rattle.hp_ledger.specs.TableChanges.{CanTakeOut, without_left}
+use Rattle.hp_ledger.specs.TableChanges.{CanTakeOut, with_added, without_left, table_after, brings_hook, hands_hook}
 use Rattle.hp_ledger.proofs.TableMore.{LeavesTable}
-use Rattle.hp_ledger.proofs.TableChanged.{can_take_out, table_left}
+use Rattle.hp_ledger.proofs.Changeable.{begins_idle, can_change}
+use Rattle.hp_ledger.proofs.TableChanged.{can_take_out, table_added, table_left}
 
 pub on_ok : {T E : Type 0} (r : Result T E) (P Q : Type 0) → OnOk r P → (P → Q) → OnOk r Q
 on_ok (Ok x) P Q h f = f h
 on_ok (Err e) P Q h f = tt
+
+pub nothing : {X : Type 0} (o : Option X) (P : X → Type 0) → is_some o ≡ false → IfSome o P
+nothing None P h = tt
+nothing (Some x) P h = absurd (true≢false h)
 
 pub always : {T E : Type 0} (r : Result T E) (Q : Type 0) → Q → OnOk r Q
 always (Ok x) Q h = h
@@ -71,11 +77,22 @@ left_table head es places seat answer op state t registers f =
     subst (λ o. IsTableOf head (es ++ RegEnd seat answer ∷ []) (without_left o answer state places)) f.op_is
     (subst (λ s. IsTableOf head (es ++ RegEnd seat answer ∷ []) (without_left f.of.op answer s places)) f.state_is left)
 
--- every event but those three leaves the table
-pub leaves_it : (e : Event) → ((seat state : ℕ) (op : Op) → e ≡ RegBegin seat state op → ⊥) →
-    ((seat : ℕ) (answer : Answer) → e ≡ RegEnd seat answer → ⊥) →
-    ((seat cpu state inst : ℕ) (dir : Dir) (how : How) → e ≡ Call seat cpu state inst dir how → ⊥) → LeavesTable e
-leaves_it (RegBegin seat state op) b r c = absurd (b seat state op refl)
-leaves_it (RegEnd seat answer) b r c = absurd (r seat answer refl)
-leaves_it (Call seat cpu state inst dir how) b r c = absurd (c seat cpu state inst dir how refl)
-leaves_it e b r c = tt
+pub begun_table : (head : Head) (es : List Event) (places : List (Option Step)) (seat state : ℕ) (op : Op) → IsTableOf head es places →
+    IsSound places → RegBegins head es seat state op → IsTableOf head (es ++ RegBegin seat state op ∷ []) (with_added head op state places)
+begun_table head es places seat state op t sound b =
+    table_added head es places seat op state (begins_idle head es seat state op b) t sound (can_change head es places seat op state t sound b)
+
+-- every other event than the begin and the end of a registration, and an entry, leaves the table
+pub record Untouched (head : Head) (es : List Event) (e : Event) (places : List (Option Step)) : Type 0 where
+  pub leaves : LeavesTable e
+  pub same : table_after head es e places ≡ places
+  pub brings : brings_hook e ≡ false
+  pub hands : hands_hook es e ≡ false
+
+pub untouched : (head : Head) (es : List Event) (e : Event) (places : List (Option Step)) →
+    ((seat state : ℕ) (op : Op) → e ≡ RegBegin seat state op → ⊥) → ((seat : ℕ) (answer : Answer) → e ≡ RegEnd seat answer → ⊥) →
+    is_call e ≡ false → Untouched head es e places
+untouched head es (RegBegin seat state op) places b r c = absurd (b seat state op refl)
+untouched head es (RegEnd seat answer) places b r c = absurd (r seat answer refl)
+untouched head es (Call seat cpu state inst dir how) places b r c = absurd (true≢false c)
+untouched head es e places b r c = record { leaves = tt; same = refl; brings = refl; hands = refl }
