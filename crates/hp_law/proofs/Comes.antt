@@ -27,13 +27,13 @@ use Rattle.hp_ledger.specs.Ledger.{Entries}
 use Rattle.hp_ledger.specs.Table.{IsTableOf}
 use Rattle.hp_ledger.specs.declared.next.Next.{Next}
 use Rattle.hp_ledger.specs.declared.next.Next.TheVariants as answer
+use Rattle.hp_ledger.proofs.FullNone.{full_none}
 use Rattle.hp_ledger.specs.Entries.{entry_event}
 use Rattle.hp_ledger.specs.Next.{IsNext}
 use Rattle.hp_model.specs.Subsystems.{names_sub}
 use Rattle.hp_model.proofs.NextStands.{next_stands}
 use Rattle.hp_law.specs.Asked.{asked_by, IsOfOperation}
 use Rattle.hp_law.proofs.ClientEvents.{asked_for}
-use Rattle.hp_law.specs.Law.{IsLaw}
 use Rattle.hp_law.specs.Leaving.{can_leave}
 
 pub same_event : (a b : Event) → Some a ≡ Some b → a ≡ b
@@ -41,26 +41,6 @@ same_event a b h = cc
 
 none_some : (e : Event) → None ≡ Some e → ⊥
 none_some e h = cc
-
--- where there is no room for a first event, none comes
-no_room : (head : Head) (es : List Event) (o : Option Event) → lacks_room head es o ≡ true → if_room head es o ≡ None
-no_room head es None h = refl
-no_room head es (Some e) h = go (has_room head es e) h
-  where
-    go : (room : Bool) → not room ≡ true → cond room (Some e) None ≡ None
-    go true h = absurd (true≢false (sym h))
-    go false h = refl
-
-skip : (b : Bool) (e o : Option Event) → b ≡ false → o ≡ None → cond b e o ≡ None
-skip true e o h k = absurd (true≢false h)
-skip false e o h k = k
-
-full_none : (head : Head) (es : List Event) (k : ℕ) (op : Op) → is_full head es k op ≡ true → next_event head es k op ≡ None
-unfolding is_full next_event
-full_none head es k op h =
-    let p = and_parts (not (is_busy k es)) (lacks_room head es (first_event head es k op)) h in
-    skip (is_busy k es) (next_in_flight head es k) (if_room head es (first_event head es k op)) (not_true (is_busy k es) p.0)
-    (no_room head es (first_event head es k op) p.1)
 
 -- what comes next is no event of the operation's own, where it is answered otherwise
 pub no_event : (head : Head) (es : List Event) (k : ℕ) (op : Op) (n : Next) (e : Event) → IsNext head es k op n →
@@ -78,21 +58,6 @@ of_operation (event.Admit seat role) a l c = absurd (a seat role refl)
 of_operation (event.Leave seat) a l c = absurd (l seat refl)
 of_operation (event.Call seat cpu state inst dir how) a l c = absurd (c seat cpu state inst dir how refl)
 of_operation e a l c = tt
-
--- room is there for what an event that stands needs
-pub room_for : (head : Head) (es : List Event) (e : Event) → IsLawful head es → Stands head es e →
-    MAX_EVENTS < length es + promised head es + 0 + taken (need head es e) → ⊥
-room_for head es e lawful stands past = go (need head es e) refl stands.1
-  where
-    go : (n : Option ℕ) → need head es e ≡ n → is_room head es n ≡ true → ⊥
-    go None is h =
-        let fits = promises_fit head es lawful in
-        let none : taken (need head es e) ≡ 0 = rw is refl in
-        omega (arith, past, fits, none)
-    go (Some n) is h =
-        let fits : length es + promised head es + n ≤ MAX_EVENTS = leb-true (length es + promised head es + n) MAX_EVENTS h in
-        let some : taken (need head es e) ≡ n = rw is refl in
-        omega (arith, past, fits, some)
 
 -- an entry stands where it is the one that is due from its seat
 pub by_due : (head : Head) (es : List Event) (k : ℕ) (e : Event) (due : Option Event) → IsLawful head es → is_call e ≡ true →
@@ -150,14 +115,6 @@ leaves_so head es k = (there, back)
         let idle = b.idle in
         let none = (due_nothing head es k).1 b.no_entry_due in
         rw (role, reads, idle, none) refl
-
--- what a machine has once it took an event
-pub law_goes_on : (old new : Entries) (e : Event) (places : List (Option Step)) → IsLawful old.head old.events →
-    Stands old.head old.events e → new ≡ record { head = old.head; events = old.events ++ e ∷ []; reserved = 0 } →
-    IsTableOf old.head (old.events ++ e ∷ []) places → IsLaw new places
-law_goes_on old new e places lawful stands is t =
-    subst (λ (l : Entries). IsLaw l places) (sym is)
-    (record { lawful = lawful_more old.head old.events e lawful stands; table_is = t; nothing_reserved = refl })
 
 -- what the ledger says comes next decides
 pub comes_event : (head : Head) (es : List Event) (k : ℕ) (op : Op) (e next : Event) (takes : ℕ) (same : Bool) → IsLawful head es →

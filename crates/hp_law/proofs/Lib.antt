@@ -1,4 +1,3 @@
-pub mod Begun
 pub mod ClientEvents
 pub mod Comes
 pub mod HeadSteps

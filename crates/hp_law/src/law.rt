@@ -33,13 +33,14 @@ pub struct Law {
 }
 
 impl Model for Law {
-    ghost use Rattle.hp_law.specs.Law.{Taken, IsLaw};
+    ghost use Rattle.hp_ledger.specs.Machine.{IsMachine};
+    ghost use Rattle.hp_law.specs.Law.{Taken};
 
     ghost Value = { Taken };
 
     ghost view = { λ l. record { head = l.ledger.head; events = l.ledger.events } };
 
-    ghost invariant = { λ l. IsLaw l.ledger l.table };
+    ghost invariant = { λ l. IsMachine l.ledger l.table };
 }
 
 impl Law {

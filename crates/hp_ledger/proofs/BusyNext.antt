@@ -1,5 +1,5 @@
 -- What comes next of a seat that has an operation in flight, as what is under way and the holder of the map lock say it.
-use Rattle.std.proofs.Common.{◌≡◌, ℕ, ◌+◌, ◌*◌, ◌<◌, ◌≤◌, Bool, true, false, cond, eqb, ◌&&◌, ◌||◌, is_some, Option, Some, None, IfSome, List, [], ◌∷◌, find, length, sum_by, ◌⊎◌, refl, ap, sym, ◌∙◌, subst, inl, inr, arith}
+use Rattle.std.proofs.Common.{◌≡◌, ℕ, ◌+◌, ◌<◌, ◌≤◌, Bool, true, false, cond, eqb, ◌&&◌, ◌||◌, is_some, Option, Some, None, IfSome, List, [], ◌∷◌, find, length, sum_by, ◌⊎◌, refl, ap, sym, ◌∙◌, subst, inl, inr, arith}
 use Rattle.std.specs.Prelude.{option_map}
 use Rattle.std.proofs.lemmas.Bool.{true≢false, eq-eqb, eqb-true}
 use Rattle.std.proofs.lemmas.List.Sums.{sum_by-cons}
@@ -143,7 +143,7 @@ in_flight_said head es k (Some (coming.End e)) lawful busy is = go (eqb (seat_of
   where
     go : (own : Bool) → eqb (seat_of e) k ≡ own →
         IfSome (cond own (Some (answer.Event e 0)) None) (λ n. (op : Op) → IsNext head es k op n)
-    go true own = λ op. (found head es k op e busy is.only own, rw is.takes_none refl)
+    go true own = λ op. (found head es k op e busy is.only own, rw is.takes_none refl, is.no_entry)
     go false own = tt
 in_flight_said head es k (Some (coming.Entry client cpu None)) lawful busy is = go (eqb client k) refl
   where
@@ -245,7 +245,7 @@ holder_next head es k op what g =
 
 pub end_said : (head : Head) (es : List Event) (k : ℕ) (given : Answer) → Gives head es k (ends given) →
     (op : Op) → IsNext head es k op (answer.Event (OpEnd k given) 0)
-end_said head es k given g op = (holder_next head es k op (ends given) g, refl)
+end_said head es k given g op = (holder_next head es k op (ends given) g, refl, refl)
 
 pub wait_said : (head : Head) (es : List Event) (k cpu to : ℕ) (why : Why) → Gives head es k (walks cpu to) →
     Some why ≡ option_map why_of (wait_to_walk es) → (op : Op) → IsNext head es k op (answer.Wait why)
@@ -285,6 +285,7 @@ walk_said head es k cpu to room takes is g ready at few op = (
   walk_next head es k cpu to op true g ready
       (room_said head es (Some (walk_need head es (settled cpu es) to)) room is (omega (arith, at, few))),
   at,
+  refl,
 )
 
 pub full_said : (head : Head) (es : List Event) (k cpu to room takes : ℕ) → room + length es + promised head es ≡ MAX_EVENTS →
@@ -293,6 +294,7 @@ pub full_said : (head : Head) (es : List Event) (k cpu to room takes : ℕ) → 
 full_said head es k cpu to room takes is g ready at many op = (
   walk_next head es k cpu to op false g ready
       (no_room_said head es (Some (walk_need head es (settled cpu es) to)) room is (omega (arith, at, many))),
+  refl,
   refl,
 )
 

@@ -1,21 +1,19 @@
 -- What an event that stands changes in the table: what it asks of the table is there, and what the table then has is of the journal
 -- with the event.
-use Rattle.std.proofs.Common.{◌≡◌, ℕ, ◌+◌, ◌<◌, ◌≤◌, Bool, true, false, ◌&&◌, cond, Option, Some, None, IsSome, IfSome, List, [], ◌∷◌, ◌++◌, length, ◌⊎◌, inl, inr, refl, sym, ap, ◌∙◌, subst, arith}
+use Rattle.std.proofs.Common.{◌≡◌, ℕ, ◌+◌, ◌<◌, ◌≤◌, Bool, true, false, cond, Option, Some, None, List, [], ◌∷◌, ◌++◌, length, inl, inr, refl, sym, ap, ◌∙◌, subst, arith}
 use Rattle.std.proofs.lemmas.Bool.{true≢false}
 use Rattle.hp_states.specs.declared.limits.TheConstants.{MAX_EVENTS}
 use Rattle.hp_states.specs.declared.dir.Dir.{Dir}
 use Rattle.hp_states.specs.declared.dir.Dir.TheVariants.{Up, Down}
-use Rattle.hp_states.specs.declared.place.Place.{Place}
 use Rattle.hp_states.specs.Rules.{site_at}
 use Rattle.hp_states.specs.Sections.{can_fail}
 use Rattle.hp_event.specs.declared.head.Head.{Head}
-use Rattle.hp_event.specs.declared.head.Sub.{Sub}
 use Rattle.hp_event.specs.declared.how.How.{How}
 use Rattle.hp_event.specs.declared.how.How.TheVariants as how
 use Rattle.hp_event.specs.declared.event.Event.{Event}
 use Rattle.hp_event.specs.declared.event.Event.TheVariants.{Call}
-use Rattle.hp_model.specs.Calls.{sites, sub_at, is_called}
-use Rattle.hp_model.specs.How.{how_answered, answer_at as answer_of_plan, how_in_walk, how_in_registration, takes_fault, is_nocalls}
+use Rattle.hp_model.specs.Calls.{sub_at, is_called}
+use Rattle.hp_model.specs.How.{how_answered, answer_at as answer_of_plan, takes_fault, is_nocalls}
 use Rattle.hp_model.specs.Lawful.{Stands, IsLawful}
 use Rattle.hp_model.specs.StandsCalls.{Calls}
 use Rattle.hp_model.specs.Subsystems.{has_callback}

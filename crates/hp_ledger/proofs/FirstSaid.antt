@@ -16,9 +16,9 @@ use Rattle.hp_event.specs.declared.op.Form.{Form}
 use Rattle.hp_event.specs.declared.op.Op.{Op}
 use Rattle.hp_event.specs.declared.op.Op.TheVariants.{Setup, Remove, Add, Del}
 use Rattle.hp_event.specs.declared.event.Event.{Event}
-use Rattle.hp_event.specs.declared.event.Event.TheVariants.{Refused, RegBegin, WalkBegin}
+use Rattle.hp_event.specs.declared.event.Event.TheVariants.{Refused, RegBegin, WalkBegin, Call}
 use Rattle.hp_locks.specs.declared.why.Why.{Why}
-use Rattle.hp_model.specs.Events.{is_registration_op}
+use Rattle.hp_model.specs.Events.{is_registration_op, is_call}
 use Rattle.hp_model.specs.FirstEvent.{begin_of, first_event}
 use Rattle.hp_model.specs.Heads.{IsHead}
 use Rattle.hp_model.specs.Needs.{need, taken}
@@ -189,3 +189,8 @@ kept_said head es k op why client idle names b =
 pub first_counts : (head : Head) (es : List Event) (places : List (Option Step)) (e : Event) → IsFirst e → CountsKeys head es places e
 first_counts head es places (WalkBegin seat cpu from to) h = elim h [ ]
 first_counts head es places e h = tt
+
+-- and is no entry
+pub first_no_entry : (e : Event) → IsFirst e → is_call e ≡ false
+first_no_entry (Call seat cpu state inst dir how) h = elim h [ ]
+first_no_entry e h = refl

@@ -1,25 +1,24 @@
 -- What the hooks of a journal's table answer: what the plans of the states' subsystems answer after the journal's calls.
-use Rattle.std.proofs.Common.{◌≡◌, ℕ, ◌+◌, ◌≤◌, Bool, true, false, ◌&&◌, cond, eqb, Option, Some, None, IfSome, List, [], ◌∷◌, ◌++◌, length, refl, sym, ap, ◌∙◌, subst, arith}
+use Rattle.std.proofs.Common.{◌≡◌, ℕ, ◌+◌, ◌≤◌, Bool, true, false, ◌&&◌, cond, eqb, Option, Some, None, IfSome, List, [], ◌∷◌, ◌++◌, length, refl, sym, ap, ◌∙◌, arith}
 use Rattle.std.proofs.lemmas.Bool.{eqb-true}
 use Rattle.std.proofs.lemmas.List.{length_push}
 use Rattle.hp_states.specs.declared.dir.Dir.{Dir}
-use Rattle.hp_states.specs.Rules.{Site, site_at, answer_of, counts_of, raised, counted_answer}
+use Rattle.hp_states.specs.Rules.{Site, site_at, answer_of, raised, counted_answer}
 use Rattle.hp_states.proofs.RuleCounts.{answer_of_raised}
 use Rattle.hp_event.specs.declared.op.Op.{Op}
 use Rattle.hp_event.specs.declared.op.Op.TheVariants.{Setup}
-use Rattle.hp_event.specs.declared.head.Sub.{Sub}
 use Rattle.hp_event.specs.declared.head.Head.{Head}
 use Rattle.hp_event.specs.declared.event.Event.{Event}
 use Rattle.hp_event.specs.declared.event.Event.TheVariants.{RegBegin, Call}
-use Rattle.hp_model.specs.Calls.{sites, sites_step, sub_at, number_asked, number_at, is_called}
+use Rattle.hp_model.specs.Calls.{sites, sites_step, sub_at, number_asked, is_called}
 use Rattle.hp_model.specs.How.{answer_at as answer_of_plan}
 use Rattle.hp_model.specs.Journal.{over_from}
-use Rattle.hp_model.specs.Registered.{Registered, registered}
+use Rattle.hp_model.specs.Registered.{registered}
 use Rattle.hp_model.specs.Registrations.{Registration, registration}
 use Rattle.hp_model.specs.Subsystems.{sub_numbered, plan_of}
 use Rattle.hp_table.specs.Kept.{Kept, answer_at}
 use Rattle.hp_table.specs.Step.{Step, step_at, kept_of}
-use Rattle.hp_ledger.specs.Table.{IsTableOf, IsStepOf, HasRegistration, registered_by, registered_in_flight, registered_meanwhile}
+use Rattle.hp_ledger.specs.Table.{IsTableOf, IsStepOf, HasRegistration, registered_by, registered_meanwhile}
 
 same_step : (a b : Step) → Some a ≡ Some b → a ≡ b
 same_step a b h = cc

@@ -38,3 +38,6 @@ pub mod BusyNext
 pub mod HookAnswers
 pub mod EventTables
 pub mod TableOfEvent
+pub mod MachineBegins
+pub mod MachineGoes
+pub mod FullNone

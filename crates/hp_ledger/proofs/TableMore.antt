@@ -174,7 +174,7 @@ fault_counted b zero n = refl
 fault_counted true (suc code) n = rw (ne_zero code) refl
 fault_counted false (suc code) n = rw (ne_zero code) refl
 
-answered_called : (may_fail : Bool) (code : ℕ) → is_called (how_answered may_fail code) ≡ true
+pub answered_called : (may_fail : Bool) (code : ℕ) → is_called (how_answered may_fail code) ≡ true
 answered_called b zero = refl
 answered_called true (suc code) = refl
 answered_called false (suc code) = refl

@@ -1,5 +1,5 @@
 -- What the table has once an event is taken.
-use Rattle.std.proofs.Common.{is_some, ◌≡◌, ℕ, true, false, Option, Some, None, OnOk, Ok, Err, IfSome, List, [], ◌∷◌, ◌++◌, refl, sym, ap, ◌∙◌, subst}
+use Rattle.std.proofs.Common.{◌≡◌, ℕ, true, false, Option, Some, None, OnOk, Ok, Err, IfSome, List, [], ◌∷◌, ◌++◌, refl, sym, ap, ◌∙◌, subst}
 use Rattle.std.specs.Prelude.{Result, option_map}
 use Rattle.std.proofs.lemmas.Bool.{true≢false}
 use Rattle.hp_event.specs.declared.op.Op.{Op}
@@ -13,7 +13,7 @@ use Rattle.hp_model.specs.StandsRegistrations.{RegBegins}
 use Rattle.hp_table.specs.Sound.{IsSound}
 use Rattle.hp_table.specs.Step.{Step, step_at}
 use Rattle.hp_ledger.specs.Table.{IsTableOf, HasRegistration, HasOf}
-use Rattle.hp_ledger.specs.TableChanges.{CanTakeOut, with_added, without_left, table_after, brings_hook, hands_hook}
+use Rattle.hp_ledger.specs.TableChanges.{CanTakeOut, with_added, without_left, table_after, is_registering}
 use Rattle.hp_ledger.proofs.TableMore.{LeavesTable}
 use Rattle.hp_ledger.proofs.Changeable.{begins_idle, can_change}
 use Rattle.hp_ledger.proofs.TableChanged.{can_take_out, table_added, table_left}
@@ -21,10 +21,6 @@ use Rattle.hp_ledger.proofs.TableChanged.{can_take_out, table_added, table_left}
 pub on_ok : {T E : Type 0} (r : Result T E) (P Q : Type 0) → OnOk r P → (P → Q) → OnOk r Q
 on_ok (Ok x) P Q h f = f h
 on_ok (Err e) P Q h f = tt
-
-pub nothing : {X : Type 0} (o : Option X) (P : X → Type 0) → is_some o ≡ false → IfSome o P
-nothing None P h = tt
-nothing (Some x) P h = absurd (true≢false h)
 
 pub always : {T E : Type 0} (r : Result T E) (Q : Type 0) → Q → OnOk r Q
 always (Ok x) Q h = h
@@ -86,8 +82,7 @@ begun_table head es places seat state op t sound b =
 pub record Untouched (head : Head) (es : List Event) (e : Event) (places : List (Option Step)) : Type 0 where
   pub leaves : LeavesTable e
   pub same : table_after head es e places ≡ places
-  pub brings : brings_hook e ≡ false
-  pub hands : hands_hook es e ≡ false
+  pub no_registration : is_registering e ≡ false
 
 pub untouched : (head : Head) (es : List Event) (e : Event) (places : List (Option Step)) →
     ((seat state : ℕ) (op : Op) → e ≡ RegBegin seat state op → ⊥) → ((seat : ℕ) (answer : Answer) → e ≡ RegEnd seat answer → ⊥) →
@@ -95,4 +90,4 @@ pub untouched : (head : Head) (es : List Event) (e : Event) (places : List (Opti
 untouched head es (RegBegin seat state op) places b r c = absurd (b seat state op refl)
 untouched head es (RegEnd seat answer) places b r c = absurd (r seat answer refl)
 untouched head es (Call seat cpu state inst dir how) places b r c = absurd (true≢false c)
-untouched head es e places b r c = record { leaves = tt; same = refl; brings = refl; hands = refl }
+untouched head es e places b r c = record { leaves = tt; same = refl; no_registration = refl }

@@ -27,3 +27,4 @@ pub mod First
 pub mod Way
 pub mod NamedIn
 pub mod Between
+pub mod Machine

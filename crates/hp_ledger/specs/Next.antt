@@ -3,6 +3,7 @@ use Rattle.std.specs.Prelude.{◌≡◌, ℕ, true, false, Option, Some, None, L
 use Rattle.hp_event.specs.declared.op.Op.{Op}
 use Rattle.hp_event.specs.declared.head.Head.{Head}
 use Rattle.hp_event.specs.declared.event.Event.{Event}
+use Rattle.hp_model.specs.Events.{is_call}
 use Rattle.hp_model.specs.Needs.{need, taken}
 use Rattle.hp_model.specs.Waits.{maps_held, readers_in, reg_in, writer_in}
 use Rattle.hp_model.specs.Waits.{Wait}
@@ -39,7 +40,7 @@ pub record IsKept (head : Head) (events : List Event) (seat : ℕ) (op : Op) (wh
 -- this is what comes next of a seat and its operation
 abbrev pub IsNext : Head → List Event → (seat : ℕ) → Op → Next → Type 0
 IsNext head events k op (next.Event event takes) =
-    (next_event head events k op ≡ Some event) × (takes ≡ taken (need head events event))
+    (next_event head events k op ≡ Some event) × (takes ≡ taken (need head events event)) × (is_call event ≡ false)
 IsNext head events k op (next.Entry x) = next_event head events k op ≡ Some (entry_event head events x)
 IsNext head events k op next.Full = is_full head events k op ≡ true
 IsNext head events k op (next.Wait why) = IsKept head events k op why

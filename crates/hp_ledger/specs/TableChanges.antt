@@ -117,6 +117,12 @@ table_after head events (Call seat cpu state inst dir how) places =
     if is_called how then changed_at places state (called_step (site_at cpu inst dir)) else places
 table_after head events _ places = places
 
+-- whether a registration begins or ends by an event
+abbrev pub is_registering : Event → Bool
+is_registering (RegBegin seat state op) = true
+is_registering (RegEnd seat answer) = true
+is_registering _ = false
+
 -- whether an event brings a hook, and whether it hands one out: that of a setup that answers a fault, or of a state that was removed
 abbrev pub brings_hook : Event → Bool
 brings_hook (RegBegin seat state op) = is_setup op

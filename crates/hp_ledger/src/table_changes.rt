@@ -9,7 +9,7 @@ ghost use Rattle.hp_model.specs.Registrations.{registration};
 ghost use Rattle.hp_table.specs.Instances.{instances_at};
 ghost use Rattle.hp_table.specs.Named.{is_named};
 ghost use Rattle.hp_table.specs.Step.{step_at, bare};
-ghost use Rattle.hp_ledger.specs.TableChanges.{new_record, is_setup, takes_out, with_added, CanChange, without_left, taken_out, CanTakeOut, hands_out, IsHookOf, table_after, brings_hook, hands_hook, registering_step};
+ghost use Rattle.hp_ledger.specs.TableChanges.{new_record, is_setup, takes_out, with_added, CanChange, without_left, taken_out, CanTakeOut, hands_out, IsHookOf, table_after, is_registering, brings_hook, hands_hook, registering_step};
 ghost use Rattle.hp_ledger.specs.Table.{IsTableOf};
 
 use crate::ledger::Ledger;
@@ -21,9 +21,10 @@ use hp_table::{Record, Table, TableError};
 /// Changes the table as an event does that stands and is no entry: a registration that begins adds, and
 /// one that ends leaves.
 ///
-/// The table is the ledger's journal's. The begin of a setup brings its hook, and no other event brings
-/// any. Where the event hands a hook out, that of a setup that answers a fault or of a state that is
-/// removed, it is in `hook` then, as it stood in the table; otherwise there is none. Takes memory where
+/// The table is the ledger's journal's. The begin of a setup brings its hook, and no other registration
+/// brings any. Where the end of one hands a hook out, that of a setup that answers a fault or of a state
+/// that is removed, it is in `hook` then, as it stood in the table; otherwise there is none. Every other
+/// event leaves `hook` as it is. Takes memory where
 /// an instance is added; where that is wanting nothing has changed: `NoMemory`. After
 /// `cpuhp_store_callbacks` of `kernel/cpu.c`.
 pub fn change_table<H: Hook>(
@@ -35,12 +36,14 @@ pub fn change_table<H: Hook>(
     requires stands { Stands ledger.now.head ledger.now.events event }
     requires no_entry { is_call event ≡ false }
     requires table { IsTableOf ledger.now.head ledger.now.events table.old }
-    requires brings { is_some hook.old ≡ brings_hook event }
+    requires brings { is_registering event ≡ true → is_some hook.old ≡ brings_hook event }
     ensures changed { OnOk result (table.new ≡ table_after ledger.now.head ledger.now.events event table.old) }
     ensures table { OnOk result (IsTableOf ledger.now.head (ledger.now.events ++ event ∷ []) table.new) }
-    ensures hands { OnOk result (is_some hook.new ≡ hands_hook ledger.now.events event) }
-    ensures hook { OnOk result (IfSome hook.new (λ h. IfSome (registering_step (registration ledger.now.events) table.old)
+    ensures hands { OnOk result (is_registering event ≡ true → is_some hook.new ≡ hands_hook ledger.now.events event) }
+    ensures hook { OnOk result (is_registering event ≡ true →
+        IfSome hook.new (λ h. IfSome (registering_step (registration ledger.now.events) table.old)
         (λ step. IsHookOf (H.plan h) (H.seen h) (H.made h) (H.faults h) step.kept))) }
+    ensures left { OnOk result (is_registering event ≡ false → hook.new ≡ hook.old) }
     ensures err { OnErr result (table.new ≡ table.old) }
     ensures kept { OnErr result (hook.new ≡ hook.old) }
 {

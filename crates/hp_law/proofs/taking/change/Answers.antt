@@ -1,8 +1,8 @@
-use Rattle.std.proofs.Common.{◌≡◌, ◌<◌, Some, IsSome, IfSome, List, [], ◌∷◌, ◌++◌, ◌∙◌, ap, sym, subst, refl}
+use Rattle.std.proofs.Common.{◌<◌, IsSome, IfSome, [], ◌∷◌, ◌++◌, ◌∙◌, sym, subst, refl}
 use Rattle.hp_states.specs.declared.limits.TheConstants.{MAX_EVENTS}
 use Rattle.hp_event.specs.declared.event.Event.TheVariants.{Call}
 use Rattle.hp_model.specs.Lawful.{Stands}
-use Rattle.hp_table.specs.Step.{Step, step_at}
+use Rattle.hp_table.specs.Step.{Step}
 use Rattle.hp_ledger.specs.Table.{IsTableOf}
 use Rattle.hp_ledger.proofs.EventTables.{calls_hook}
 use Rattle.hp_ledger.proofs.TableMore.{LeavesTable, table_same}

@@ -1,12 +1,12 @@
-use Rattle.std.proofs.Common.{◌≡◌, ◌&&◌, true, false, is_some, List, [], ◌∷◌, ◌++◌, ◌∙◌, ap, sym, subst, refl}
+use Rattle.std.proofs.Common.{true, ◌≡◌, [], ◌∷◌, ◌++◌, ◌∙◌, sym, subst, refl}
+use Rattle.std.proofs.lemmas.Bool.{true≢false}
 use Rattle.hp_event.specs.declared.head.Head.{Head}
-use Rattle.hp_event.specs.declared.event.Event.TheVariants.{RegBegin, RegEnd, Call}
 use Rattle.hp_model.specs.Lawful.{Stands}
 use Rattle.hp_ledger.specs.Table.{IsTableOf}
-use Rattle.hp_ledger.specs.TableChanges.{CanChange, with_added, without_left, table_after, hands_hook}
+use Rattle.hp_ledger.specs.TableChanges.{CanChange, with_added, without_left, is_registering}
 use Rattle.hp_ledger.proofs.Changeable.{can_change}
 use Rattle.hp_ledger.proofs.TableMore.{table_same}
-use Rattle.hp_ledger.proofs.TableOfEvent.{on_ok, nothing, flies, takes_out, begun_table, left_table, Untouched, untouched}
+use Rattle.hp_ledger.proofs.TableOfEvent.{on_ok, flies, takes_out, begun_table, left_table, Untouched, untouched}
 use Rattle.hp_ledger.proofs.table_changes.change_table.Goals as goal
 
 pub add_to_table-requires-clause-can : goal.add_to_table-requires-clause-can
@@ -56,11 +56,13 @@ returns-in_default g c =
     let places = c.args.table.now in
     let u : Untouched l.head l.events c.args.event places =
     untouched l.head l.events c.args.event places c.in_default.not-RegBegin c.in_default.not-RegEnd c.requires.no_entry in
+    let other : is_registering c.args.event ≡ true → ⊥ = λ is. true≢false (sym is ∙ u.no_registration) in
     record {
       changed = sym u.same;
       table = table_same l.head l.events places c.args.event u.leaves c.requires.table;
-      hands = c.requires.brings ∙ u.brings ∙ sym u.hands;
-      hook = nothing c.args.hook.now _ (c.requires.brings ∙ u.brings);
+      hands = λ is. absurd (other is);
+      hook = λ is. absurd (other is);
+      left = λ is. refl;
       err = tt;
       kept = tt;
     }

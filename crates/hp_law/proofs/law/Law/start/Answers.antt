@@ -1,11 +1,11 @@
 use Rattle.std.proofs.Common.{sym, subst}
 use Rattle.hp_model.specs.Heads.{IsHead}
 use Rattle.hp_ledger.specs.Ledger.{Entries}
-use Rattle.hp_law.specs.Law.{IsLaw}
-use Rattle.hp_law.proofs.Begun.{law_begins}
+use Rattle.hp_ledger.specs.Machine.{IsMachine}
+use Rattle.hp_ledger.proofs.MachineBegins.{machine_begins}
 use Rattle.hp_law.proofs.law.Law.start.Goals as goal
 
 pub invariant_of-result : goal.invariant_of-result
 invariant_of-result c =
-    let is = law_begins c.in_ok-copy.field-0 c.in_ok-table.table (subst IsHead (sym c.in_ok-copy.ensures) c.requires) c.in_ok-table.ensures in
-    subst (λ (l : Entries). IsLaw l c.in_ok-table.table) (sym c.in_ok-ledger.ensures) is
+    let is = machine_begins c.in_ok-copy.field-0 c.in_ok-table.table (subst IsHead (sym c.in_ok-copy.ensures) c.requires) c.in_ok-table.ensures in
+    subst (λ (l : Entries). IsMachine l c.in_ok-table.table) (sym c.in_ok-ledger.ensures) is

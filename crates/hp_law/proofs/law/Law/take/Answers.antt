@@ -5,7 +5,7 @@ use Rattle.hp_model.specs.Promised.{promised}
 use Rattle.hp_ledger.specs.Ledger.{Entries}
 use Rattle.hp_ledger.specs.Table.{IsTableOf}
 use Rattle.hp_law.specs.Law.{Taken}
-use Rattle.hp_law.proofs.Comes.{room_for, law_goes_on}
+use Rattle.hp_ledger.proofs.MachineGoes.{room_for, machine_goes_on}
 use Rattle.hp_law.proofs.law.Law.take.Goals as goal
 
 pub unreachable-requires : goal.unreachable-requires
@@ -25,6 +25,6 @@ invariant_of-self-in-Ok-add c =
     let stands = subst (λ (t : Taken). Stands t.head t.events e) (sym c.self.view_is) c.requires in
     let mid = c.in-Ok.ensures.ok in
     let added = c.in-Ok-add.ensures.added in
-    law_goes_on l c.add.new.ledger e c.add.new.table c.self.invariant.lawful stands
+    machine_goes_on l c.add.new.ledger e c.add.new.table c.self.invariant.lawful stands
     (added ∙ ap (λ (x : Entries). record { head = x.head; events = x.events ++ e ∷ []; reserved = 0 }) mid)
     (subst (λ (x : Entries). IsTableOf x.head (x.events ++ e ∷ []) c.add.new.table) mid c.in-Ok-add.ensures.table)

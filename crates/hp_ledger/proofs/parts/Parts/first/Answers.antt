@@ -1,4 +1,4 @@
-use Rattle.hp_ledger.proofs.FirstSaid.{event_said, full_said, first_counts}
+use Rattle.hp_ledger.proofs.FirstSaid.{event_said, full_said, first_counts, first_no_entry}
 use Rattle.hp_ledger.proofs.parts.Parts.first.Goals as goal
 
 pub returns-then-need-room : goal.returns-then-need-room
@@ -9,6 +9,7 @@ returns-then-need-room g c = λ events lawful account table room client idle nam
       event_said c.args.head.now events c.args.seat c.args.op c.in-Ok.event c.args.room c.need-need.result room idle first takes
           c.if-need-room.true,
       takes,
+      first_no_entry c.in-Ok.event c.in-Ok.ensures.kind,
     )
 
 pub returns-else-need-room : goal.returns-else-need-room

@@ -1,4 +1,4 @@
-use Rattle.std.proofs.Common.{◌≡◌, ℕ, ◌≤◌, ◌∙◌, ap, sym, subst}
+use Rattle.std.proofs.Common.{◌≡◌, ◌∙◌, ap, sym, subst}
 use Rattle.hp_event.specs.declared.event.Event.TheVariants.{WalkBegin}
 use Rattle.hp_model.specs.Needs.{walk_need}
 use Rattle.hp_model.specs.Settled.{settled}

@@ -1,4 +1,4 @@
--- The table where nothing is registered is that of a journal without events.
+-- A machine begins: the table where nothing is registered is that of a journal without events.
 use Rattle.std.proofs.Common.{◌≡◌, ℕ, zero, suc, ◌+◌, Option, None, List, [], replicate, refl, sym, ◌∙◌}
 use Rattle.hp_states.specs.declared.limits.TheConstants.{ONLINE}
 use Rattle.hp_event.specs.declared.head.Head.{Head}
@@ -7,7 +7,7 @@ use Rattle.hp_model.specs.Registered.{registered}
 use Rattle.hp_model.specs.Registrations.{registration}
 use Rattle.hp_table.specs.Step.{Step, step_at}
 use Rattle.hp_ledger.specs.Table.{IsTableOf}
-use Rattle.hp_law.specs.Law.{IsLaw}
+use Rattle.hp_ledger.specs.Machine.{IsMachine}
 
 abbrev vacant : (n : ℕ) → List (Option Step)
 vacant n = replicate n None
@@ -33,6 +33,6 @@ table_begins head n =
       in_flight = rw no_registration tt;
     }
 
-pub law_begins : (head : Head) (places : List (Option Step)) → IsHead head → places ≡ replicate (ONLINE + 1) None →
-    IsLaw (record { head = head; events = []; reserved = 0 }) places
-law_begins head places is at = rw at (record { lawful = (is, tt); table_is = table_begins head (ONLINE + 1); nothing_reserved = refl })
+pub machine_begins : (head : Head) (places : List (Option Step)) → IsHead head → places ≡ replicate (ONLINE + 1) None →
+    IsMachine (record { head = head; events = []; reserved = 0 }) places
+machine_begins head places is at = rw at (record { lawful = (is, tt); table_is = table_begins head (ONLINE + 1); nothing_reserved = refl })

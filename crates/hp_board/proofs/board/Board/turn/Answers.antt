@@ -1,0 +1,113 @@
+use Rattle.std.proofs.Common.{◌≡◌, ◌∙◌, ap, sym, subst, refl, is_some, Option, Some, None, List, [], ◌∷◌, ◌++◌, length, true, false}
+use Rattle.std.proofs.lemmas.Bool.{true≢false}
+use Rattle.hp_model.specs.Lawful.{IsLawful}
+use Rattle.hp_model.specs.NextEvent.{next_event, is_full}
+use Rattle.hp_model.specs.Pending.{Pending, IsAllowed}
+use Rattle.hp_model.proofs.NextStands.{next_stands}
+use Rattle.hp_event.specs.declared.event.Event.{Event}
+use Rattle.hp_table.specs.Step.{Step}
+use Rattle.hp_ledger.specs.Ledger.{Entries}
+use Rattle.hp_ledger.specs.Entries.{entry_event}
+use Rattle.hp_ledger.specs.Next.{IsNext}
+use Rattle.hp_ledger.proofs.FullNone.{full_none}
+use Rattle.hp_board.specs.Contents.{Contents, with_event}
+use Rattle.hp_board.specs.Hooks.{has_hook, has_hook_after, leaves_hook}
+use Rattle.hp_board.specs.Turns.{IsTurn}
+use Rattle.hp_board.proofs.TurnsMade.{no_admission, brought, turn_made, hook_after, hook_same}
+use Rattle.hp_board.proofs.board.Board.turn.Goals as goal
+
+pub make-requires-clause-stands : goal.make-requires-clause-stands
+make-requires-clause-stands g c =
+    let l = c.self.inside.ledger in
+    (next_stands l.head l.events c.args.by c.args.ask.now.op c.in-Event.event c.in-Event.ensures.0).0
+
+pub make-requires-clause-no_entry : goal.make-requires-clause-no_entry
+make-requires-clause-no_entry g c = c.in-Event.ensures.2
+
+pub make-requires-clause-no_admission : goal.make-requires-clause-no_admission
+make-requires-clause-no_admission g c =
+    let l = c.self.inside.ledger in
+    let p : Pending = record { seat = c.args.by; op = c.args.ask.now.op } in
+    let allowed = subst (λ (b : Contents). IsAllowed b.head b.events p) (sym c.self.view_is) c.requires.allowed in
+    no_admission l.head l.events p c.in-Event.event c.self.invariant.lawful allowed c.in-Event.ensures.0
+
+pub make-requires-clause-brings : goal.make-requires-clause-brings
+make-requires-clause-brings g c =
+    let l = c.self.inside.ledger in
+    let inside : Contents = record { head = l.head; events = l.events; places = c.self.inside.table } in
+    brought inside c.args.self.now (record { seat = c.args.by; op = c.args.ask.now.op }) c.in-Event.event (is_some c.args.ask.now.hook)
+    c.self.view_is c.self.invariant.lawful c.requires.allowed c.requires.hook c.in-Event.ensures.0
+
+pub make_entry-requires-clause-stands : goal.make_entry-requires-clause-stands
+make_entry-requires-clause-stands g c =
+    let l = c.self.inside.ledger in
+    (next_stands l.head l.events c.args.by c.args.ask.now.op (entry_event l.head l.events c.in-Entry.entry) c.in-Entry.ensures).0
+
+pub returns-in_ok-make-in-Event-clause-turn : goal.returns-in_ok-make-in-Event-clause-turn
+returns-in_ok-make-in-Event-clause-turn g c =
+    let l = c.self.inside.ledger in
+    let e = c.in-Event.event in
+    let k = c.args.by in
+    let op = c.args.ask.now.op in
+    let old : Contents = record { head = l.head; events = l.events; places = c.self.inside.table } in
+    let ledger = c.make.new.ledger in
+    let new : Contents = record { head = ledger.head; events = ledger.events; places = c.make.new.table } in
+    let made = c.in_ok-make-in-Event.ensures in
+    let is : new ≡ with_event old e =
+    ap (λ (x : Entries). record { head = x.head; events = x.events; places = c.make.new.table }) made.made
+    ∙ ap (λ (p : List (Option Step)). record { head = l.head; events = l.events ++ e ∷ []; places = p }) made.changed in
+    let place : c.len-at.result ≡ length old.events =
+    c.len-at.ensures.count ∙ ap (λ (es : List Event). length es) c.journal.ensures.events in
+    let turn = turn_made old new k c.len-at.result op e c.in-Event.ensures.0 is place in
+    subst (λ (b : Contents). IsTurn k op b new c.turn_of.result) c.self.view_is
+    (subst (IsTurn k op old new) (sym c.turn_of.ensures) turn)
+
+pub returns-in_ok-make-in-Event-clause-has_hook : goal.returns-in_ok-make-in-Event-clause-has_hook
+returns-in_ok-make-in-Event-clause-has_hook g c =
+    let l = c.self.inside.ledger in
+    let e = c.in-Event.event in
+    let op = c.args.ask.now.op in
+    let had = is_some c.args.ask.now.hook in
+    let inside : Contents = record { head = l.head; events = l.events; places = c.self.inside.table } in
+    let brings =
+    brought inside c.args.self.now (record { seat = c.args.by; op = op }) e (is_some c.args.ask.now.hook) c.self.view_is
+    c.self.invariant.lawful c.requires.allowed c.requires.hook c.in-Event.ensures.0 in
+    let made = c.in_ok-make-in-Event.ensures in
+    let after =
+    hook_after l.events e c.args.ask.now.hook c.make.new.hook brings made.hands made.left in
+    let by_next = after ∙ ap (λ o. has_hook_after l.events o had) (sym c.in-Event.ensures.0) in
+    subst (λ (b : Contents). is_some c.make.new.hook ≡ has_hook_after b.events (next_event b.head b.events c.args.by op) had) c.self.view_is by_next
+
+pub returns-in_ok-make-in-Event-clause-same_hook : goal.returns-in_ok-make-in-Event-clause-same_hook
+returns-in_ok-make-in-Event-clause-same_hook g c = λ leaves.
+    let l = c.self.inside.ledger in
+    let e = c.in-Event.event in
+    let op = c.args.ask.now.op in
+    let inside : Contents = record { head = l.head; events = l.events; places = c.self.inside.table } in
+    let brings =
+    brought inside c.args.self.now (record { seat = c.args.by; op = op }) e (is_some c.args.ask.now.hook) c.self.view_is
+    c.self.invariant.lawful c.requires.allowed c.requires.hook c.in-Event.ensures.0 in
+    let made = c.in_ok-make-in-Event.ensures in
+    let here =
+    subst (λ (b : Contents). leaves_hook b.events (next_event b.head b.events c.args.by op) ≡ true) (sym c.self.view_is) leaves in
+    hook_same l.events e c.args.ask.now.hook c.make.new.hook brings made.hands made.left
+    (ap (leaves_hook l.events) (sym c.in-Event.ensures.0) ∙ here)
+
+pub returns-in-Full-clause-has_hook : goal.returns-in-Full-clause-has_hook
+returns-in-Full-clause-has_hook g c =
+    let l = c.self.inside.ledger in
+    let op = c.args.ask.now.op in
+    let had = is_some c.args.ask.now.hook in
+    let none = full_none l.head l.events c.args.by op c.in-Full.ensures in
+    let here : had ≡ has_hook_after l.events (next_event l.head l.events c.args.by op) had =
+    sym (ap (λ o. has_hook_after l.events o had) none) in
+    subst (λ (b : Contents). had ≡ has_hook_after b.events (next_event b.head b.events c.args.by op) had) c.self.view_is here
+
+pub returns-in-Full-clause-handed : goal.returns-in-Full-clause-handed
+returns-in-Full-clause-handed g c = λ leaves.
+    let l = c.self.inside.ledger in
+    let op = c.args.ask.now.op in
+    let none = full_none l.head l.events c.args.by op c.in-Full.ensures in
+    let here =
+    subst (λ (b : Contents). leaves_hook b.events (next_event b.head b.events c.args.by op) ≡ false) (sym c.self.view_is) leaves in
+    absurd (true≢false (sym (ap (leaves_hook l.events) none) ∙ here))

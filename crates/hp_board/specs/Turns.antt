@@ -1,0 +1,47 @@
+-- What a turn of a seat makes of a board, and what it answers: the one event that comes next of the seat and its operation, or
+-- nothing, where there is no room for it or something is waited for. This project's own.
+use Rattle.std.specs.Prelude.{◌≡◌, ℕ, true, Option, Some, None, List, length}
+use Rattle.hp_event.specs.declared.answer.Answer.{Answer}
+use Rattle.hp_event.specs.declared.answer.Answer.TheVariants.{LogFull}
+use Rattle.hp_event.specs.declared.event.Event.{Event}
+use Rattle.hp_event.specs.declared.head.Head.{Head}
+use Rattle.hp_event.specs.declared.op.Op.{Op}
+use Rattle.hp_locks.specs.declared.why.Why.TheVariants.{Idle}
+use Rattle.hp_model.specs.Events.{answer_by}
+use Rattle.hp_model.specs.NextEvent.{next_event, due_entry, is_full}
+use Rattle.hp_ledger.specs.Next.{IsKept}
+use Rattle.hp_board.specs.declared.turn.Turn.{Turn}
+use Rattle.hp_board.specs.declared.turn.Turn.TheVariants.{Made, Answered, NotYet}
+use Rattle.hp_board.specs.Contents.{Contents, with_event}
+
+-- this one event was appended, at this place, and gives this answer, or none
+pub record Makes (next : Option Event) (at : ℕ) (answer : Option Answer) (old new : Contents) : Type 0 where
+  pub event : Event
+  pub next_is : next ≡ Some event
+  pub new_is : new ≡ with_event old event
+  pub place_is : at ≡ length old.events
+  pub answer_is : answer_by event ≡ answer
+
+-- nothing was, since there is no room for the operation's first event
+pub record IsFullFor (seat : ℕ) (op : Op) (answer : Answer) (old new : Contents) : Type 0 where
+  pub full : is_full old.head old.events seat op ≡ true
+  pub answer_is : answer ≡ LogFull
+  pub same : new ≡ old
+
+-- what is answered of an event, at its place
+abbrev pub turn_by : Option Answer → (at : ℕ) → Turn
+turn_by None at = Made at
+turn_by (Some answer) at = Answered (Some at) answer
+
+-- what a turn of a client's seat does
+abbrev pub IsTurn : (seat : ℕ) → Op → (old new : Contents) → Turn → Type 0
+IsTurn k op old new (Made at) = Makes (next_event old.head old.events k op) at None old new
+IsTurn k op old new (Answered (Some at) answer) = Makes (next_event old.head old.events k op) at (Some answer) old new
+IsTurn k op old new (Answered None answer) = IsFullFor k op answer old new
+IsTurn k op old new (NotYet why) = IsKept old.head old.events k op why × (new ≡ old)
+
+-- what a thread's turn does: it makes the entry that is due from it, if one is
+abbrev pub IsServed : (seat : ℕ) → (old new : Contents) → Turn → Type 0
+IsServed k old new (Made at) = Makes (due_entry old.head old.events k) at None old new
+IsServed k old new (NotYet Idle) = (due_entry old.head old.events k ≡ None) × (new ≡ old)
+IsServed k old new _ = ⊥

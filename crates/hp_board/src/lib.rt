@@ -1,0 +1,9 @@
+//! The machine behind a few calls: any number of clients, one event a turn, its journal lawful after each.
+#![tactic(auto)]
+
+mod board;
+mod making;
+mod turn;
+
+pub use board::Board;
+pub use turn::{Ask, Turn};

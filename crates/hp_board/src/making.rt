@@ -1,0 +1,105 @@
+//! How one event is made.
+
+ghost use Rattle.std.specs.Prelude.{◌≡◌, ◌++◌, ◌∷◌, [], true, false, OnOk, OnErr, IfSome, is_some};
+ghost use Rattle.hp_ledger.specs.Entries.{entry_event, entry_made};
+ghost use Rattle.hp_ledger.specs.Ledger.{NoAdmission};
+ghost use Rattle.hp_ledger.specs.Machine.{IsMachine};
+ghost use Rattle.hp_ledger.specs.Table.{IsTableOf};
+ghost use Rattle.hp_ledger.specs.TableChanges.{is_registering, brings_hook, hands_hook, table_after, registering_step, IsHookOf};
+ghost use Rattle.hp_model.specs.Events.{is_call};
+ghost use Rattle.hp_model.specs.Lawful.{Stands, IsLawful};
+ghost use Rattle.hp_model.specs.Needs.{need as need_of, taken};
+ghost use Rattle.hp_model.specs.Registrations.{registration};
+
+use hp_event::{Event, How, JournalError};
+use hp_hook::Hook;
+use hp_ledger::{Entry, Ledger, Means, change_table};
+use hp_states::NoMemory;
+use hp_table::Table;
+
+/// Makes an event that stands and is no entry and no admission. `need` is the room that it takes.
+///
+/// The begin of a setup takes its hook, and where the end of a registration hands a hook out it is in
+/// `hook` then. Takes memory where the journal or the state's instances have no spare place; where that is wanting nothing
+/// has changed: `NoMemory`.
+pub(crate) fn make<H: Hook>(
+    ledger: &mut Ledger,
+    table: &mut Table<H>,
+    event: Event,
+    need: u32,
+    hook: &mut Option<H>,
+) -> Result<(), NoMemory>
+    requires machine { IsMachine ledger.old table.old }
+    requires stands { Stands ledger.old.head ledger.old.events event }
+    requires no_entry { is_call event ≡ false }
+    requires no_admission { NoAdmission event }
+    requires need { need ≡ taken (need_of ledger.old.head ledger.old.events event) }
+    requires brings { is_registering event ≡ true → is_some hook.old ≡ brings_hook event }
+    ensures made { OnOk result (ledger.new
+        ≡ record { head = ledger.old.head; events = ledger.old.events ++ event ∷ []; reserved = 0 }) }
+    ensures changed { OnOk result (table.new ≡ table_after ledger.old.head ledger.old.events event table.old) }
+    ensures machine { OnOk result (IsMachine ledger.new table.new) }
+    ensures hands { OnOk result (is_registering event ≡ true → is_some hook.new ≡ hands_hook ledger.old.events event) }
+    ensures hook { OnOk result (is_registering event ≡ true →
+        IfSome hook.new (λ h. IfSome (registering_step (registration ledger.old.events) table.old)
+        (λ step. IsHookOf (H.plan h) (H.seen h) (H.made h) (H.faults h) step.kept))) }
+    ensures left { OnOk result (is_registering event ≡ false → hook.new ≡ hook.old) }
+    ensures err { OnErr result ((ledger.new ≡ ledger.old) × (table.new ≡ table.old)) }
+    ensures kept { OnErr result (hook.new ≡ hook.old) }
+{
+    match ledger.reserve(need) {
+        Ok(()) => {}
+        Err(JournalError::NoMemory) => return Err(NoMemory),
+        Err(JournalError::Full) => unreachable!(),
+    }
+    match change_table(table, ledger, event, hook) {
+        Ok(()) => {
+            ledger.append(table, event);
+            Ok(())
+        }
+        Err(NoMemory) => {
+            ledger.release();
+            Err(NoMemory)
+        }
+    }
+}
+
+/// Makes an entry that is due, and answers its event: where its hook decides, it is called once.
+///
+/// Takes no memory. After `cpuhp_invoke_callback` of `kernel/cpu.c`.
+pub(crate) fn make_entry<H: Hook>(ledger: &mut Ledger, table: &mut Table<H>, entry: &Entry)
+    requires machine { IsMachine ledger.old table.old }
+    requires stands { Stands ledger.old.head ledger.old.events (entry_event ledger.old.head ledger.old.events entry.now) }
+    ensures made { ledger.new
+        ≡ record {
+          head = ledger.old.head;
+          events = ledger.old.events ++ entry_event ledger.old.head ledger.old.events entry.now ∷ [];
+          reserved = 0;
+        } }
+    ensures changed { table.new
+        ≡ table_after ledger.old.head ledger.old.events (entry_event ledger.old.head ledger.old.events entry.now) table.old }
+    ensures machine { IsMachine ledger.new table.new }
+{
+    let how = carry_out(ledger, table, entry);
+    ledger.append(table, entry.event(how));
+}
+
+/// Carries out an entry that is due: calls its hook once, where that decides. Answers how it was made.
+fn carry_out<H: Hook>(ledger: &Ledger, table: &mut Table<H>, entry: &Entry) -> How
+    requires lawful { IsLawful ledger.now.head ledger.now.events }
+    requires table { IsTableOf ledger.now.head ledger.now.events table.old }
+    requires stands { Stands ledger.now.head ledger.now.events (entry_event ledger.now.head ledger.now.events entry.now) }
+    ensures event { entry_made entry.now result ≡ entry_event ledger.now.head ledger.now.events entry.now }
+    ensures changed { table.new
+        ≡ table_after ledger.now.head ledger.now.events (entry_event ledger.now.head ledger.now.events entry.now) table.old }
+    ensures table { IsTableOf ledger.now.head
+        (ledger.now.events ++ entry_event ledger.now.head ledger.now.events entry.now ∷ []) table.new }
+{
+    match entry.means {
+        Means::Hook => {
+            let state = entry.key.state;
+            entry.how(table.call(state, entry.cpu, entry.key.inst, entry.dir))
+        }
+        _ => entry.how(0),
+    }
+}
