@@ -1,3 +1,4 @@
 pub mod Contents
 pub mod Turns
 pub mod Hooks
+pub mod Admission

@@ -1,11 +1,16 @@
 //! The board.
 
-ghost use Rattle.std.specs.Prelude.{◌≡◌};
+ghost use Rattle.std.specs.Prelude.{◌≡◌, ◌<◌, IfOk};
+ghost use Rattle.hp_model.specs.Net.{keys_in_force};
+ghost use Rattle.hp_model.specs.Settled.{settled, is_online};
 
-use hp_event::Journal;
+use hp_event::{Journal, Keys};
 use hp_hook::Hook;
 use hp_ledger::Ledger;
+use hp_model::net_of;
+use hp_states::{NoMemory, TEARDOWN_CPU};
 use hp_table::Table;
+use std::alloc::Global;
 use std::marker::Model;
 
 /// The machine of CPU hotplug: processors, states with their hooks, and a journal of all that was done.
@@ -39,5 +44,35 @@ impl<H: Hook> Board<H> {
     {
         let _ = &self.table;
         self.ledger.journal()
+    }
+
+    /// The state where a processor was left by its last walk.
+    ///
+    /// The processor is a possible one. Takes no memory. After `st->state` of `kernel/cpu.c`.
+    pub fn state(&self, cpu: u32) -> u32
+        requires { cpu < self.now.head.possible }
+        ensures { result ≡ settled cpu self.now.events }
+    {
+        self.ledger.state(cpu)
+    }
+
+    /// Whether a processor is online: it stands above the state at which it is taken down.
+    ///
+    /// The processor is a possible one. Takes no memory. After `cpu_online` of `kernel/cpu.c`.
+    pub fn online(&self, cpu: u32) -> bool
+        requires { cpu < self.now.head.possible }
+        ensures { result ≡ is_online cpu self.now.events }
+    {
+        self.ledger.state(cpu) >= TEARDOWN_CPU
+    }
+
+    /// The keys that are in force on a processor, in rising order.
+    ///
+    /// Takes a time that grows with the journal, and memory for the keys; where there is none:
+    /// `NoMemory`. That a key is in force is this project's own.
+    pub fn net(&self, alloc: Global, cpu: u32) -> Result<Keys, NoMemory>
+        ensures { IfOk result (λ keys. keys ≡ keys_in_force cpu self.now.events) }
+    {
+        net_of(alloc, self.ledger.journal(), cpu)
     }
 }

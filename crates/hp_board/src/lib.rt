@@ -1,9 +1,11 @@
 //! The machine behind a few calls: any number of clients, one event a turn, its journal lawful after each.
 #![tactic(auto)]
 
+mod admission;
 mod board;
 mod making;
 mod turn;
 
+pub use admission::AdmitError;
 pub use board::Board;
 pub use turn::{Ask, Turn};

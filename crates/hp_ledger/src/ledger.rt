@@ -13,6 +13,7 @@ ghost use Rattle.hp_model.specs.Promised.{promised};
 ghost use Rattle.hp_model.specs.Readers.{is_reading};
 ghost use Rattle.hp_model.specs.Registrations.{registration};
 ghost use Rattle.hp_model.specs.Seats.{admits, ap_seat, role_of, is_busy};
+ghost use Rattle.hp_model.specs.Settled.{settled};
 ghost use Rattle.hp_model.specs.Subsystems.{names_sub};
 ghost use Rattle.hp_ledger.specs.Ledger.{NoAdmission};
 ghost use Rattle.hp_ledger.specs.Next.{IsNext, IsDue};
@@ -100,6 +101,17 @@ impl Ledger {
         ensures { result ≡ ap_seat cpu self.now.events }
     {
         self.parts.seats.thread(cpu)
+    }
+
+    /// The state where a processor was left by its last walk.
+    ///
+    /// The processor is a possible one. Takes no memory.
+    pub fn state(&self, cpu: u32) -> u32
+        requires { cpu < self.now.head.possible }
+        ensures { result ≡ settled cpu self.now.events }
+    {
+        let _ = &self.reserved;
+        self.parts.processors.state(cpu)
     }
 
     /// Whether a seat is in a read section. Takes no memory.
