@@ -4,8 +4,10 @@
 mod admission;
 mod board;
 mod making;
+mod start;
 mod turn;
 
 pub use admission::AdmitError;
 pub use board::Board;
+pub use start::{CpuPlan, StartError};
 pub use turn::{Ask, Turn};
