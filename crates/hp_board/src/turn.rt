@@ -1,17 +1,21 @@
 //! Turns.
 
-ghost use Rattle.std.specs.Prelude.{◌≡◌, ℕ, true, IfOk, IfSome, OnOk, OnErr, false, is_some};
+ghost use Rattle.std.specs.Prelude.{◌≡◌, ◌↔◌, ℕ, true, IsTrue, Some, IfOk, IfSome, OnOk, OnErr, false, is_some};
 ghost use Rattle.hp_board.specs.Hooks.{has_hook, has_hook_after, leaves_hook};
 ghost use Rattle.hp_board.specs.Turns.{IsTurn, IsServed, turn_by};
-ghost use Rattle.hp_ledger.specs.TableChanges.{registering_step, IsHookOf};
+ghost use Rattle.hp_ledger.specs.TableChanges.{is_setup, registering_step, IsHookOf};
 ghost use Rattle.hp_model.specs.Events.{answer_by};
 ghost use Rattle.hp_model.specs.NextEvent.{next_event};
-ghost use Rattle.hp_model.specs.Pending.{IsAllowed};
+ghost use Rattle.hp_model.specs.Pending.{IsAllowed, IsInFlight};
+ghost use Rattle.hp_model.specs.Seats.{role_of};
+ghost use Rattle.hp_model.specs.Subsystems.{names_sub};
+ghost use Rattle.hp_event.specs.declared.event.Role.TheVariants.{Client};
+ghost use Rattle.hp_event.specs.declared.op.Op.{Op as AnOp};
 ghost use Rattle.hp_model.specs.Registrations.{registration};
 
 use crate::board::Board;
 use crate::making::{make, make_entry};
-use hp_event::{Answer, Event, Op};
+use hp_event::{Answer, Event, Op, Role};
 use hp_hook::Hook;
 use hp_ledger::Next;
 use hp_locks::Why;
@@ -96,6 +100,47 @@ impl<H: Hook> Board<H> {
         }
     }
 
+    /// Whether a turn of a seat may be asked for with this: what `turn` has as its conditions.
+    ///
+    /// Takes no memory. This project's own.
+    pub fn can_ask(&self, by: u32, ask: &Ask<H>) -> bool
+        ensures allowed { result ≡ true →
+            IsAllowed self.now.head self.now.events (record { seat = by; op = ask.now.op }) }
+        ensures hook { result ≡ true → is_some ask.now.hook ≡ has_hook self.now.events by ask.now.op }
+    {
+        if !self.is_client(by) || !self.names_sub(ask.op) || !self.is_of(by, ask.op) {
+            return false;
+        }
+        ask.hook.is_some() == (is_setup(ask.op) && !self.ledger.is_busy(by))
+    }
+
+    /// Whether a seat is in as a client.
+    fn is_client(&self, seat: u32) -> bool
+        ensures { result ≡ true → role_of seat self.now.events ≡ Some Client }
+    {
+        matches!(self.ledger.role(seat), Some(Role::Client))
+    }
+
+    /// Whether an operation speaks of subsystems of the head alone.
+    fn names_sub(&self, op: Op) -> bool
+        ensures { result ≡ names_sub self.now.head op }
+    {
+        match op {
+            Op::Setup { sub, .. } => self.ledger.journal().head().sub(sub).is_some(),
+            _ => true,
+        }
+    }
+
+    /// Whether a seat has no other operation than this in flight.
+    fn is_of(&self, seat: u32, op: Op) -> bool
+        ensures { result ≡ true → (x : AnOp) → IsInFlight self.now.events (record { seat = seat; op = x }) → x ≡ op }
+    {
+        match self.ledger.op(seat) {
+            Some(in_flight) => is_same(in_flight, op),
+            None => true,
+        }
+    }
+
     /// One turn of a thread's seat: the entry that is due from it is made, if one is.
     ///
     /// - `Made` where it was.
@@ -114,6 +159,20 @@ impl<H: Hook> Board<H> {
             None => Turn::NotYet(Why::Idle),
         }
     }
+}
+
+/// Whether two operations are the same.
+fn is_same(one: Op, other: Op) -> bool
+    ensures { IsTrue result ↔ (one ≡ other) }
+{
+    one == other
+}
+
+/// Whether an operation is a setup, which brings a hook.
+fn is_setup(op: Op) -> bool
+    ensures { result ≡ is_setup op }
+{
+    matches!(op, Op::Setup { .. })
 }
 
 /// What is answered of an event that was made, at its place.

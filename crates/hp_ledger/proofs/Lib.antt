@@ -41,3 +41,4 @@ pub mod TableOfEvent
 pub mod MachineBegins
 pub mod MachineGoes
 pub mod FullNone
+pub mod InFlightOps

@@ -4,11 +4,13 @@ ghost use Rattle.std.specs.Prelude.{◌≡◌, ◌+◌, ◌<◌, ◌↔◌, ◌+
 ghost use Rattle.hp_states.specs.declared.limits.TheConstants.{MAX_EVENTS};
 ghost use Rattle.hp_event.specs.declared.event.Event.TheVariants.{Admit};
 ghost use Rattle.hp_event.specs.declared.event.Role.TheVariants.{Client};
+ghost use Rattle.hp_event.specs.declared.op.Op.{Op as AnOp};
 ghost use Rattle.hp_event.specs.declared.journal.JournalError.{JournalError};
 ghost use Rattle.hp_model.specs.Events.{is_registration_op};
 ghost use Rattle.hp_model.specs.Heads.{IsHead};
 ghost use Rattle.hp_model.specs.Lawful.{Stands};
 ghost use Rattle.hp_model.specs.Needs.{need, taken};
+ghost use Rattle.hp_model.specs.Pending.{IsInFlight};
 ghost use Rattle.hp_model.specs.Promised.{promised};
 ghost use Rattle.hp_model.specs.Readers.{is_reading};
 ghost use Rattle.hp_model.specs.Registrations.{registration};
@@ -119,6 +121,15 @@ impl Ledger {
         ensures { result ≡ is_reading seat self.now.events }
     {
         self.parts.locks.reading(seat)
+    }
+
+    /// The operation of a seat that is in flight, if one is: it holds the map lock, or registers. Takes no
+    /// memory.
+    pub fn op(&self, seat: u32) -> Option<Op>
+        ensures { (op : AnOp) → IsInFlight self.now.events (record { seat = seat; op = op }) → result ≡ Some op }
+    {
+        let _ = &self.reserved;
+        self.parts.op(seat)
     }
 
     /// The registration in flight, if one is: its operation, and its state. Takes no memory.

@@ -1,7 +1,11 @@
 //! What is under way.
 
-ghost use Rattle.std.specs.Prelude.{◌≡◌};
+ghost use Rattle.std.specs.Prelude.{◌≡◌, Some, List};
+ghost use Rattle.hp_event.specs.declared.event.Event.{Event as AnEvent};
+ghost use Rattle.hp_event.specs.declared.head.Head.{Head as AHead};
+ghost use Rattle.hp_event.specs.declared.op.Op.{Op as AnOp};
 ghost use Rattle.hp_model.specs.Lawful.{IsLawful};
+ghost use Rattle.hp_model.specs.Pending.{IsInFlight};
 ghost use Rattle.hp_ledger.specs.Account.{IsAccount};
 ghost use Rattle.hp_ledger.specs.Table.{IsTableOf};
 ghost use Rattle.hp_ledger.specs.UnderWay.{IsUnderWay, due_by};
@@ -9,7 +13,7 @@ ghost use Rattle.hp_ledger.specs.UnderWay.{IsUnderWay, due_by};
 use crate::coming::Coming;
 use crate::entry::Entry;
 use crate::parts::Parts;
-use hp_event::Journal;
+use hp_event::{Journal, Op};
 use hp_hook::Hook;
 use hp_table::Table;
 
@@ -35,6 +39,22 @@ impl Parts {
                 Some(registration.next(journal, table, &self.processors, &self.seats))
             }
             None => None,
+        }
+    }
+}
+
+impl Parts {
+    /// The operation of a seat that is in flight, if one is.
+    ///
+    /// There is no condition; a number that is no seat has none. Takes no memory.
+    pub(crate) fn op(&self, seat: u32) -> Option<Op>
+        ensures { (head : AHead) (events : List AnEvent) (op : AnOp) → IsLawful head events → IsAccount head events self.now →
+            IsInFlight events (record { seat = seat; op = op }) → result ≡ Some op }
+    {
+        match (&self.operation, &self.registration) {
+            (Some(held), _) if held.seat == seat => Some(held.op),
+            (_, Some(registration)) if registration.seat == seat => Some(registration.reg.op()),
+            _ => None,
         }
     }
 }
