@@ -1,6 +1,6 @@
 //! Seats that come in and leave.
 
-ghost use Rattle.std.specs.Prelude.{◌≡◌, ◌≢◌, None, Some, IfOk, IfErr, OnOk, OnErr, length};
+ghost use Rattle.std.specs.Prelude.{◌≡◌, ◌≢◌, ◌↔◌, IsTrue, None, Some, IfOk, IfErr, OnOk, OnErr, length};
 ghost use Rattle.hp_board.specs.Admission.{refusal_of};
 ghost use Rattle.hp_board.specs.Contents.{with_event};
 ghost use Rattle.hp_event.specs.declared.event.Event.TheVariants.{Admit, Leave};
@@ -66,6 +66,16 @@ impl<H: Hook> Board<H> {
                 Err(AdmitError::NoMemory)
             }
         }
+    }
+
+    /// Whether a seat can leave: it is in, reads nothing, has nothing in flight, and no entry is due from
+    /// it.
+    ///
+    /// Takes no memory. Seats are this project's own.
+    pub fn can_leave(&self, by: u32) -> bool
+        ensures { IsTrue result ↔ Stands self.now.head self.now.events (Leave by) }
+    {
+        self.ledger.can_leave(&self.table, by)
     }
 
     /// Lets a seat go, and answers the place of the event.

@@ -5,6 +5,8 @@ mod admission;
 mod board;
 mod making;
 mod start;
+#[cfg(test)]
+mod tests;
 mod turn;
 
 pub use admission::AdmitError;

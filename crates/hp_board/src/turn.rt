@@ -36,15 +36,10 @@ pub struct Ask<H> {
 #[derive(Clone, Copy, Debug, PartialEq, Eq)]
 pub enum Turn {
     /// One event was made, at this place of the journal, and the operation goes on.
-    Made {
-        at: u32,
-    },
+    Made { at: u32 },
     /// The operation is answered, by the event at this place; by none where there is no room for its
     /// first event.
-    Answered {
-        at: Option<u32>,
-        answer: Answer,
-    },
+    Answered { at: Option<u32>, answer: Answer },
     /// Nothing was made: the next event waits for this.
     NotYet(Why),
 }
@@ -84,7 +79,13 @@ impl<H: Hook> Board<H> {
         match self.ledger.next(&self.table, by, ask.op) {
             Next::Event { event, need } => {
                 let at = self.ledger.journal().len();
-                make(&mut self.ledger, &mut self.table, event, need, &mut ask.hook)?;
+                make(
+                    &mut self.ledger,
+                    &mut self.table,
+                    event,
+                    need,
+                    &mut ask.hook,
+                )?;
                 Ok(turn_of(event, at))
             }
             Next::Entry(entry) => {

@@ -1,6 +1,6 @@
 -- What comes next of a seat and an operation decides whether an event of it can stand.
-use Rattle.std.proofs.Common.{◌≡◌, ℕ, ◌+◌, ◌<◌, ◌≤◌, Bool, true, false, not, cond, ◌&&◌, IsTrue, is_some, is_none, ◌↔◌, Option, Some, None, List, [], ◌∷◌, ◌++◌, length, refl, sym, ap, ◌∙◌, subst, arith}
-use Rattle.std.proofs.lemmas.Bool.{true≢false, and_parts, leb-true}
+use Rattle.std.proofs.Common.{◌≡◌, ℕ, Bool, true, false, IsTrue, ◌↔◌, Option, Some, None, List, refl, sym, ap, ◌∙◌, subst}
+use Rattle.std.proofs.lemmas.Bool.{true≢false}
 use Rattle.hp_states.specs.declared.dir.Dir.{Dir}
 use Rattle.hp_event.specs.declared.how.How.{How}
 use Rattle.hp_event.specs.declared.event.Role.{Role}
@@ -8,23 +8,12 @@ use Rattle.hp_event.specs.declared.op.Op.{Op}
 use Rattle.hp_event.specs.declared.head.Head.{Head}
 use Rattle.hp_event.specs.declared.event.Event.{Event}
 use Rattle.hp_event.specs.declared.event.Event.TheVariants as event
-use Rattle.hp_states.specs.declared.limits.TheConstants.{MAX_EVENTS}
 use Rattle.hp_model.specs.Events.{seat_of, is_call}
 use Rattle.hp_model.specs.Lawful.{Stands, IsLawful}
-use Rattle.hp_model.specs.Needs.{need, taken}
-use Rattle.hp_model.specs.Promised.{promised}
-use Rattle.hp_model.specs.FirstEvent.{first_event, is_client}
-use Rattle.hp_model.specs.NextEvent.{next_event, is_full, due_entry, lacks_room, if_room, next_in_flight}
-use Rattle.hp_model.specs.Room.{is_room, has_room}
-use Rattle.hp_model.specs.Readers.{is_reading}
-use Rattle.hp_model.specs.Seats.{role_of, is_busy}
-use Rattle.hp_model.proofs.OneFate.{not_true}
-use Rattle.hp_model.proofs.RoomKept.{promises_fit}
-use Rattle.hp_model.proofs.HeadlineProof.{lawful_more}
-use Rattle.hp_model.proofs.DueGives.{due_exactly, due_nothing}
-use Rattle.hp_table.specs.Step.{Step}
-use Rattle.hp_ledger.specs.Ledger.{Entries}
-use Rattle.hp_ledger.specs.Table.{IsTableOf}
+use Rattle.hp_model.specs.FirstEvent.{is_client}
+use Rattle.hp_model.specs.NextEvent.{next_event, due_entry}
+use Rattle.hp_model.specs.Seats.{role_of}
+use Rattle.hp_model.proofs.DueGives.{due_exactly}
 use Rattle.hp_ledger.specs.declared.next.Next.{Next}
 use Rattle.hp_ledger.specs.declared.next.Next.TheVariants as answer
 use Rattle.hp_ledger.proofs.FullNone.{full_none}
@@ -34,7 +23,6 @@ use Rattle.hp_model.specs.Subsystems.{names_sub}
 use Rattle.hp_model.proofs.NextStands.{next_stands}
 use Rattle.hp_law.specs.Asked.{asked_by, IsOfOperation}
 use Rattle.hp_law.proofs.ClientEvents.{asked_for}
-use Rattle.hp_law.specs.Leaving.{can_leave}
 
 pub same_event : (a b : Event) → Some a ≡ Some b → a ≡ b
 same_event a b h = cc
@@ -75,46 +63,6 @@ pub none_due : (head : Head) (es : List Event) (k : ℕ) (e : Event) → IsLawfu
     seat_of e ≡ k → None ≡ due_entry head es k → IsTrue false ↔ Stands head es e
 none_due head es k e lawful call by is =
     let x = by_due head es k e None lawful call by is in (λ h. absurd (true≢false (sym h)), λ s. absurd (none_some e (x.1 s)))
-
--- a seat leaves where it can
-all_four : (a b c d : Bool) → (a && (not b && (not c && d))) ≡ true → (a ≡ true) × (b ≡ false) × (c ≡ false) × (d ≡ true)
-all_four true false false true h = (refl, refl, refl, refl)
-all_four false b c d h = absurd (true≢false (sym h))
-all_four true true c d h = absurd (true≢false (sym h))
-all_four true false true d h = absurd (true≢false (sym h))
-all_four true false false false h = absurd (true≢false (sym h))
-
-is_in : (o : Option Role) → is_some o ≡ true → (role : Role) × (o ≡ Some role)
-is_in None h = absurd (true≢false (sym h))
-is_in (Some role) h = (role, refl)
-
-none_is : (o : Option Event) → is_none o ≡ true → o ≡ None
-none_is None h = refl
-none_is (Some e) h = absurd (true≢false (sym h))
-
-pub leaves_so : (head : Head) (es : List Event) (k : ℕ) → (can_leave head es k ≡ true) ↔ Stands head es (event.Leave k)
-leaves_so head es k = (there, back)
-  where
-    there : can_leave head es k ≡ true → Stands head es (event.Leave k)
-    there h =
-        let a = all_four (is_some (role_of k es)) (is_reading k es) (is_busy k es) (is_none (due_entry head es k)) h in (
-          record {
-            is_in = is_in (role_of k es) a.0;
-            not_reading = a.1;
-            idle = a.2;
-            no_entry_due = (due_nothing head es k).0 (none_is (due_entry head es k) a.3);
-          },
-          refl,
-        )
-
-    back : Stands head es (event.Leave k) → can_leave head es k ≡ true
-    back h =
-        let b = h.0 in
-        let role = b.is_in.1 in
-        let reads = b.not_reading in
-        let idle = b.idle in
-        let none = (due_nothing head es k).1 b.no_entry_due in
-        rw (role, reads, idle, none) refl
 
 -- what the ledger says comes next decides
 pub comes_event : (head : Head) (es : List Event) (k : ℕ) (op : Op) (e next : Event) (takes : ℕ) (same : Bool) → IsLawful head es →

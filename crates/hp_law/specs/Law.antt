@@ -1,5 +1,5 @@
 -- What contracts see of the machine of a journal's checker. This project's own.
-use Rattle.std.specs.Prelude.{◌≡◌, Option, List}
+use Rattle.std.specs.Prelude.{List}
 use Rattle.hp_event.specs.declared.head.Head.{Head}
 use Rattle.hp_event.specs.declared.event.Event.{Event}
 

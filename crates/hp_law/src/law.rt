@@ -9,7 +9,6 @@ ghost use Rattle.hp_model.specs.NextEvent.{due_entry};
 ghost use Rattle.hp_model.specs.FirstEvent.{is_client};
 ghost use Rattle.hp_model.specs.Subsystems.{names_sub};
 ghost use Rattle.hp_law.specs.Asked.{IsOfOperation};
-ghost use Rattle.hp_law.specs.Leaving.{can_leave};
 
 use crate::asked::asked_by;
 use crate::same::same;
@@ -68,7 +67,7 @@ impl Law {
         let _ = &self.table;
         match *event {
             Event::Admit { seat, role } => self.comes_in(seat, role),
-            Event::Leave { seat } => self.leaves(seat),
+            Event::Leave { seat } => self.ledger.can_leave(&self.table, seat),
             Event::Call { seat, .. } => match self.due(seat) {
                 Some(entry) => same(&entry, event),
                 None => false,
@@ -116,17 +115,6 @@ impl Law {
             }
         };
         seat == self.ledger.admitted() && seat < MAX_SEATS && sits && self.ledger.room() >= 2
-    }
-
-    /// Whether a seat can leave: it is in, reads nothing, has nothing in flight, and no entry is due from
-    /// it.
-    fn leaves(&self, seat: u32) -> bool
-        ensures { result ≡ can_leave self.now.head self.now.events seat }
-    {
-        self.ledger.role(seat).is_some()
-            && !self.ledger.is_reading(seat)
-            && !self.ledger.is_busy(seat)
-            && self.due(seat).is_none()
     }
 
     /// The entry that is due from a seat, as it is made.

@@ -42,3 +42,4 @@ pub mod MachineBegins
 pub mod MachineGoes
 pub mod FullNone
 pub mod InFlightOps
+pub mod Leaves

@@ -28,3 +28,4 @@ pub mod Way
 pub mod NamedIn
 pub mod Between
 pub mod Machine
+pub mod Leaving

@@ -17,6 +17,7 @@ ghost use Rattle.hp_model.specs.Registrations.{registration};
 ghost use Rattle.hp_model.specs.Seats.{admits, ap_seat, role_of, is_busy};
 ghost use Rattle.hp_model.specs.Settled.{settled};
 ghost use Rattle.hp_model.specs.Subsystems.{names_sub};
+ghost use Rattle.hp_ledger.specs.Leaving.{can_leave};
 ghost use Rattle.hp_ledger.specs.Ledger.{NoAdmission};
 ghost use Rattle.hp_ledger.specs.Next.{IsNext, IsDue};
 ghost use Rattle.hp_ledger.specs.Table.{IsTableOf};
@@ -211,6 +212,20 @@ impl Ledger {
         ensures { IsDue self.now.head self.now.events seat result }
     {
         due_from(self.parts.under_way(&self.journal, table), seat)
+    }
+
+    /// Whether a seat can leave: it is in, reads nothing, has nothing in flight, and no entry is due from
+    /// it.
+    ///
+    /// The table is the journal's. Takes no memory, and looks at no event. Seats are this project's own.
+    pub fn can_leave<H: Hook>(&self, table: &Table<H>, seat: u32) -> bool
+        requires { IsTableOf self.now.head self.now.events table.now }
+        ensures { result ≡ can_leave self.now.head self.now.events seat }
+    {
+        self.role(seat).is_some()
+            && !self.is_reading(seat)
+            && !self.is_busy(seat)
+            && self.due(table, seat).is_none()
     }
 
     /// Reserves room for the event that comes and for what has to follow it: `n` events.

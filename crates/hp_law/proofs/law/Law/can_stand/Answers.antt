@@ -3,7 +3,8 @@ use Rattle.hp_event.specs.declared.event.Event.TheVariants.{Leave}
 use Rattle.hp_model.specs.Events.{seat_of, is_call}
 use Rattle.hp_model.specs.Lawful.{Stands, IsLawful}
 use Rattle.hp_law.specs.Law.{Taken}
-use Rattle.hp_law.proofs.Comes.{some_due, none_due, leaves_so}
+use Rattle.hp_ledger.proofs.Leaves.{leaves_so}
+use Rattle.hp_law.proofs.Comes.{some_due, none_due}
 use Rattle.hp_law.proofs.law.Law.can_stand.Goals as goal
 
 pub returns-in-Some : goal.returns-in-Some
@@ -24,7 +25,8 @@ returns-in-None c =
 
 pub returns-in-Leave : goal.returns-in-Leave
 returns-in-Leave c =
-    let t = c.args.self.now in
-    let so = leaves_so t.head t.events c.in-Leave.seat in
-    subst (λ e. IsTrue c.leaves.result ↔ Stands t.head t.events e) (sym c.in-Leave.is)
-    (subst (λ b. IsTrue b ↔ Stands t.head t.events (Leave c.in-Leave.seat)) (sym c.leaves.ensures) so)
+    let l = c.self.inside.ledger in
+    let so = leaves_so l.head l.events c.in-Leave.seat in
+    let here = subst (λ b. IsTrue b ↔ Stands l.head l.events (Leave c.in-Leave.seat)) (sym c.can_leave.ensures) so in
+    let there = subst (λ (t : Taken). IsTrue c.can_leave.result ↔ Stands t.head t.events (Leave c.in-Leave.seat)) c.self.view_is here in
+    subst (λ e. IsTrue c.can_leave.result ↔ Stands c.args.self.now.head c.args.self.now.events e) (sym c.in-Leave.is) there

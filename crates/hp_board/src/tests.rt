@@ -1,0 +1,396 @@
+//! What no clause says: that boards can be kept, that turns come out as written by hand, and that the very
+//! hook that went in comes back.
+
+ghost use Rattle.std.specs.Prelude.{◌<◌, ◌≤◌, IfOk, IfSome};
+ghost use Rattle.hp_model.specs.Heads.{IsSub};
+ghost use Rattle.hp_states.specs.declared.limits.TheConstants.{MAX_CODE};
+
+use crate::{AdmitError, Ask, Board, CpuPlan, StartError, Turn};
+use hp_event::{Answer, Form, Name, Numbers, Op, Role, Sub, Subs};
+use hp_hook::{Hook, ScriptHook};
+use hp_locks::Why;
+use hp_states::{Dir, HookPlan, Rule};
+use std::alloc::Global;
+use std::test::Fail;
+
+/// A hook that carries a mark.
+#[derive(Drop)]
+struct Marked {
+    mark: u32,
+    hook: ScriptHook,
+}
+
+impl Hook for Marked {
+    ghost plan = { λ m. m.hook.plan };
+
+    ghost seen = { λ m. m.hook.seen };
+
+    ghost made = { λ m. m.hook.made };
+
+    ghost faults = { λ m. m.hook.faults };
+
+    fn load(&mut self, rules: HookPlan) {
+        self.hook.load(rules);
+    }
+
+    fn call(&mut self, cpu: u32, inst: u32, dir: Dir) -> u32 {
+        self.hook.call(cpu, inst, dir)
+    }
+
+    fn made(&self) -> u64 {
+        self.hook.made()
+    }
+
+    fn faults(&self) -> u64 {
+        self.hook.faults()
+    }
+}
+
+/// A subsystem with both callbacks, whose startup answers this code on processor 1, or 0 with none.
+fn subsystem(alloc: Global, code: Option<u32>) -> Result<Sub, Fail>
+    requires { IfSome code (λ n. (0 < n) × (n ≤ MAX_CODE)) }
+    ensures { IfOk result IsSub }
+{
+    let mut name = Name::new(alloc);
+    name.push(b'a')?;
+    let mut plan = HookPlan::none();
+    if let Some(code) = code {
+        plan.add(Rule {
+            dir: Dir::Up,
+            cpu: Some(1),
+            inst: None,
+            nth: None,
+            code,
+        });
+    }
+    Ok(Sub {
+        name,
+        up: true,
+        down: true,
+        multi: false,
+        plan,
+    })
+}
+
+/// A board of two processors with this subsystem, and with so many clients behind its two threads.
+fn board(alloc: Global, sub: Sub, clients: u32) -> Result<Board<Marked>, Fail>
+    requires { IsSub sub }
+{
+    let mut subs = Subs::new(alloc);
+    subs.push(sub)?;
+    let plan = CpuPlan {
+        possible: 2,
+        absent: Numbers::new(alloc),
+    };
+    let mut board = match Board::start(alloc, plan, subs) {
+        Ok(board) => board,
+        Err(_) => return Err(Fail::from("the board starts")),
+    };
+    for cpu in 0..2u32 {
+        if board.admit(Role::Ap(cpu)).is_err() {
+            return Err(Fail::from("a thread comes in"));
+        }
+    }
+    for _ in 0..clients {
+        if board.admit(Role::Client).is_err() {
+            return Err(Fail::from("a client comes in"));
+        }
+    }
+    Ok(board)
+}
+
+/// An operation, with a marked hook where it is a setup.
+fn ask(op: Op) -> Ask<Marked> {
+    let hook = match op {
+        Op::Setup { .. } => Some(Marked {
+            mark: 7,
+            hook: ScriptHook::new(),
+        }),
+        _ => None,
+    };
+    Ask { op, hook }
+}
+
+/// One turn of a seat: of a thread's, or of a client's with its ask.
+fn turn(board: &mut Board<Marked>, by: u32, ask: Option<&mut Ask<Marked>>) -> Result<Turn, Fail> {
+    match ask {
+        None => Ok(board.serve(by)),
+        Some(ask) => {
+            if !board.can_ask(by, ask) {
+                return Err(Fail::from("the turn can't be asked for"));
+            }
+            Ok(board.turn(by, ask)?)
+        }
+    }
+}
+
+/// A turn of a seat, with the operation that it begins to ask for, if it does, and what it answers.
+type Step = (u32, Option<Op>, Turn);
+
+/// Plays turns, and answers the place of the first that answers otherwise, and the mark of the hook of the
+/// last ask.
+fn play(
+    alloc: Global,
+    board: &mut Board<Marked>,
+    steps: &[Step],
+) -> Result<(Option<usize>, Option<u32>), Fail> {
+    let mut asks: Vec<Ask<Marked>> = Vec::new(alloc);
+    for _ in 0..6 {
+        asks.push(ask(Op::Lock))?;
+    }
+    let mut mark = None;
+    for (place, (by, begins, wanted)) in steps.iter().enumerate() {
+        if let (Some(op), Some(place)) = (*begins, asks.get_mut(*by as usize)) {
+            *place = ask(op);
+        }
+        let asked = if *by < 2 {
+            None
+        } else {
+            asks.get_mut(*by as usize)
+        };
+        if turn(board, *by, asked)? != *wanted {
+            return Ok((Some(place), None));
+        }
+        mark = match asks.get(*by as usize) {
+            Some(ask) => ask.hook.as_ref().map(|marked| marked.mark),
+            None => None,
+        };
+    }
+    Ok((None, mark))
+}
+
+const OK: Answer = Answer::Ok(0);
+
+const FORM: Form = Form {
+    locked: false,
+    nocalls: false,
+};
+
+const SETUP: Op = Op::Setup {
+    state: 150,
+    sub: 1,
+    form: FORM,
+};
+
+const REMOVE: Op = Op::Remove {
+    state: 150,
+    form: FORM,
+};
+
+/// Two clients read, a third registers, and a fourth brings up a processor.
+const READERS: [Step; 23] = [
+    (
+        2,
+        Some(Op::Lock),
+        Turn::Answered {
+            at: Some(6),
+            answer: OK,
+        },
+    ),
+    (
+        3,
+        Some(Op::Lock),
+        Turn::Answered {
+            at: Some(7),
+            answer: OK,
+        },
+    ),
+    (4, Some(SETUP), Turn::Made { at: 8 }),
+    (5, Some(Op::Up(1)), Turn::Made { at: 9 }),
+    (5, None, Turn::NotYet(Why::ReadersIn(2))),
+    (
+        2,
+        Some(Op::Unlock),
+        Turn::Answered {
+            at: Some(10),
+            answer: OK,
+        },
+    ),
+    (5, None, Turn::NotYet(Why::ReadersIn(1))),
+    (
+        3,
+        Some(Op::Unlock),
+        Turn::Answered {
+            at: Some(11),
+            answer: OK,
+        },
+    ),
+    (5, None, Turn::NotYet(Why::RegIn(4))),
+    (4, None, Turn::NotYet(Why::ApTurn(0))),
+    (1, None, Turn::NotYet(Why::Idle)),
+    (0, None, Turn::Made { at: 12 }),
+    (2, Some(SETUP), Turn::NotYet(Why::RegIn(4))),
+    (
+        4,
+        None,
+        Turn::Answered {
+            at: Some(13),
+            answer: OK,
+        },
+    ),
+    (
+        2,
+        None,
+        Turn::Answered {
+            at: Some(14),
+            answer: Answer::Refused(16),
+        },
+    ),
+    (2, Some(Op::Down(0)), Turn::NotYet(Why::MapsHeld(5))),
+    (5, None, Turn::Made { at: 15 }),
+    (3, Some(Op::Lock), Turn::NotYet(Why::WriterIn(5))),
+    (5, None, Turn::NotYet(Why::ApTurn(1))),
+    (1, None, Turn::Made { at: 16 }),
+    (5, None, Turn::Made { at: 17 }),
+    (
+        5,
+        None,
+        Turn::Answered {
+            at: Some(18),
+            answer: OK,
+        },
+    ),
+    (
+        3,
+        None,
+        Turn::Answered {
+            at: Some(19),
+            answer: OK,
+        },
+    ),
+];
+
+#[test]
+fn two_readers_and_a_registration_keep_a_walk_out(rt: HostRuntime) -> Result<(), Fail> {
+    let mut board = board(rt.alloc(), subsystem(rt.alloc(), None)?, 4)?;
+    let played = play(rt.alloc(), &mut board, READERS.as_slice())?;
+    assert!(rt; played == (None, None));
+    assert_eq!(rt; board.journal().len(), 20);
+    Ok(())
+}
+
+/// A setup and a remove.
+const REMOVED: [Step; 6] = [
+    (2, Some(SETUP), Turn::Made { at: 3 }),
+    (0, None, Turn::Made { at: 4 }),
+    (
+        2,
+        None,
+        Turn::Answered {
+            at: Some(5),
+            answer: OK,
+        },
+    ),
+    (2, Some(REMOVE), Turn::Made { at: 6 }),
+    (0, None, Turn::Made { at: 7 }),
+    (
+        2,
+        None,
+        Turn::Answered {
+            at: Some(8),
+            answer: OK,
+        },
+    ),
+];
+
+/// A setup of a state that is taken.
+const TAKEN: [Step; 4] = [
+    (2, Some(SETUP), Turn::Made { at: 3 }),
+    (0, None, Turn::Made { at: 4 }),
+    (
+        2,
+        None,
+        Turn::Answered {
+            at: Some(5),
+            answer: OK,
+        },
+    ),
+    (
+        2,
+        Some(SETUP),
+        Turn::Answered {
+            at: Some(6),
+            answer: Answer::Refused(16),
+        },
+    ),
+];
+
+/// A setup whose startup faults on the second processor.
+const FAULTED: [Step; 9] = [
+    (2, Some(Op::Up(1)), Turn::Made { at: 3 }),
+    (2, None, Turn::Made { at: 4 }),
+    (2, None, Turn::Made { at: 5 }),
+    (
+        2,
+        None,
+        Turn::Answered {
+            at: Some(6),
+            answer: OK,
+        },
+    ),
+    (2, Some(SETUP), Turn::Made { at: 7 }),
+    (0, None, Turn::Made { at: 8 }),
+    (1, None, Turn::Made { at: 9 }),
+    (0, None, Turn::Made { at: 10 }),
+    (
+        2,
+        None,
+        Turn::Answered {
+            at: Some(11),
+            answer: Answer::Fault(5),
+        },
+    ),
+];
+
+#[test]
+fn the_very_hook_comes_back(rt: HostRuntime) -> Result<(), Fail> {
+    for (steps, code) in [
+        (REMOVED.as_slice(), None),
+        (TAKEN.as_slice(), None),
+        (FAULTED.as_slice(), Some(5)),
+    ] {
+        let mut board = board(rt.alloc(), subsystem(rt.alloc(), code)?, 1)?;
+        let played = play(rt.alloc(), &mut board, steps)?;
+        assert!(rt; played == (None, Some(7)));
+    }
+    Ok(())
+}
+
+/// What boards don't start with: how many processors are possible, which one is absent, and why.
+const NO_BOARDS: [(u32, Option<u32>, StartError); 4] = [
+    (0, None, StartError::NoProcessor),
+    (65, None, StartError::TooManyCpus),
+    (2, Some(2), StartError::BadAbsent),
+    (2, Some(0), StartError::NoBoot),
+];
+
+/// Why a board doesn't start, if it doesn't.
+fn refused(alloc: Global, possible: u32, gone: Option<u32>) -> Result<Option<StartError>, Fail> {
+    let mut absent = Numbers::new(alloc);
+    if let Some(cpu) = gone {
+        absent.push(cpu)?;
+    }
+    let plan = CpuPlan { possible, absent };
+    Ok(Board::<Marked>::start(alloc, plan, Subs::new(alloc)).err())
+}
+
+#[test]
+fn boards_are_refused(rt: HostRuntime) -> Result<(), Fail> {
+    for (possible, gone, error) in NO_BOARDS {
+        assert!(rt; refused(rt.alloc(), possible, gone)? == Some(error));
+    }
+    Ok(())
+}
+
+#[test]
+fn seats_are_refused_and_leave(rt: HostRuntime) -> Result<(), Fail> {
+    let mut board = board(rt.alloc(), subsystem(rt.alloc(), None)?, 1)?;
+    assert!(rt; board.admit(Role::Ap(1)).err() == Some(AdmitError::ApTaken));
+    assert!(rt; board.admit(Role::Ap(2)).err() == Some(AdmitError::NotPresent));
+    if board.can_leave(1) {
+        assert!(rt; board.leave(1) == 3);
+    }
+    assert!(rt; !board.can_leave(1));
+    assert!(rt; board.admit(Role::Ap(1)).ok() == Some(3));
+    Ok(())
+}
