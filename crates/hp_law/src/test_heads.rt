@@ -1,12 +1,31 @@
 //! Heads that a machine can be started with, each at its limits, and heads one step beyond them.
 
 use crate::is_head;
-use crate::test_lines::{head, sub};
-use crate::test_verdicts::first_unlawful;
-use hp_event::Head;
+use crate::test_law::first_unlawful;
+use hp_event::{Head, Name, Numbers, Sub, Subs};
 use hp_states::{Dir, HookPlan, Rule};
 use std::alloc::Global;
 use std::test::Fail;
+
+/// A head without absent processors and subsystems.
+pub fn head(alloc: Global, possible: u32) -> Head {
+    Head {
+        possible,
+        absent: Numbers::new(alloc),
+        subs: Subs::new(alloc),
+    }
+}
+
+/// A subsystem with both callbacks.
+pub fn sub(alloc: Global, name: &[u8], plan: HookPlan) -> Result<Sub, Fail> {
+    Ok(Sub {
+        name: Name::from_vec(Vec::from_slice(alloc, name)?),
+        up: true,
+        down: true,
+        multi: false,
+        plan,
+    })
+}
 
 /// So many processors, of which these are absent.
 fn of_processors(alloc: Global, possible: u32, absent: &[u32]) -> Result<Head, Fail> {
@@ -72,67 +91,103 @@ const ANY: Rule = Rule {
     code: 1,
 };
 
+/// So many processors, of which these are absent, and whether a machine can be started with them.
+const PROCESSORS: [(u32, &'static [u32], bool); 9] = [
+    (1, &[], true),
+    (64, &[1, 63], true),
+    (4, &[1, 2, 3], true),
+    (0, &[], false),
+    (65, &[], false),
+    (64, &[64], false),
+    (2, &[0], false),
+    (4, &[2, 1], false),
+    (4, &[1, 1], false),
+];
+
 /// The number of processors, and which are absent.
 #[test]
 fn the_first_processor_is_present(rt: HostRuntime) -> Result<(), Fail> {
-    assert!(rt; is_head(&of_processors(rt.alloc(), 1, &[])?));
-    assert!(rt; is_head(&of_processors(rt.alloc(), 64, &[1, 63])?));
-    assert!(rt; is_head(&of_processors(rt.alloc(), 4, &[1, 2, 3])?));
-    assert!(rt; !is_head(&of_processors(rt.alloc(), 0, &[])?));
-    assert!(rt; !is_head(&of_processors(rt.alloc(), 65, &[])?));
-    assert!(rt; !is_head(&of_processors(rt.alloc(), 64, &[64])?));
-    assert!(rt; !is_head(&of_processors(rt.alloc(), 2, &[0])?));
-    assert!(rt; !is_head(&of_processors(rt.alloc(), 4, &[2, 1])?));
-    assert!(rt; !is_head(&of_processors(rt.alloc(), 4, &[1, 1])?));
+    for (possible, absent, wanted) in PROCESSORS {
+        let head = of_processors(rt.alloc(), possible, absent)?;
+        assert!(rt; is_head(&head) == wanted);
+    }
     Ok(())
 }
+
+/// Names, and whether a subsystem can have them.
+const NAMES: [(&'static [u8], bool); 7] = [
+    (b"", true),
+    (b"aZ09:_/.-", true),
+    (b"a23456789012345678901234567890bc", true),
+    (b"a23456789012345678901234567890bcd", false),
+    (b"net a", false),
+    (b"net!", false),
+    (b"-", false),
+];
 
 /// The names of subsystems, and how many there are.
 #[test]
 fn subsystems_have_names_or_none(rt: HostRuntime) -> Result<(), Fail> {
-    assert!(rt; is_head(&of_name(rt.alloc(), b"")?));
-    assert!(rt; is_head(&of_name(rt.alloc(), b"aZ09:_/.-")?));
-    assert!(rt; is_head(&of_name(rt.alloc(), b"a23456789012345678901234567890bc")?));
-    assert!(rt; !is_head(&of_name(rt.alloc(), b"a23456789012345678901234567890bcd")?));
-    assert!(rt; !is_head(&of_name(rt.alloc(), b"net a")?));
-    assert!(rt; !is_head(&of_name(rt.alloc(), b"net!")?));
-    assert!(rt; !is_head(&of_name(rt.alloc(), b"-")?));
-    assert!(rt; is_head(&of_subs(rt.alloc(), 128)?));
-    assert!(rt; !is_head(&of_subs(rt.alloc(), 129)?));
+    for (name, wanted) in NAMES {
+        let head = of_name(rt.alloc(), name)?;
+        assert!(rt; is_head(&head) == wanted);
+    }
+    for (count, wanted) in [(128, true), (129, false)] {
+        let head = of_subs(rt.alloc(), count)?;
+        assert!(rt; is_head(&head) == wanted);
+    }
     Ok(())
 }
 
-/// The numbers of a rule.
-#[test]
-fn rules_keep_their_ranges(rt: HostRuntime) -> Result<(), Fail> {
-    assert!(rt; is_head(&of_rule(rt.alloc(), WIDEST)?));
-    assert!(rt; is_head(&of_rule(rt.alloc(), LEAST)?));
-    assert!(rt; is_head(&of_rule(rt.alloc(), ANY)?));
-    let beyond = [
+/// Rules, and whether they have the form of one.
+const RULES: [(Rule, bool); 9] = [
+    (WIDEST, true),
+    (LEAST, true),
+    (ANY, true),
+    (
         Rule {
             cpu: Some(256),
             ..WIDEST
         },
+        false,
+    ),
+    (
         Rule {
             inst: Some(65536),
             ..WIDEST
         },
+        false,
+    ),
+    (
         Rule {
             nth: Some(1_048_577),
             ..WIDEST
         },
+        false,
+    ),
+    (
         Rule {
             nth: Some(0),
             ..LEAST
         },
+        false,
+    ),
+    (
         Rule {
             code: 4096,
             ..WIDEST
         },
-        Rule { code: 0, ..LEAST },
-    ];
-    for rule in &beyond {
-        assert!(rt; !is_head(&of_rule(rt.alloc(), *rule)?));
+        false,
+    ),
+    (Rule { code: 0, ..LEAST }, false),
+];
+
+/// The numbers of a rule.
+#[test]
+fn rules_keep_their_ranges(rt: HostRuntime) -> Result<(), Fail> {
+    for (rule, wanted) in RULES {
+        let head = of_rule(rt.alloc(), rule)?;
+        assert!(rt; is_head(&head) == wanted);
     }
     Ok(())
 }

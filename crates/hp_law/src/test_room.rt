@@ -1,6 +1,6 @@
 //! Journals that are full: what was promised always fits, and nothing else.
 
-use crate::test_lines::head;
+use crate::test_heads::head;
 use crate::{Law, is_head};
 use hp_event::{Answer, Event, Op, Role};
 use hp_states::{MAX_EVENTS, ONLINE};

@@ -1,5 +1,6 @@
 //! Whole texts.
 
+use crate::tests::changes::{Change, assert_refusals};
 use crate::{ReplayError, ReplayKind, check, events_fit, text_is_accepted};
 use hp_print::{journal_text, summary};
 use std::alloc::Global;
@@ -104,26 +105,8 @@ fn what_stands_among_the_events(rt: HostRuntime) -> Result<(), Fail> {
     Ok(())
 }
 
-/// The text with another line in place of one, counted from 1.
-fn with_line(alloc: Global, number: u32, line: &[u8]) -> Result<Vec<u8>, Fail> {
-    let mut all = Vec::new(alloc);
-    let mut at = 1;
-    for byte in TEXT {
-        if at != number {
-            all.push(*byte)?;
-        }
-        if *byte == b'\n' {
-            if at == number {
-                all.extend_from_slice(line)?;
-            }
-            at = at.saturating_add(1);
-        }
-    }
-    Ok(all)
-}
-
 /// Lines that can't stand in place of the text's, with their numbers.
-const UNLAWFUL: [(u32, &'static [u8]); 16] = [
+const UNLAWFUL: [Change; 16] = [
     (8, b"admit 1 ap 0\n"),
     (8, b"admit 2 ap 1\n"),
     (9, b"leave 2\n"),
@@ -144,14 +127,5 @@ const UNLAWFUL: [(u32, &'static [u8]); 16] = [
 
 #[test]
 fn an_event_that_cannot_stand(rt: HostRuntime) -> Result<(), Fail> {
-    for (line, text) in UNLAWFUL {
-        let all = with_line(rt.alloc(), line, text)?;
-        let answer = check(rt.alloc(), all.as_slice());
-        let wanted = ReplayError::Bad {
-            line,
-            kind: ReplayKind::Unlawful,
-        };
-        assert!(rt; answer.err() == Some(wanted));
-    }
-    Ok(())
+    assert_refusals(&rt, rt.alloc(), TEXT, &UNLAWFUL)
 }

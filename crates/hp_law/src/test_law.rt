@@ -1,0 +1,118 @@
+//! What a law lets stand after two setups.
+
+use crate::test_heads::{head, sub};
+use crate::{Law, is_head};
+use hp_event::{Answer, Event, File, Form, Head, How, Op, Role};
+use hp_states::{Dir, HookPlan};
+use std::alloc::Global;
+use std::test::Fail;
+
+/// The place of the first event that can't stand after those before it; none where each can. 0 where a
+/// machine can't be started with the head.
+pub fn first_unlawful(alloc: Global, head: &Head, events: &[Event]) -> Result<Option<usize>, Fail> {
+    if !is_head(head) {
+        return Ok(Some(0));
+    }
+    let mut law = Law::start(alloc, head)?;
+    for (place, event) in events.iter().enumerate() {
+        if !law.can_stand(event) {
+            return Ok(Some(place));
+        }
+        law.take(event)?;
+    }
+    Ok(None)
+}
+
+/// The form with calls, outside of read sections.
+const FORM: Form = Form {
+    nocalls: false,
+    locked: false,
+};
+
+/// The threads of two processors and a client come in, and the client sets up the states 120 and 150.
+const TWO_SETUPS: [Event; 9] = [
+    Event::Admit {
+        seat: 0,
+        role: Role::Ap(0),
+    },
+    Event::Admit {
+        seat: 1,
+        role: Role::Ap(1),
+    },
+    Event::Admit {
+        seat: 2,
+        role: Role::Client,
+    },
+    Event::RegBegin {
+        seat: 2,
+        state: 120,
+        op: Op::Setup {
+            state: 120,
+            sub: 1,
+            form: FORM,
+        },
+    },
+    Event::Call {
+        seat: 0,
+        cpu: 0,
+        state: 120,
+        inst: 0,
+        dir: Dir::Up,
+        how: How::RanOk,
+    },
+    Event::RegEnd {
+        seat: 2,
+        answer: Answer::Ok(0),
+    },
+    Event::RegBegin {
+        seat: 2,
+        state: 150,
+        op: Op::Setup {
+            state: 150,
+            sub: 2,
+            form: FORM,
+        },
+    },
+    Event::Call {
+        seat: 0,
+        cpu: 0,
+        state: 150,
+        inst: 0,
+        dir: Dir::Up,
+        how: How::RanOk,
+    },
+    Event::RegEnd {
+        seat: 2,
+        answer: Answer::Ok(0),
+    },
+];
+
+/// Those events, and the named states shown of a processor's number.
+fn with_states(alloc: Global, cpu: u32) -> Result<Vec<Event>, Fail> {
+    let mut events = Vec::from_slice(alloc, &TWO_SETUPS)?;
+    events.push(Event::Shown {
+        seat: 2,
+        file: File::States,
+        cpu,
+        value: 11,
+    })?;
+    Ok(events)
+}
+
+/// The named states are shown with the number 0 for the processor. No text says another.
+#[test]
+fn the_named_states_are_of_no_processor(rt: HostRuntime) -> Result<(), Fail> {
+    let mut head = head(rt.alloc(), 2);
+    head.subs
+        .push(sub(rt.alloc(), b"net:a", HookPlan::none())?)?;
+    head.subs
+        .push(sub(rt.alloc(), b"net:b", HookPlan::none())?)?;
+    let shown = with_states(rt.alloc(), 0)?;
+    assert_eq!(rt; first_unlawful(rt.alloc(), &head, shown.as_slice())?, None);
+    let shown = with_states(rt.alloc(), 1)?;
+    assert_eq!(rt;
+        first_unlawful(rt.alloc(), &head, shown.as_slice())?,
+        Some(9)
+    );
+    Ok(())
+}

@@ -1,0 +1,72 @@
+//! What the tests ask of a journal's text: whether it is accepted, and whether it is refused with one
+//! line changed.
+
+use crate::{ReplayError, ReplayKind, check};
+use std::alloc::Global;
+use std::process::Abort;
+use std::test::*;
+
+/// The number of a line, counted from 1, and the line that is to stand in its place, with its newline.
+/// Where that is empty the line is left out.
+pub type Change = (usize, &'static [u8]);
+
+/// The text with another line in place of one, counted from 1.
+pub fn with_line(alloc: Global, text: &[u8], number: usize, line: &[u8]) -> Result<Vec<u8>, Fail> {
+    let mut all = Vec::new(alloc);
+    let mut at = 1usize;
+    for byte in text {
+        if at != number {
+            all.push(*byte)?;
+        }
+        if *byte == b'\n' {
+            if at == number {
+                all.extend_from_slice(line)?;
+            }
+            at = at.saturating_add(1);
+        }
+    }
+    Ok(all)
+}
+
+/// The line of the first event of a text that can't stand; none where the text is accepted.
+pub fn line_refused(alloc: Global, text: &[u8]) -> Result<Option<usize>, Fail> {
+    match check(alloc, text) {
+        Ok(_) => Ok(None),
+        Err(
+            ReplayError::Bad {
+                line,
+                kind: ReplayKind::Unlawful,
+            },
+        ) => Ok(Some(line as usize)),
+        Err(other) => Err(other.into()),
+    }
+}
+
+/// The first of some changes, by its place among them, with which alone a text isn't refused just
+/// where it is changed; none where there is no such change.
+fn first_let_through(
+    alloc: Global,
+    text: &[u8],
+    changes: &[Change],
+) -> Result<Option<usize>, Fail> {
+    for (place, change) in changes.iter().enumerate() {
+        let changed = with_line(alloc, text, change.0, change.1)?;
+        if line_refused(alloc, changed.as_slice())? != Some(change.0) {
+            return Ok(Some(place));
+        }
+    }
+    Ok(None)
+}
+
+/// Asserts that a text is accepted, and with each of some changes alone refused just where it is
+/// changed.
+pub fn assert_refusals(
+    rt: &impl Abort,
+    alloc: Global,
+    text: &[u8],
+    changes: &[Change],
+) -> Result<(), Fail> {
+    assert_eq!(rt; line_refused(alloc, text)?, None);
+    assert_eq!(rt; first_let_through(alloc, text, changes)?, None);
+    Ok(())
+}
