@@ -1,5 +1,5 @@
 -- How an entry is made that is due, by the hook that stands there or without it.
-use Rattle.std.proofs.Common.{◌≡◌, ℕ, ◌<◌, Bool, true, false, cond, Option, Some, None, IsSome, IfSome, List, [], ◌∷◌, ◌++◌, refl, sym, ap, ◌∙◌, subst}
+use Rattle.std.proofs.Common.{◌≡◌, ℕ, ◌<◌, true, false, cond, Option, Some, List, [], ◌∷◌, ◌++◌, refl, sym, ap, ◌∙◌, subst}
 use Rattle.hp_states.specs.declared.limits.TheConstants.{MAX_EVENTS}
 use Rattle.hp_states.specs.Rules.{site_at}
 use Rattle.hp_states.specs.Sections.{can_fail}
@@ -17,9 +17,9 @@ use Rattle.hp_ledger.specs.declared.entry.Means.TheVariants.{Presumed, Empty, In
 use Rattle.hp_ledger.specs.Entries.{entry_event, entry_made, how_by, how_of_means}
 use Rattle.hp_ledger.specs.Table.{IsTableOf}
 use Rattle.hp_ledger.specs.TableChanges.{table_after}
-use Rattle.hp_ledger.proofs.EventTables.{CallsHook, calls_hook}
+use Rattle.hp_ledger.proofs.EventTables.{calls_hook}
 use Rattle.hp_ledger.proofs.HookAnswers.{answers_there}
-use Rattle.hp_ledger.proofs.TableMore.{LeavesTable, table_same, answered_called}
+use Rattle.hp_ledger.proofs.TableMore.{table_same, answered_called}
 
 -- the state's hook stands there, can be called, and its answer decides
 pub record IsByHook (head : Head) (es : List Event) (places : List (Option Step)) (x : Entry) : Type 0 where

@@ -1,5 +1,5 @@
 -- What a turn makes of a board and of the hook that it is asked with.
-use Rattle.std.proofs.Common.{◌≡◌, ℕ, Bool, true, false, not, ◌&&◌, ◌||◌, cond, is_some, Option, Some, None, List, length, refl, sym, ap, ◌∙◌, subst}
+use Rattle.std.proofs.Common.{◌≡◌, ℕ, Bool, true, false, not, ◌&&◌, ◌||◌, is_some, Option, Some, None, List, length, refl, sym, ap, ◌∙◌, subst}
 use Rattle.std.proofs.lemmas.Bool.{true≢false, eq-eqb}
 use Rattle.hp_event.specs.declared.answer.Answer.{Answer}
 use Rattle.hp_event.specs.declared.event.Role.{Role}
@@ -7,8 +7,8 @@ use Rattle.hp_event.specs.declared.op.Op.{Op}
 use Rattle.hp_event.specs.declared.head.Head.{Head}
 use Rattle.hp_event.specs.declared.event.Event.{Event}
 use Rattle.hp_event.specs.declared.event.Event.TheVariants.{Admit, RegBegin, RegEnd}
-use Rattle.hp_model.specs.Events.{seat_of, answer_by, BelongsTo}
-use Rattle.hp_model.specs.Lawful.{Stands, IsLawful}
+use Rattle.hp_model.specs.Events.{answer_by, BelongsTo}
+use Rattle.hp_model.specs.Lawful.{IsLawful}
 use Rattle.hp_model.specs.NextEvent.{next_event}
 use Rattle.hp_model.specs.Pending.{Pending, IsAllowed}
 use Rattle.hp_model.specs.Seats.{is_busy, holds_map}
@@ -18,7 +18,7 @@ use Rattle.hp_model.proofs.NextStands.{next_stands, next_belongs}
 use Rattle.hp_ledger.specs.TableChanges.{is_setup, is_registering, brings_hook, hands_hook}
 use Rattle.hp_board.specs.Contents.{Contents, with_event}
 use Rattle.hp_board.specs.Hooks.{has_hook, has_hook_after, leaves_hook}
-use Rattle.hp_board.specs.Turns.{IsTurn, Makes, turn_by}
+use Rattle.hp_board.specs.Turns.{IsTurn, turn_by}
 
 -- what comes next of a client's operation is no admission
 pub no_admission : (head : Head) (es : List Event) (p : Pending) (e : Event) → IsLawful head es → IsAllowed head es p →

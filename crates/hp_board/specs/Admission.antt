@@ -1,5 +1,5 @@
 -- Why a seat isn't let in: the first of some conditions, in their order. This project's own.
-use Rattle.std.specs.Prelude.{ℕ, ◌+◌, not, nat_le, nat_lt, is_some, if◌then◌else◌, Option, Some, None, List, length}
+use Rattle.std.specs.Prelude.{◌+◌, not, nat_le, nat_lt, is_some, if◌then◌else◌, Option, Some, None, List, length}
 use Rattle.hp_states.specs.declared.limits.TheConstants.{MAX_SEATS, MAX_EVENTS}
 use Rattle.hp_event.specs.declared.event.Event.{Event}
 use Rattle.hp_event.specs.declared.event.Role.{Role}

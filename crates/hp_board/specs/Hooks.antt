@@ -1,6 +1,6 @@
 -- The hook that is asked with: which turn takes it, and which hands one back. After the callbacks of `struct cpuhp_step` of
 -- `kernel/cpu.c`.
-use Rattle.std.specs.Prelude.{◌≡◌, ℕ, Bool, true, false, not, ◌&&◌, ◌||◌, Option, Some, None, List}
+use Rattle.std.specs.Prelude.{ℕ, Bool, true, not, ◌&&◌, ◌||◌, Option, Some, None, List}
 use Rattle.hp_event.specs.declared.event.Event.{Event}
 use Rattle.hp_event.specs.declared.op.Op.{Op}
 use Rattle.hp_ledger.specs.TableChanges.{is_setup, brings_hook, hands_hook}

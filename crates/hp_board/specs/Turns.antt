@@ -1,10 +1,9 @@
 -- What a turn of a seat makes of a board, and what it answers: the one event that comes next of the seat and its operation, or
 -- nothing, where there is no room for it or something is waited for. This project's own.
-use Rattle.std.specs.Prelude.{◌≡◌, ℕ, true, Option, Some, None, List, length}
+use Rattle.std.specs.Prelude.{◌≡◌, ℕ, true, Option, Some, None, length}
 use Rattle.hp_event.specs.declared.answer.Answer.{Answer}
 use Rattle.hp_event.specs.declared.answer.Answer.TheVariants.{LogFull}
 use Rattle.hp_event.specs.declared.event.Event.{Event}
-use Rattle.hp_event.specs.declared.head.Head.{Head}
 use Rattle.hp_event.specs.declared.op.Op.{Op}
 use Rattle.hp_locks.specs.declared.why.Why.TheVariants.{Idle}
 use Rattle.hp_model.specs.Events.{answer_by}

@@ -1,5 +1,5 @@
 -- An operation that there is no room for has no event.
-use Rattle.std.proofs.Common.{◌≡◌, ℕ, Bool, true, false, not, cond, Option, Some, None, List, refl, sym, ◌∙◌}
+use Rattle.std.proofs.Common.{◌≡◌, ℕ, Bool, true, false, not, cond, Option, Some, None, List, refl, sym}
 use Rattle.std.proofs.lemmas.Bool.{true≢false, and_parts}
 use Rattle.hp_event.specs.declared.op.Op.{Op}
 use Rattle.hp_event.specs.declared.head.Head.{Head}

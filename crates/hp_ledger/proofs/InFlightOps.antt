@@ -1,10 +1,10 @@
 -- The operation of the seat that holds the map lock is the one that it has in flight.
-use Rattle.std.proofs.Common.{◌≡◌, ℕ, Some, List, ◌⊎◌, inl, inr, refl, sym, ap, ◌∙◌}
+use Rattle.std.proofs.Common.{◌≡◌, ℕ, Some, List, inl, inr, sym, ap, ◌∙◌}
 use Rattle.hp_event.specs.declared.head.Head.{Head}
 use Rattle.hp_event.specs.declared.op.Op.{Op}
 use Rattle.hp_event.specs.declared.event.Event.{Event}
 use Rattle.hp_model.specs.Lawful.{IsLawful}
-use Rattle.hp_model.specs.MapLock.{Operation, operation}
+use Rattle.hp_model.specs.MapLock.{Operation}
 use Rattle.hp_model.specs.Pending.{IsInFlight}
 use Rattle.hp_model.proofs.OneNext.{owners}
 use Rattle.hp_ledger.specs.declared.operation.Held.{Held}

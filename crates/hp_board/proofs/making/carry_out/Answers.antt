@@ -1,4 +1,4 @@
-use Rattle.std.proofs.Common.{◌≡◌, ◌<◌, Some, IsSome, IfSome, [], ◌∷◌, ◌++◌, ◌∙◌, ap, sym, subst, refl}
+use Rattle.std.proofs.Common.{◌≡◌, ◌<◌, IsSome, IfSome, [], ◌∷◌, ◌++◌, ◌∙◌, ap, sym, subst, refl}
 use Rattle.hp_states.specs.declared.limits.TheConstants.{MAX_EVENTS}
 use Rattle.hp_states.specs.Rules.{site_at}
 use Rattle.hp_table.specs.Kept.{answer_at}

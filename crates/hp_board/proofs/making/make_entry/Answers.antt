@@ -1,4 +1,4 @@
-use Rattle.std.proofs.Common.{◌≡◌, [], ◌∷◌, ◌++◌, ◌∙◌, ap, sym, subst}
+use Rattle.std.proofs.Common.{[], ◌∷◌, ◌++◌, ◌∙◌, ap}
 use Rattle.hp_event.specs.declared.event.Event.{Event}
 use Rattle.hp_ledger.specs.Entries.{entry_event}
 use Rattle.hp_ledger.proofs.MachineGoes.{machine_goes_on}

@@ -1,4 +1,4 @@
-use Rattle.std.proofs.Common.{◌≡◌, ◌↔◌, IsTrue, sym, subst}
+use Rattle.std.proofs.Common.{◌↔◌, IsTrue, sym, subst}
 use Rattle.hp_event.specs.declared.event.Event.TheVariants.{Leave}
 use Rattle.hp_model.specs.Lawful.{Stands}
 use Rattle.hp_ledger.proofs.Leaves.{leaves_so}

@@ -1,17 +1,15 @@
-use Rattle.std.proofs.Common.{◌≡◌, ◌∙◌, ap, sym, subst, refl, is_some, Option, Some, None, List, [], ◌∷◌, ◌++◌, length, true, false}
+use Rattle.std.proofs.Common.{◌≡◌, ◌∙◌, ap, sym, subst, is_some, Option, List, [], ◌∷◌, ◌++◌, length, true, false}
 use Rattle.std.proofs.lemmas.Bool.{true≢false}
-use Rattle.hp_model.specs.Lawful.{IsLawful}
-use Rattle.hp_model.specs.NextEvent.{next_event, is_full}
+use Rattle.hp_model.specs.NextEvent.{next_event}
 use Rattle.hp_model.specs.Pending.{Pending, IsAllowed}
 use Rattle.hp_model.proofs.NextStands.{next_stands}
 use Rattle.hp_event.specs.declared.event.Event.{Event}
 use Rattle.hp_table.specs.Step.{Step}
 use Rattle.hp_ledger.specs.Ledger.{Entries}
 use Rattle.hp_ledger.specs.Entries.{entry_event}
-use Rattle.hp_ledger.specs.Next.{IsNext}
 use Rattle.hp_ledger.proofs.FullNone.{full_none}
 use Rattle.hp_board.specs.Contents.{Contents, with_event}
-use Rattle.hp_board.specs.Hooks.{has_hook, has_hook_after, leaves_hook}
+use Rattle.hp_board.specs.Hooks.{has_hook_after, leaves_hook}
 use Rattle.hp_board.specs.Turns.{IsTurn}
 use Rattle.hp_board.proofs.TurnsMade.{no_admission, brought, turn_made, hook_after, hook_same}
 use Rattle.hp_board.proofs.board.Board.turn.Goals as goal

@@ -1,4 +1,4 @@
-use Rattle.std.proofs.Common.{◌≡◌, Some, ap, subst}
+use Rattle.std.proofs.Common.{Some, ap, subst}
 use Rattle.hp_ledger.specs.Operations.{IsHeldBy}
 use Rattle.hp_ledger.proofs.InFlightOps.{held_op}
 use Rattle.hp_ledger.proofs.parts.Parts.op.Goals as goal
