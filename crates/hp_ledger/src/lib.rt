@@ -2,14 +2,16 @@
 //!
 //! A `Ledger` keeps a journal and what its events amount to: who is in, who holds which lock, where
 //! processors stand, which operation holds the map lock, which walk and which registration are in flight
-//! and how far they are, and how much room is promised. `append` takes one event more; `first` says what
-//! comes next of a seat that has nothing in flight, and `due` which entry a seat has to make. Both change
-//! nothing. It stands beside a table of states, which holds the hooks.
+//! and how far they are, and how much room is promised. `append` takes one event more; `next` says what
+//! comes next of a seat and its operation, and `due` which entry a seat has to make. Both change nothing.
+//! It stands beside a table of states, which holds the hooks, and `change_table` changes that as an event
+//! does.
 //!
 //! Its contract is that of hp_model's definitions. `specs/Account.antt` says that each part is the fold of
 //! the events; `specs/Table.antt` what the table of states has, meanwhile too; `specs/Next.antt` that what
-//! is answered is exactly what hp_model's `next_event`, `due_entry`, `is_full` and waits say. Only `new`,
-//! `reserve` and `admit` take memory, and no call looks at the events.
+//! is answered is exactly what hp_model's `next_event`, `due_entry`, `is_full` and waits say; and
+//! `specs/Machine.antt` what is so of a ledger and its table between events. Only `new`, `reserve`, `admit`
+//! and `change_table` take memory, and no call looks at the events.
 #![tactic(auto)]
 
 mod append;
