@@ -3,7 +3,9 @@
 use crate::is_head;
 use crate::test_law::first_unlawful;
 use hp_event::{Head, Name, Numbers, Sub, Subs};
-use hp_states::{Dir, HookPlan, Rule};
+use hp_states::{
+    Dir, HookPlan, MAX_CODE, MAX_CPUS, MAX_EVENTS, MAX_INSTANCE, MAX_RULE_CPU, MAX_SUBS, Rule,
+};
 use std::alloc::Global;
 use std::test::Fail;
 
@@ -67,10 +69,10 @@ fn of_rule(alloc: Global, rule: Rule) -> Result<Head, Fail> {
 /// The rule of the greatest numbers.
 const WIDEST: Rule = Rule {
     dir: Dir::Up,
-    cpu: Some(255),
-    inst: Some(65535),
-    nth: Some(1_048_576),
-    code: 4095,
+    cpu: Some(MAX_RULE_CPU),
+    inst: Some(MAX_INSTANCE),
+    nth: Some(MAX_EVENTS),
+    code: MAX_CODE,
 };
 
 /// The rule of the least numbers.
@@ -94,11 +96,11 @@ const ANY: Rule = Rule {
 /// So many processors, of which these are absent, and whether a machine can be started with them.
 const PROCESSORS: [(u32, &'static [u32], bool); 9] = [
     (1, &[], true),
-    (64, &[1, 63], true),
+    (MAX_CPUS, &[1, MAX_CPUS - 1], true),
     (4, &[1, 2, 3], true),
     (0, &[], false),
-    (65, &[], false),
-    (64, &[64], false),
+    (MAX_CPUS + 1, &[], false),
+    (MAX_CPUS, &[MAX_CPUS], false),
     (2, &[0], false),
     (4, &[2, 1], false),
     (4, &[1, 1], false),
@@ -132,7 +134,7 @@ fn subsystems_have_names_or_none(rt: HostRuntime) -> Result<(), Fail> {
         let head = of_name(rt.alloc(), name)?;
         assert!(rt; is_head(&head) == wanted);
     }
-    for (count, wanted) in [(128, true), (129, false)] {
+    for (count, wanted) in [(MAX_SUBS, true), (MAX_SUBS + 1, false)] {
         let head = of_subs(rt.alloc(), count)?;
         assert!(rt; is_head(&head) == wanted);
     }
@@ -146,21 +148,21 @@ const RULES: [(Rule, bool); 9] = [
     (ANY, true),
     (
         Rule {
-            cpu: Some(256),
+            cpu: Some(MAX_RULE_CPU + 1),
             ..WIDEST
         },
         false,
     ),
     (
         Rule {
-            inst: Some(65536),
+            inst: Some(MAX_INSTANCE + 1),
             ..WIDEST
         },
         false,
     ),
     (
         Rule {
-            nth: Some(1_048_577),
+            nth: Some(MAX_EVENTS + 1),
             ..WIDEST
         },
         false,
@@ -174,7 +176,7 @@ const RULES: [(Rule, bool); 9] = [
     ),
     (
         Rule {
-            code: 4096,
+            code: MAX_CODE + 1,
             ..WIDEST
         },
         false,
