@@ -1,5 +1,4 @@
-//! The program `hp`: plays a script of CPU hotplug, and writes its journal and summary, or the states
-//! file after it.
+//! The program `hp`: plays scripts of CPU hotplug, checks printed journals, and generates scripts.
 //!
 //! It hands its words, standard input, standard output and a rack of hooks to `hp_main` of
 //! `hp_play`, and ends with the status that `hp_main` answers. The rack is its own: so many boxed

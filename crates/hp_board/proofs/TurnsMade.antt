@@ -18,7 +18,7 @@ use Rattle.hp_model.proofs.NextStands.{next_stands, next_belongs}
 use Rattle.hp_ledger.specs.TableChanges.{is_setup, is_registering, brings_hook, hands_hook}
 use Rattle.hp_board.specs.Contents.{Contents, with_event}
 use Rattle.hp_board.specs.Hooks.{has_hook, has_hook_after, leaves_hook}
-use Rattle.hp_board.specs.Turns.{IsTurn, turn_by}
+use Rattle.hp_board.specs.Turns.{IsTurn, turn_by, goes_on}
 
 -- what comes next of a client's operation is no admission
 pub no_admission : (head : Head) (es : List Event) (p : Pending) (e : Event) → IsLawful head es → IsAllowed head es p →
@@ -70,6 +70,11 @@ turn_made old new k at op e next is place = go (answer_by e) refl
     go None a = record { event = e; next_is = next; new_is = is; place_is = place; answer_is = a }
     go (Some answer) a = record { event = e; next_is = next; new_is = is; place_is = place; answer_is = a }
 
+-- where the operation goes on, the event answers nothing
+pub unanswered : (answer : Option Answer) (at : ℕ) → goes_on (turn_by answer at) ≡ true → answer ≡ None
+unanswered None at on = refl
+unanswered (Some answer) at on = absurd (true≢false (sym on))
+
 -- the hook afterwards
 none_of : {X : Type 0} (o : Option X) → is_some o ≡ false → o ≡ None
 none_of None h = refl
@@ -79,7 +84,7 @@ taken_away : (b c : Bool) → ((b && not b) || c) ≡ c
 taken_away true c = refl
 taken_away false c = refl
 
-kept : (b : Bool) → ((b && true) || false) ≡ b
+pub kept : (b : Bool) → ((b && true) || false) ≡ b
 kept true = refl
 kept false = refl
 

@@ -1,5 +1,9 @@
 pub mod Contents
 pub mod Turns
 pub mod Hooks
+pub mod HookCount
 pub mod Admission
 pub mod Starts
+pub mod Retired
+pub mod Again
+pub mod Against

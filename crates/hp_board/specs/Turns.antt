@@ -1,6 +1,6 @@
 -- What a turn of a seat makes of a board, and what it answers: the one event that comes next of the seat and its operation, or
 -- nothing, where there is no room for it or something is waited for. This project's own.
-use Rattle.std.specs.Prelude.{◌≡◌, ℕ, true, Option, Some, None, length}
+use Rattle.std.specs.Prelude.{◌≡◌, ℕ, Bool, true, false, Option, Some, None, length}
 use Rattle.hp_event.specs.declared.answer.Answer.{Answer}
 use Rattle.hp_event.specs.declared.answer.Answer.TheVariants.{LogFull}
 use Rattle.hp_event.specs.declared.event.Event.{Event}
@@ -31,6 +31,11 @@ pub record IsFullFor (seat : ℕ) (op : Op) (answer : Answer) (old new : Content
 abbrev pub turn_by : Option Answer → (at : ℕ) → Turn
 turn_by None at = Made at
 turn_by (Some answer) at = Answered (Some at) answer
+
+-- whether the operation isn't answered, so that its seat asks for it again
+abbrev pub goes_on : Turn → Bool
+goes_on (Answered at answer) = false
+goes_on _ = true
 
 -- what a turn of a client's seat does
 abbrev pub IsTurn : (seat : ℕ) → Op → (old new : Contents) → Turn → Type 0

@@ -1,8 +1,15 @@
 //! The board.
 
-ghost use Rattle.std.specs.Prelude.{◌≡◌, ◌<◌, IfOk};
+ghost use Rattle.std.specs.Prelude.{◌≡◌, ◌<◌, ◌↔◌, ℕ, Some, IsSome, IfOk, option_map};
+ghost use Rattle.hp_ledger.specs.Clients.{clients};
+ghost use Rattle.hp_model.specs.Lists.{among};
+ghost use Rattle.hp_model.specs.MapLock.{Operation, operation};
 ghost use Rattle.hp_model.specs.Net.{keys_in_force};
+ghost use Rattle.hp_model.specs.NextEvent.{due_entry};
+ghost use Rattle.hp_model.specs.Registrations.{Registration, registration};
+ghost use Rattle.hp_model.specs.Seats.{is_busy};
 ghost use Rattle.hp_model.specs.Settled.{settled, is_online};
+ghost use Rattle.hp_model.specs.Suspend.{disabled, frozen};
 
 use hp_event::{Journal, Keys};
 use hp_hook::Hook;
@@ -64,6 +71,76 @@ impl<H: Hook> Board<H> {
         ensures { result ≡ is_online cpu self.now.events }
     {
         self.ledger.state(cpu) >= TEARDOWN_CPU
+    }
+
+    /// The seat that an entry is due from, if one is: there is at most one at any time. `serve` makes it
+    /// where that is a thread's.
+    ///
+    /// Takes no memory, and looks at no event. After `cpuhp_invoke_ap_callback` of `kernel/cpu.c`.
+    pub fn due_seat(&self) -> Option<u32>
+        ensures { (k : ℕ) → IsSome (due_entry self.now.head self.now.events k) ↔ (result ≡ Some k) }
+    {
+        self.ledger.due_seat(&self.table)
+    }
+
+    /// Whether an operation of a seat is in flight: it holds the map lock, or registers.
+    ///
+    /// A number that is no seat has none. Takes no memory. This project's own.
+    pub fn is_busy(&self, seat: u32) -> bool
+        ensures { result ≡ is_busy seat self.now.events }
+    {
+        let _ = &self.table;
+        self.ledger.is_busy(seat)
+    }
+
+    /// The seat that holds the map lock, if one does.
+    ///
+    /// Takes no memory. After `cpu_maps_update_begin` of `kernel/cpu.c`.
+    pub fn holder(&self) -> Option<u32>
+        ensures { result ≡ option_map (λ (o : Operation). o.seat) (operation self.now.events) }
+    {
+        let _ = &self.table;
+        self.ledger.holder()
+    }
+
+    /// The seat whose registration is in flight, if one is.
+    ///
+    /// Takes no memory. After `cpuhp_state_mutex` of `kernel/cpu.c`.
+    pub fn registrar(&self) -> Option<u32>
+        ensures { result ≡ option_map (λ (r : Registration). r.seat) (registration self.now.events) }
+    {
+        let _ = &self.table;
+        self.ledger.registrar()
+    }
+
+    /// How many clients are in.
+    ///
+    /// Takes no memory, and time for the seats that were admitted. Seats are this project's own.
+    pub fn clients(&self) -> u32
+        ensures { result ≡ clients self.now.events }
+    {
+        let _ = &self.table;
+        self.ledger.clients()
+    }
+
+    /// How often hotplug is disabled.
+    ///
+    /// Takes no memory. After `cpu_hotplug_disabled` of `kernel/cpu.c`.
+    pub fn disabled(&self) -> u32
+        ensures { result ≡ disabled self.now.events }
+    {
+        let _ = &self.table;
+        self.ledger.disabled()
+    }
+
+    /// Whether a processor is frozen: the last freeze took it down, and no thaw has ended since.
+    ///
+    /// The processor is a possible one. Takes no memory. After `frozen_cpus` of `kernel/cpu.c`.
+    pub fn frozen(&self, cpu: u32) -> bool
+        requires { cpu < self.now.head.possible }
+        ensures { result ≡ among cpu (frozen self.now.events) }
+    {
+        self.ledger.is_frozen(cpu)
     }
 
     /// The keys that are in force on a processor, in rising order.

@@ -4,23 +4,37 @@
 //! A `Board` starts with processors and subsystems. Seats come in: a client, or the hotplug thread of a
 //! processor. `turn` makes the one event that comes next of a client's seat and its operation, or answers
 //! what it waits for; `serve` makes the entry that is due from a thread. Hooks go in with setups, are called
-//! once for each entry that the journal says was called, and are handed back as they stood.
+//! once for each entry that the journal says was called, and are handed back as they stood. `retire` gives
+//! the board up for its journal and its hooks.
 //!
 //! Contracts see the head, the events and what stands at each state (`specs/Contents.antt`). `Turns.antt`
 //! says what a turn makes of them, by hp_model's `next_event`, `due_entry` and `is_full`; `Hooks.antt` what
-//! becomes of the hook that is asked with; `Admission.antt` and `Starts.antt` each refusal. Its journal is
-//! lawful at any time.
+//! becomes of the hook that is asked with; `Admission.antt` and `Starts.antt` each refusal; `Retired.antt`
+//! which hooks there are at the end, by the journal. Its journal is lawful at any time (`Board::sound`). The
+//! functions of `laws.rt` and `hook_laws.rt` have empty bodies: their contracts are laws of turns.
 #![tactic(auto)]
 
 mod admission;
 mod board;
+mod hook_laws;
+mod laws;
 mod making;
+mod retiring;
+mod sound;
 mod start;
+mod states;
 #[cfg(test)]
 mod tests;
+#[cfg(test)]
+mod tests_end;
 mod turn;
 
 pub use admission::AdmitError;
 pub use board::Board;
+pub use hook_laws::{admit_keeps_hooks, leave_keeps_hooks, serve_keeps_hooks, turn_keeps_hooks};
+pub use laws::{
+    allowed_again, answers_ok, full_has_no_event, others_keep, serve_keeps_others, setup_goes_on,
+    stays_busy, turn_keeps_others, walk_ends_ok,
+};
 pub use start::{CpuPlan, StartError};
 pub use turn::{Ask, Turn};

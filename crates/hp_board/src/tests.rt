@@ -15,9 +15,9 @@ use std::test::Fail;
 
 /// A hook that carries a mark.
 #[derive(Drop)]
-struct Marked {
-    mark: u32,
-    hook: ScriptHook,
+pub(crate) struct Marked {
+    pub(crate) mark: u32,
+    pub(crate) hook: ScriptHook,
 }
 
 impl Hook for Marked {
@@ -47,7 +47,7 @@ impl Hook for Marked {
 }
 
 /// A subsystem with both callbacks, whose startup answers this code on processor 1, or 0 with none.
-fn subsystem(alloc: Global, code: Option<u32>) -> Result<Sub, Fail>
+pub(crate) fn subsystem(alloc: Global, code: Option<u32>) -> Result<Sub, Fail>
     requires { IfSome code (λ n. (0 < n) × (n ≤ MAX_CODE)) }
     ensures { IfOk result IsSub }
 {
@@ -73,7 +73,7 @@ fn subsystem(alloc: Global, code: Option<u32>) -> Result<Sub, Fail>
 }
 
 /// A board of two processors with this subsystem, and with so many clients behind its two threads.
-fn board(alloc: Global, sub: Sub, clients: u32) -> Result<Board<Marked>, Fail>
+pub(crate) fn board(alloc: Global, sub: Sub, clients: u32) -> Result<Board<Marked>, Fail>
     requires { IsSub sub }
 {
     let mut subs = Subs::new(alloc);
@@ -99,11 +99,11 @@ fn board(alloc: Global, sub: Sub, clients: u32) -> Result<Board<Marked>, Fail>
     Ok(board)
 }
 
-/// An operation, with a marked hook where it is a setup.
-fn ask(op: Op) -> Ask<Marked> {
+/// An operation, with a hook where it is a setup, which is marked with the state.
+pub(crate) fn ask(op: Op) -> Ask<Marked> {
     let hook = match op {
-        Op::Setup { .. } => Some(Marked {
-            mark: 7,
+        Op::Setup { state, .. } => Some(Marked {
+            mark: state,
             hook: ScriptHook::new(),
         }),
         _ => None,
@@ -112,7 +112,11 @@ fn ask(op: Op) -> Ask<Marked> {
 }
 
 /// One turn of a seat: of a thread's, or of a client's with its ask.
-fn turn(board: &mut Board<Marked>, by: u32, ask: Option<&mut Ask<Marked>>) -> Result<Turn, Fail> {
+pub(crate) fn turn(
+    board: &mut Board<Marked>,
+    by: u32,
+    ask: Option<&mut Ask<Marked>>,
+) -> Result<Turn, Fail> {
     match ask {
         None => Ok(board.serve(by)),
         Some(ask) => {
@@ -125,11 +129,11 @@ fn turn(board: &mut Board<Marked>, by: u32, ask: Option<&mut Ask<Marked>>) -> Re
 }
 
 /// A turn of a seat, with the operation that it begins to ask for, if it does, and what it answers.
-type Step = (u32, Option<Op>, Turn);
+pub(crate) type Step = (u32, Option<Op>, Turn);
 
 /// Plays turns, and answers the place of the first that answers otherwise, and the mark of the hook of the
 /// last ask.
-fn play(
+pub(crate) fn play(
     alloc: Global,
     board: &mut Board<Marked>,
     steps: &[Step],
@@ -159,9 +163,9 @@ fn play(
     Ok((None, mark))
 }
 
-const OK: Answer = Answer::Ok(0);
+pub(crate) const OK: Answer = Answer::Ok(0);
 
-const FORM: Form = Form {
+pub(crate) const FORM: Form = Form {
     locked: false,
     nocalls: false,
 };
@@ -351,7 +355,7 @@ fn the_very_hook_comes_back(rt: HostRuntime) -> Result<(), Fail> {
     ] {
         let mut board = board(rt.alloc(), subsystem(rt.alloc(), code)?, 1)?;
         let played = play(rt.alloc(), &mut board, steps)?;
-        assert!(rt; played == (None, Some(7)));
+        assert!(rt; played == (None, Some(150)));
     }
     Ok(())
 }

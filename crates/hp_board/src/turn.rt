@@ -2,7 +2,7 @@
 
 ghost use Rattle.std.specs.Prelude.{◌≡◌, ◌↔◌, ℕ, true, IsTrue, Some, IfOk, IfSome, OnOk, OnErr, false, is_some};
 ghost use Rattle.hp_board.specs.Hooks.{has_hook, has_hook_after, leaves_hook};
-ghost use Rattle.hp_board.specs.Turns.{IsTurn, IsServed, turn_by};
+ghost use Rattle.hp_board.specs.Turns.{IsTurn, IsServed, turn_by, goes_on};
 ghost use Rattle.hp_ledger.specs.TableChanges.{is_setup, registering_step, IsHookOf};
 ghost use Rattle.hp_model.specs.Events.{answer_by};
 ghost use Rattle.hp_model.specs.NextEvent.{next_event};
@@ -74,6 +74,8 @@ impl<H: Hook> Board<H> {
             leaves_hook self.old.events (next_event self.old.head self.old.events by ask.old.op) ≡ false →
             IfSome ask.new.hook (λ h. IfSome (registering_step (registration self.old.events) self.old.places)
             (λ step. IsHookOf (H.plan h) (H.seen h) (H.made h) (H.faults h) step.kept))) }
+        ensures again { IfOk result (λ turn. goes_on turn ≡ true →
+            is_some ask.new.hook ≡ has_hook self.new.events by ask.old.op) }
         ensures err { OnErr result ((self.new ≡ self.old) × (ask.new ≡ ask.old)) }
     {
         match self.ledger.next(&self.table, by, ask.op) {
@@ -101,13 +103,15 @@ impl<H: Hook> Board<H> {
         }
     }
 
-    /// Whether a turn of a seat may be asked for with this: what `turn` has as its conditions.
+    /// Whether a turn of a seat may be asked for with this: exactly where the conditions of `turn` hold.
     ///
     /// Takes no memory. This project's own.
     pub fn can_ask(&self, by: u32, ask: &Ask<H>) -> bool
         ensures allowed { result ≡ true →
             IsAllowed self.now.head self.now.events (record { seat = by; op = ask.now.op }) }
         ensures hook { result ≡ true → is_some ask.now.hook ≡ has_hook self.now.events by ask.now.op }
+        ensures always { IsAllowed self.now.head self.now.events (record { seat = by; op = ask.now.op }) →
+            is_some ask.now.hook ≡ has_hook self.now.events by ask.now.op → result ≡ true }
     {
         if !self.is_client(by) || !self.names_sub(ask.op) || !self.is_of(by, ask.op) {
             return false;
@@ -117,7 +121,7 @@ impl<H: Hook> Board<H> {
 
     /// Whether a seat is in as a client.
     fn is_client(&self, seat: u32) -> bool
-        ensures { result ≡ true → role_of seat self.now.events ≡ Some Client }
+        ensures { IsTrue result ↔ (role_of seat self.now.events ≡ Some Client) }
     {
         matches!(self.ledger.role(seat), Some(Role::Client))
     }
@@ -134,7 +138,8 @@ impl<H: Hook> Board<H> {
 
     /// Whether a seat has no other operation than this in flight.
     fn is_of(&self, seat: u32, op: Op) -> bool
-        ensures { result ≡ true → (x : AnOp) → IsInFlight self.now.events (record { seat = seat; op = x }) → x ≡ op }
+        ensures { IsTrue result
+            ↔ ((x : AnOp) → IsInFlight self.now.events (record { seat = seat; op = x }) → x ≡ op) }
     {
         match self.ledger.op(seat) {
             Some(in_flight) => is_same(in_flight, op),

@@ -43,3 +43,4 @@ pub mod MachineGoes
 pub mod FullNone
 pub mod InFlightOps
 pub mod Leaves
+pub mod ClientsCounted

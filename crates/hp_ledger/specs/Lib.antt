@@ -29,3 +29,4 @@ pub mod NamedIn
 pub mod Between
 pub mod Machine
 pub mod Leaving
+pub mod Clients

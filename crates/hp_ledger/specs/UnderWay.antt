@@ -1,6 +1,6 @@
 -- What is under way in a machine, as the account says it: the walk in flight or the registration in flight, or nothing; and the
 -- entry of it that a seat makes. This project's own.
-use Rattle.std.specs.Prelude.{◌≡◌, ◌==◌, if◌then◌else◌, ℕ, Option, Some, None, List, []}
+use Rattle.std.specs.Prelude.{◌≡◌, ◌==◌, if◌then◌else◌, ℕ, Option, Some, None, option_map, List, []}
 use Rattle.hp_event.specs.declared.head.Head.{Head}
 use Rattle.hp_event.specs.declared.event.Event.{Event}
 use Rattle.hp_model.specs.Events.{seat_of}
@@ -34,6 +34,12 @@ abbrev pub due_by : (seat : ℕ) → Option Coming → Option Entry
 due_by k None = None
 due_by k (Some (coming.Entry client cpu entry)) = entry_of k entry
 due_by k (Some (coming.End event)) = None
+
+-- the seat that makes the entry, if one does
+abbrev pub due_seat_by : Option Coming → Option ℕ
+due_seat_by None = None
+due_seat_by (Some (coming.Entry client cpu entry)) = option_map (λ x. x.seat) entry
+due_seat_by (Some (coming.End event)) = None
 
 -- what comes next of a seat in what is under way: its event, its entry, or that the client waits for a processor's thread
 abbrev pub next_by : (seat : ℕ) → Option Coming → Option Next

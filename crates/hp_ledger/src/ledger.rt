@@ -1,6 +1,6 @@
 //! The ledger.
 
-ghost use Rattle.std.specs.Prelude.{◌≡◌, ◌+◌, ◌<◌, ◌↔◌, ◌++◌, ◌∷◌, [], true, false, Option, None, Some, IfOk, IfSome, OnOk, OnErr, IsErrOf, List, length, option_map};
+ghost use Rattle.std.specs.Prelude.{◌≡◌, ◌+◌, ◌<◌, ◌↔◌, ◌++◌, ◌∷◌, [], true, false, Option, None, Some, IfOk, IfSome, OnOk, OnErr, IsErrOf, List, length, option_map, IsSome, ℕ};
 ghost use Rattle.hp_states.specs.declared.limits.TheConstants.{MAX_EVENTS};
 ghost use Rattle.hp_event.specs.declared.event.Event.TheVariants.{Admit};
 ghost use Rattle.hp_event.specs.declared.event.Role.TheVariants.{Client};
@@ -9,14 +9,19 @@ ghost use Rattle.hp_event.specs.declared.journal.JournalError.{JournalError};
 ghost use Rattle.hp_model.specs.Events.{is_registration_op};
 ghost use Rattle.hp_model.specs.Heads.{IsHead};
 ghost use Rattle.hp_model.specs.Lawful.{Stands};
+ghost use Rattle.hp_model.specs.Lists.{among};
+ghost use Rattle.hp_model.specs.MapLock.{Operation, operation};
 ghost use Rattle.hp_model.specs.Needs.{need, taken};
+ghost use Rattle.hp_model.specs.NextEvent.{due_entry};
 ghost use Rattle.hp_model.specs.Pending.{IsInFlight};
 ghost use Rattle.hp_model.specs.Promised.{promised};
 ghost use Rattle.hp_model.specs.Readers.{is_reading};
-ghost use Rattle.hp_model.specs.Registrations.{registration};
+ghost use Rattle.hp_model.specs.Registrations.{Registration, registration};
 ghost use Rattle.hp_model.specs.Seats.{admits, ap_seat, role_of, is_busy};
 ghost use Rattle.hp_model.specs.Settled.{settled};
 ghost use Rattle.hp_model.specs.Subsystems.{names_sub};
+ghost use Rattle.hp_model.specs.Suspend.{disabled, frozen};
+ghost use Rattle.hp_ledger.specs.Clients.{clients};
 ghost use Rattle.hp_ledger.specs.Leaving.{can_leave};
 ghost use Rattle.hp_ledger.specs.Ledger.{NoAdmission};
 ghost use Rattle.hp_ledger.specs.Next.{IsNext, IsDue};
@@ -25,7 +30,7 @@ ghost use Rattle.hp_ledger.specs.Table.{IsTableOf};
 use crate::entry::Entry;
 use crate::next::Next;
 use crate::parts::Parts;
-use crate::under_way::due_from;
+use crate::under_way::{due_from, seat_from};
 use hp_event::{Event, Head, Journal, JournalError, Op, Role};
 use hp_hook::Hook;
 use hp_states::{MAX_EVENTS, NoMemory};
@@ -127,10 +132,58 @@ impl Ledger {
     /// The operation of a seat that is in flight, if one is: it holds the map lock, or registers. Takes no
     /// memory.
     pub fn op(&self, seat: u32) -> Option<Op>
-        ensures { (op : AnOp) → IsInFlight self.now.events (record { seat = seat; op = op }) → result ≡ Some op }
+        ensures { (op : AnOp) → IsInFlight self.now.events (record { seat = seat; op = op }) ↔ (result ≡ Some op) }
     {
         let _ = &self.reserved;
         self.parts.op(seat)
+    }
+
+    /// The seat that holds the map lock, if one does: its operation is in flight. Takes no memory. After
+    /// `cpu_maps_update_begin` of `kernel/cpu.c`.
+    pub fn holder(&self) -> Option<u32>
+        ensures { result ≡ option_map (λ (o : Operation). o.seat) (operation self.now.events) }
+    {
+        let _ = &self.reserved;
+        match &self.parts.operation {
+            Some(held) => Some(held.seat),
+            None => None,
+        }
+    }
+
+    /// The seat whose registration is in flight, if one is. Takes no memory. After `cpuhp_state_mutex` of
+    /// `kernel/cpu.c`.
+    pub fn registrar(&self) -> Option<u32>
+        ensures { result ≡ option_map (λ (r : Registration). r.seat) (registration self.now.events) }
+    {
+        let _ = &self.reserved;
+        match &self.parts.registration {
+            Some(registration) => Some(registration.seat),
+            None => None,
+        }
+    }
+
+    /// How many clients are in. Takes no memory, and time for the seats that were admitted.
+    pub fn clients(&self) -> u32
+        ensures { result ≡ clients self.now.events }
+    {
+        self.parts.seats.clients()
+    }
+
+    /// How often hotplug is disabled. Takes no memory. After `cpu_hotplug_disabled` of `kernel/cpu.c`.
+    pub fn disabled(&self) -> u32
+        ensures { result ≡ disabled self.now.events }
+    {
+        self.parts.suspended.disabled()
+    }
+
+    /// Whether a processor is frozen: the last freeze took it down, and no thaw has ended since.
+    ///
+    /// The processor is a possible one. Takes no memory. After `frozen_cpus` of `kernel/cpu.c`.
+    pub fn is_frozen(&self, cpu: u32) -> bool
+        requires { cpu < self.now.head.possible }
+        ensures { result ≡ among cpu (frozen self.now.events) }
+    {
+        self.parts.suspended.is_frozen(cpu)
     }
 
     /// The registration in flight, if one is: its operation, and its state. Takes no memory.
@@ -212,6 +265,17 @@ impl Ledger {
         ensures { IsDue self.now.head self.now.events seat result }
     {
         due_from(self.parts.under_way(&self.journal, table), seat)
+    }
+
+    /// The seat that an entry is due from, if one is: there is at most one at any time.
+    ///
+    /// The table is the journal's. Takes no memory, and looks at no event. After `cpuhp_invoke_callback`
+    /// and `cpuhp_invoke_ap_callback` of `kernel/cpu.c`.
+    pub fn due_seat<H: Hook>(&self, table: &Table<H>) -> Option<u32>
+        requires { IsTableOf self.now.head self.now.events table.now }
+        ensures { (k : ℕ) → IsSome (due_entry self.now.head self.now.events k) ↔ (result ≡ Some k) }
+    {
+        seat_from(self.parts.under_way(&self.journal, table))
     }
 
     /// Whether a seat can leave: it is in, reads nothing, has nothing in flight, and no entry is due from

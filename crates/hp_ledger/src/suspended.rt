@@ -1,6 +1,6 @@
 //! What a suspend leaves.
 
-ghost use Rattle.std.specs.Prelude.{◌≡◌, ◌<◌, ◌+◌, IfOk, false, length, replicate};
+ghost use Rattle.std.specs.Prelude.{◌≡◌, ◌<◌, ◌+◌, IfOk, false, get_or, length, replicate};
 ghost use Rattle.hp_states.specs.declared.limits.TheConstants.{MAX_EVENTS};
 ghost use Rattle.hp_ledger.specs.Suspended.{entered, walked, ended, woken};
 
@@ -53,6 +53,14 @@ impl Suspended {
         ensures { result.now ≡ self.now.frozen }
     {
         self.frozen.as_slice()
+    }
+
+    /// Whether a processor is frozen, which is one of the machine's. Takes no memory.
+    pub fn is_frozen(&self, cpu: u32) -> bool
+        requires { cpu < length self.now.frozen }
+        ensures { result ≡ get_or self.now.frozen cpu false }
+    {
+        self.frozen[cpu as usize]
     }
 
     /// Whether a wakeup is pending. Takes no memory.

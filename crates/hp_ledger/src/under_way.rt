@@ -1,6 +1,6 @@
 //! What is under way.
 
-ghost use Rattle.std.specs.Prelude.{◌≡◌, Some, List};
+ghost use Rattle.std.specs.Prelude.{◌≡◌, ◌↔◌, Some, List};
 ghost use Rattle.hp_event.specs.declared.event.Event.{Event as AnEvent};
 ghost use Rattle.hp_event.specs.declared.head.Head.{Head as AHead};
 ghost use Rattle.hp_event.specs.declared.op.Op.{Op as AnOp};
@@ -8,7 +8,7 @@ ghost use Rattle.hp_model.specs.Lawful.{IsLawful};
 ghost use Rattle.hp_model.specs.Pending.{IsInFlight};
 ghost use Rattle.hp_ledger.specs.Account.{IsAccount};
 ghost use Rattle.hp_ledger.specs.Table.{IsTableOf};
-ghost use Rattle.hp_ledger.specs.UnderWay.{IsUnderWay, due_by};
+ghost use Rattle.hp_ledger.specs.UnderWay.{IsUnderWay, due_by, due_seat_by};
 
 use crate::coming::Coming;
 use crate::entry::Entry;
@@ -49,7 +49,7 @@ impl Parts {
     /// There is no condition; a number that is no seat has none. Takes no memory.
     pub(crate) fn op(&self, seat: u32) -> Option<Op>
         ensures { (head : AHead) (events : List AnEvent) (op : AnOp) → IsLawful head events → IsAccount head events self.now →
-            IsInFlight events (record { seat = seat; op = op }) → result ≡ Some op }
+            IsInFlight events (record { seat = seat; op = op }) ↔ (result ≡ Some op) }
     {
         match (&self.operation, &self.registration) {
             (Some(held), _) if held.seat == seat => Some(held.op),
@@ -70,6 +70,21 @@ pub(crate) fn due_from(coming: Option<Coming>, seat: u32) -> Option<Entry>
                 ..
             },
         ) if entry.seat == seat => Some(entry),
+        _ => None,
+    }
+}
+
+/// The seat whose entry is under way, if one is.
+pub(crate) fn seat_from(coming: Option<Coming>) -> Option<u32>
+    ensures { result ≡ due_seat_by coming }
+{
+    match coming {
+        Some(
+            Coming::Entry {
+                entry: Some(entry),
+                ..
+            },
+        ) => Some(entry.seat),
         _ => None,
     }
 }

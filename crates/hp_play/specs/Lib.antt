@@ -1,13 +1,5 @@
-pub mod Form
+pub mod Outputs
+pub mod Played
 pub mod Refusals
-pub mod Reading
-pub mod Parsed
-pub mod Machine
-pub mod Tied
-pub mod Plays
-pub mod Parts
-pub mod Commands
 pub mod Main
 pub mod Stops
-pub mod Racked
-pub mod Played

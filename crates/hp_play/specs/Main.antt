@@ -1,45 +1,114 @@
 -- What the program answers: a status, and what it writes. This project's own.
-use Rattle.std.specs.Prelude.{◌≡◌, ℕ, ◌+◌, ◌<◌, ◌⊎◌, Option, IfSome, List, [], ◌∷◌, ◌++◌, take, length, codes}
+use Rattle.std.specs.Prelude.{◌≡◌, ℕ, ◌+◌, ◌<◌, ◌⊎◌, Option, List, [], ◌∷◌, ◌++◌, take, length, codes}
 use Rattle.std.specs.Io.KnownBytes.{prepend_known, append_known, IsAtEnd}
-use Rattle.hp_states.specs.declared.limits.TheConstants.{MAX_SCRIPT_BYTES, ONLINE}
+use Rattle.hp_states.specs.declared.limits.TheConstants.{MAX_SCRIPT_BYTES, MAX_JOURNAL_BYTES}
 use Rattle.hp_event.specs.declared.event.Event.{Event}
 use Rattle.hp_event.specs.declared.head.Head.{Head}
-use Rattle.hp_event.specs.declared.op.Op.{Op}
-use Rattle.hp_play.specs.declared.command.Command.{Command}
-use Rattle.hp_play.specs.Commands.{IsCommand, output}
-use Rattle.hp_script.specs.declared.error.ScriptKind.TheVariants.{NotBuilt}
-use Rattle.hp_play.specs.Refusals.{refusal_line}
-use Rattle.hp_play.specs.Played.{IsJournalOf}
-use Rattle.hp_play.specs.Racked.{EndsWith, calls_below}
-use Rattle.hp_play.specs.Form.{Lines, IsScript, head_of}
+use Rattle.hp_command.specs.declared.command.Command.{Command}
+use Rattle.hp_command.specs.declared.command.Command.TheVariants as asks
+use Rattle.hp_command.specs.Commands.{IsCommand}
+use Rattle.hp_hook.specs.Counted.{Kept as Counts}
+use Rattle.hp_model.specs.Summary.{summary}
+use Rattle.hp_replay.specs.declared.error.ReplayError.TheVariants.{Bad as BadJournal}
+use Rattle.hp_replay.specs.declared.error.ReplayKind.{ReplayKind}
+use Rattle.hp_replay.specs.Judged.{accepted, refused}
+use Rattle.hp_replay.specs.Verdict.{IsReplay}
+use Rattle.hp_script.specs.declared.error.ParseError.TheVariants.{Bad as BadScript}
+use Rattle.hp_script.specs.declared.error.ScriptKind.{ScriptKind}
+use Rattle.hp_script.specs.Generated.{generated}
+use Rattle.hp_script.specs.Judged.{IsRefused}
+use Rattle.hp_play.specs.declared.output.Output.{Output}
+use Rattle.hp_play.specs.declared.output.Output.TheVariants as writes
+use Rattle.hp_play.specs.Played.{IsPlayed, counted_hooks}
+use Rattle.hp_play.specs.Refusals.{script_error_line, journal_error_line}
 
 abbrev pub usage_line : List ℕ
 usage_line = codes "usage: hp play|replay|states|report|gen|bench [--seed N] [--size N]" ++ 10 ∷ []
 
--- What is written of a head and the operations of its actor, and how often the rack's hooks were called then: there is one
--- journal of them, of which the command's output is written. The rack has as many hooks as before, and the last of them, one
--- for each registered state, were called as often as the journal says of these states, in rising number.
-pub record WasPlayed (command : Command) (head : Head) (ops : List Op) (hooks : ℕ) (made written : List ℕ) : Type 0 where
-  pub events : List Event
-  pub journal : IsJournalOf head ops events
-  pub no_hook_lost : length made ≡ hooks
-  pub rack : EndsWith made (calls_below head events (ONLINE + 1))
-  pub written_is : written ≡ output command head events
-
--- the script that the bytes are was played
-pub record IsPlayed (command : Command) (hooks : ℕ) (made : List ℕ) (script written : List ℕ) : Type 0 where
-  pub lines : Lines
-  pub of_form : IsScript hooks script lines
-  pub played : WasPlayed command (head_of lines) lines.ops hooks made written
-
 -- the bytes were read: all that there were, or one past the limit
-pub record WasRead (left now : Option (List ℕ)) (script : List ℕ) : Type 0 where
-  pub first : left ≡ prepend_known script now
-  pub whole : IsAtEnd now ⊎ (length script ≡ MAX_SCRIPT_BYTES + 1)
+pub record WasRead (limit : ℕ) (left now : Option (List ℕ)) (bytes : List ℕ) : Type 0 where
+  pub first : left ≡ prepend_known bytes now
+  pub whole : IsAtEnd now ⊎ (length bytes ≡ limit + 1)
 
--- the bytes that the source tells are no script of the form
-abbrev pub IsNoScript : (hooks : ℕ) (told : Option (List ℕ)) → Type 0
-IsNoScript hooks told = IfSome told (λ bytes. (l : Lines) → IsScript hooks bytes l → ⊥)
+-- ---- what is done
+
+-- the script that the source holds was played
+pub record IsScriptPlayed (of : Output) (hooks : ℕ) (rack : List Counts) (left now : Option (List ℕ)) (written : List ℕ) : Type 0
+  where
+    pub bytes : List ℕ
+    pub read : WasRead MAX_SCRIPT_BYTES left now bytes
+    pub played : IsPlayed of hooks rack bytes written
+
+-- the source holds the text of a lawful journal, with or without its summary, which is written
+pub record IsReplayed (left now : Option (List ℕ)) (written : List ℕ) : Type 0 where
+  pub bytes : List ℕ
+  pub read : WasRead MAX_JOURNAL_BYTES left now bytes
+  pub head : Head
+  pub events : List Event
+  pub is_text : IsReplay bytes (accepted head events)
+  pub written_is : written ≡ summary head events
+
+-- nothing was read, and a script was generated and played
+pub record IsBenchPlayed (seed size hooks : ℕ) (rack : List Counts) (left now : Option (List ℕ)) (written : List ℕ) : Type 0 where
+  pub unread : now ≡ left
+  pub played : IsPlayed writes.Summary hooks rack (generated seed size) written
+
+abbrev pub IsDoneBy : Command → (hooks : ℕ) (rack : List Counts) (left now : Option (List ℕ)) (written : List ℕ) → Type 0
+IsDoneBy asks.Play hooks rack left now written = IsScriptPlayed writes.Journal hooks rack left now written
+IsDoneBy asks.States hooks rack left now written = IsScriptPlayed writes.States hooks rack left now written
+IsDoneBy asks.Replay hooks rack left now written = IsReplayed left now written
+IsDoneBy (asks.Gen options) hooks rack left now written = (now ≡ left) × (written ≡ generated options.seed options.size)
+IsDoneBy (asks.Bench options) hooks rack left now written =
+    IsBenchPlayed options.seed options.size hooks rack left now written
+
+-- ---- what is refused
+
+-- the source holds no script: this line is the first that is refused, for this cause
+pub record IsBadScript (hooks : ℕ) (left now : Option (List ℕ)) (written : List ℕ) : Type 0 where
+  pub bytes : List ℕ
+  pub read : WasRead MAX_SCRIPT_BYTES left now bytes
+  pub line : ℕ
+  pub kind : ScriptKind
+  pub refused : IsRefused (counted_hooks hooks) bytes line kind
+  pub written_is : written ≡ script_error_line (BadScript line kind)
+
+-- the rack has too few hooks for the setups of a generated script
+pub record IsBadBench (seed size hooks : ℕ) (left now : Option (List ℕ)) (written : List ℕ) : Type 0 where
+  pub unread : now ≡ left
+  pub line : ℕ
+  pub kind : ScriptKind
+  pub refused : IsRefused (counted_hooks hooks) (generated seed size) line kind
+  pub few_hooks : hooks < 12
+  pub written_is : written ≡ script_error_line (BadScript line kind)
+
+abbrev pub IsRefusedBy : Command → (hooks : ℕ) (left now : Option (List ℕ)) (written : List ℕ) → Type 0
+IsRefusedBy asks.Play hooks left now written = IsBadScript hooks left now written
+IsRefusedBy asks.States hooks left now written = IsBadScript hooks left now written
+IsRefusedBy (asks.Bench options) hooks left now written = IsBadBench options.seed options.size hooks left now written
+IsRefusedBy _ hooks left now written = ⊥
+
+-- the source holds no journal: this line is the first that can't stand, for this cause
+pub record IsBadJournal (left now : Option (List ℕ)) (written : List ℕ) : Type 0 where
+  pub bytes : List ℕ
+  pub read : WasRead MAX_JOURNAL_BYTES left now bytes
+  pub line : ℕ
+  pub kind : ReplayKind
+  pub refused_is : IsReplay bytes (refused line kind)
+  pub written_is : written ≡ journal_error_line (BadJournal line kind)
+
+-- ---- what is answered
+
+pub data Answer : Type 0 where
+  done : Answer
+  usage : Answer
+  refusal : Answer
+  bad_journal : Answer
+
+-- what the words ask for, and what is so of what comes of it
+pub record Asked (words : List (List ℕ)) (Is : Command → Type 0) : Type 0 where
+  pub command : Command
+  pub asked : IsCommand words command
+  pub is : Is command
 
 -- The usage line answers any other words, and then nothing is read.
 pub record IsUsage (words : List (List ℕ)) (left now : Option (List ℕ)) (bytes : List ℕ) : Type 0 where
@@ -47,47 +116,27 @@ pub record IsUsage (words : List (List ℕ)) (left now : Option (List ℕ)) (byt
   pub unread : now ≡ left
   pub line : bytes ≡ usage_line
 
--- A refusal answers input that isn't of the form.
-pub record IsRefusal (words : List (List ℕ)) (hooks : ℕ) (left now : Option (List ℕ)) (bytes : List ℕ) : Type 0 where
-  pub command : Command
-  pub asked : IsCommand words command
-  pub script : List ℕ
-  pub read : WasRead left now script
-  pub no_form : IsNoScript hooks left
-  pub line : bytes ≡ refusal_line 0 NotBuilt
-
--- What the command writes of the script's journal answers a script.
-pub record IsDone (words : List (List ℕ)) (hooks : ℕ) (made : List ℕ) (left now : Option (List ℕ)) (bytes : List ℕ) : Type 0 where
-  pub command : Command
-  pub asked : IsCommand words command
-  pub script : List ℕ
-  pub read : WasRead left now script
-  pub played : IsPlayed command hooks made script bytes
-
-pub data Answer : Type 0 where
-  done : Answer
-  usage : Answer
-  refusal : Answer
-
 -- what is to be written, where no write fails
-abbrev pub IsAnswer : Answer → (words : List (List ℕ)) (hooks : ℕ) (made : List ℕ) (left now : Option (List ℕ)) (bytes : List ℕ) → Type 0
-IsAnswer done words hooks made left now bytes = IsDone words hooks made left now bytes
-IsAnswer usage words hooks made left now bytes = IsUsage words left now bytes
-IsAnswer refusal words hooks made left now bytes = IsRefusal words hooks left now bytes
+abbrev pub IsAnswer : Answer → (words : List (List ℕ)) (hooks : ℕ) (rack : List Counts) (left now : Option (List ℕ)) (bytes : List ℕ) → Type 0
+IsAnswer done words hooks rack left now bytes = Asked words (λ command. IsDoneBy command hooks rack left now bytes)
+IsAnswer usage words hooks rack left now bytes = IsUsage words left now bytes
+IsAnswer refusal words hooks rack left now bytes = Asked words (λ command. IsRefusedBy command hooks left now bytes)
+IsAnswer bad_journal words hooks rack left now bytes =
+    Asked words (λ command. (command ≡ asks.Replay) × IsBadJournal left now bytes)
 
 -- the answer is what the sink took
 pub record Writes
-    (answer : Answer) (words : List (List ℕ)) (hooks : ℕ) (made : List ℕ) (left now taken taken_now : Option (List ℕ)) : Type 0
+    (answer : Answer) (words : List (List ℕ)) (hooks : ℕ) (rack : List Counts) (left now taken taken_now : Option (List ℕ)) : Type 0
   where
     pub bytes : List ℕ
-    pub is_answer : IsAnswer answer words hooks made left now bytes
+    pub is_answer : IsAnswer answer words hooks rack left now bytes
     pub all : taken_now ≡ append_known taken bytes
 
 -- the first bytes of some answer are what the sink took, and not all of them
-pub record WritesPart (words : List (List ℕ)) (hooks : ℕ) (made : List ℕ) (left now taken taken_now : Option (List ℕ)) : Type 0 where
+pub record WritesPart (words : List (List ℕ)) (hooks : ℕ) (rack : List Counts) (left now taken taken_now : Option (List ℕ)) : Type 0 where
   pub answer : Answer
   pub bytes : List ℕ
-  pub is_answer : IsAnswer answer words hooks made left now bytes
+  pub is_answer : IsAnswer answer words hooks rack left now bytes
   pub count : ℕ
   pub not_all : count < length bytes
   pub part : taken_now ≡ append_known taken (take count bytes)

@@ -1,18 +1,51 @@
--- What is so of the journal of a whole script. This project's own.
-use Rattle.std.specs.Prelude.{◌≡◌, ℕ, List, [], ◌∷◌, ◌++◌}
-use Rattle.hp_event.specs.declared.op.Op.{Op}
+-- What is so of the journal of a script that was played, and of the rack after it. This project's own.
+use Rattle.std.specs.Prelude.{◌≡◌, ℕ, min, None, List, ◌++◌, length}
 use Rattle.hp_event.specs.declared.event.Event.{Event}
-use Rattle.hp_event.specs.declared.head.Head.{Head}
-use Rattle.hp_model.specs.Run.{IsRun}
+use Rattle.hp_board.specs.Retired.{registered_hooks}
+use Rattle.hp_hook.specs.Counted.{Kept as Counts}
 use Rattle.hp_model.specs.Lawful.{IsLawful}
 use Rattle.hp_model.specs.Headline.{Headline}
+use Rattle.hp_model.specs.MapLock.{operation}
 use Rattle.hp_model.specs.Net.{keys_in_force}
 use Rattle.hp_model.specs.Keys.{AreKeysAtRest}
+use Rattle.hp_model.specs.Registrations.{registration}
+use Rattle.hp_model.specs.Schedule.{IsRunBy}
+use Rattle.hp_script.specs.Judged.{IsRead}
+use Rattle.hp_script.specs.Schedules.{schedule_written}
+use Rattle.hp_script.specs.Script.{Contents}
+use Rattle.hp_play.specs.declared.output.Output.{Output}
+use Rattle.hp_play.specs.Outputs.{output}
 
--- It is the run of the script's actor, by rounds; each event stands after those before it; every front of it has the
--- headline; and the keys that its summary shows of a processor are those registered at or below its state.
-pub record IsJournalOf (head : Head) (ops : List Op) (events : List Event) : Type 0 where
-  pub run : IsRun head (ops ∷ []) events
-  pub lawful : IsLawful head events
-  pub headline : (front rest : List Event) → front ++ rest ≡ events → Headline head front
-  pub keys : (cpu : ℕ) → AreKeysAtRest head cpu events (keys_in_force cpu events)
+-- It is the run of the script's actors by its schedule; each event stands after those before it; every front of it has the headline;
+-- nothing is in flight at its end, and the keys that its summary shows of a processor are those registered at or below its state.
+pub record IsJournalOf (script : Contents) (events : List Event) : Type 0 where
+  pub run : IsRunBy script.head script.actors (schedule_written script.schedule) events
+  pub lawful : IsLawful script.head events
+  pub headline : (front rest : List Event) → front ++ rest ≡ events → Headline script.head front
+  pub no_operation : operation events ≡ None
+  pub no_registration : registration events ≡ None
+  pub keys : (cpu : ℕ) → AreKeysAtRest script.head cpu events (keys_in_force cpu events)
+
+-- the last of some hooks have these counts
+abbrev pub EndsWith : List Counts → (last : List Counts) → Type 0
+EndsWith all last = (front : List Counts) × (all ≡ front ++ last)
+
+-- What is written of a script, and the rack then, which had so many hooks: there is one journal of it, of which the output is written.
+-- The last of the rack's hooks are those of the registered states, in rising number, each with its plan and counts as the journal says
+-- of its state; and no hook is lost.
+pub record WasPlayed (of : Output) (script : Contents) (hooks : ℕ) (rack : List Counts) (written : List ℕ) : Type 0 where
+  pub events : List Event
+  pub journal : IsJournalOf script events
+  pub last_hooks : EndsWith rack (registered_hooks script.head events)
+  pub no_hook_lost : length rack ≡ hooks
+  pub written_is : written ≡ output of script.head events
+
+-- the hooks that a script's setups can take: those of the rack, as far as they are counted
+abbrev pub counted_hooks : (hooks : ℕ) → ℕ
+counted_hooks hooks = min hooks 4294967295
+
+-- the bytes are a script, for a rack with so many hooks, and it was played
+pub record IsPlayed (of : Output) (hooks : ℕ) (rack : List Counts) (bytes written : List ℕ) : Type 0 where
+  pub script : Contents
+  pub read : IsRead (counted_hooks hooks) bytes script
+  pub played : WasPlayed of script hooks rack written

@@ -1,27 +1,66 @@
--- Why no journal is written, and what is so then. This project's own.
-use Rattle.std.specs.Prelude.{◌≡◌, ℕ, ◌+◌, Option, List}
-use Rattle.hp_script.specs.declared.error.ScriptKind.TheVariants.{NotBuilt}
-use Rattle.hp_play.specs.declared.top.Stop.{Stop}
-use Rattle.hp_play.specs.declared.top.Stop.TheVariants.{Refused, ReadFault, NoMemory}
-use Rattle.hp_play.specs.Refusals.{refusal_line}
-use Rattle.hp_play.specs.Form.{Lines, IsScript}
-use Rattle.hp_play.specs.Main.{WasRead, IsNoScript}
+-- Why no output is written, and what is so then. This project's own.
+use Rattle.std.specs.Prelude.{◌≡◌, ℕ, ◌+◌, ◌^◌, ◌<◌, ◌≤◌, Option, List}
+use Rattle.hp_script.specs.declared.limits.TheConstants.{MAX_GENERATED_SIZE}
+use Rattle.hp_command.specs.declared.command.Command.{Command}
+use Rattle.hp_command.specs.declared.command.Command.TheVariants as asks
+use Rattle.hp_script.specs.declared.error.ParseError.TheVariants.{Bad}
+use Rattle.hp_script.specs.declared.error.ScriptKind.{ScriptKind}
+use Rattle.hp_script.specs.Judged.{IsRefused}
+use Rattle.hp_play.specs.declared.stop.Stop.{Stop}
+use Rattle.hp_play.specs.declared.stop.Stop.TheVariants.{BadScript, BadJournal, ReadFault, NoMemory}
+use Rattle.hp_play.specs.Main.{IsBadScript, IsBadJournal, IsRefusedBy}
+use Rattle.hp_play.specs.Played.{counted_hooks}
+use Rattle.hp_play.specs.Refusals.{script_error_line}
 
-pub record IsRefused (hooks : ℕ) (left now : Option (List ℕ)) (line : List ℕ) : Type 0 where
-  pub script : List ℕ
-  pub read : WasRead left now script
-  pub no_form : IsNoScript hooks left
-  pub line_is : line ≡ refusal_line 0 NotBuilt
+-- the options of a command are in their ranges
+abbrev pub AreInRange : (seed size : ℕ) → Type 0
+AreInRange seed size = (seed < 2 ^ 64) × (1 ≤ size) × (size ≤ MAX_GENERATED_SIZE)
 
--- a refusal has its cause in the bytes, a fault in the count of the source
-abbrev pub Stops : (hooks : ℕ) (left now : Option (List ℕ)) (faults faults_now : ℕ) → Stop → Type 0
-Stops hooks left now faults faults_now (Refused line) = IsRefused hooks left now line.items × (faults_now ≡ faults)
-Stops hooks left now faults faults_now ReadFault = faults_now ≡ faults + 1
-Stops hooks left now faults faults_now NoMemory = faults_now ≡ faults
+abbrev pub HasRanges : Command → Type 0
+HasRanges (asks.Gen options) = AreInRange options.seed options.size
+HasRanges (asks.Bench options) = AreInRange options.seed options.size
+HasRanges _ = Unit {0}
 
--- what bytes that are no journal's script are answered
+-- a command that reads
+abbrev pub Reads : Command → Type 0
+Reads asks.Play = Unit {0}
+Reads asks.States = Unit {0}
+Reads asks.Replay = Unit {0}
+Reads _ = ⊥
+
+-- a refusal has its cause in what was read or in the rack, a fault in the count of the source
+abbrev pub Stops : Command → (hooks : ℕ) (left now : Option (List ℕ)) (faults faults_now : ℕ) → Stop → Type 0
+Stops command hooks left now faults faults_now (BadScript line) =
+    IsRefusedBy command hooks left now line.items × (faults_now ≡ faults)
+Stops command hooks left now faults faults_now (BadJournal line) =
+    (command ≡ asks.Replay) × IsBadJournal left now line.items × (faults_now ≡ faults)
+Stops command hooks left now faults faults_now ReadFault = Reads command × (faults_now ≡ faults + 1)
+Stops command hooks left now faults faults_now NoMemory = faults_now ≡ faults
+
+-- the same of a script that is read from a source
+abbrev pub StopsScript : (hooks : ℕ) (left now : Option (List ℕ)) (faults faults_now : ℕ) → Stop → Type 0
+StopsScript hooks left now faults faults_now (BadScript line) = IsBadScript hooks left now line.items × (faults_now ≡ faults)
+StopsScript hooks left now faults faults_now (BadJournal line) = ⊥
+StopsScript hooks left now faults faults_now ReadFault = faults_now ≡ faults + 1
+StopsScript hooks left now faults faults_now NoMemory = faults_now ≡ faults
+
+-- the same of a journal that is read
+abbrev pub StopsJournal : (left now : Option (List ℕ)) (faults faults_now : ℕ) → Stop → Type 0
+StopsJournal left now faults faults_now (BadScript line) = ⊥
+StopsJournal left now faults faults_now (BadJournal line) = IsBadJournal left now line.items × (faults_now ≡ faults)
+StopsJournal left now faults faults_now ReadFault = faults_now ≡ faults + 1
+StopsJournal left now faults faults_now NoMemory = faults_now ≡ faults
+
+-- the bytes of a script are refused
+pub record IsBad (hooks : ℕ) (bytes written : List ℕ) : Type 0 where
+  pub line : ℕ
+  pub kind : ScriptKind
+  pub refused : IsRefused (counted_hooks hooks) bytes line kind
+  pub written_is : written ≡ script_error_line (Bad line kind)
+
+-- the same of the bytes of a script
 abbrev pub Refuses : (hooks : ℕ) (bytes : List ℕ) → Stop → Type 0
-Refuses hooks bytes (Refused line) =
-    ((l : Lines) → IsScript hooks bytes l → ⊥) × (line.items ≡ refusal_line 0 NotBuilt)
+Refuses hooks bytes (BadScript line) = IsBad hooks bytes line.items
+Refuses hooks bytes (BadJournal line) = ⊥
 Refuses hooks bytes ReadFault = ⊥
 Refuses hooks bytes NoMemory = Unit {0}

@@ -1,19 +1,29 @@
-//! The line that says why a script is refused.
+//! The line that says why an input is refused.
 
 ghost use Rattle.std.specs.Prelude.{◌≡◌, IfOk};
-ghost use Rattle.hp_play.specs.Refusals.{refusal_line};
+ghost use Rattle.hp_play.specs.Refusals.{script_error_line, journal_error_line};
 
-use hp_script::ScriptKind;
+use hp_replay::ReplayError;
+use hp_script::ParseError;
 use hp_states::NoMemory;
 use std::alloc::Global;
 
-/// The line that says of a script why it is refused, as bytes with a newline at the end:
-/// `error: line 3: bad word`.
+/// The line that says why a script is refused: `error: line 3: bad word`.
 ///
 /// Takes memory for the line; where there is none: `NoMemory`.
-pub fn refusal_line(alloc: Global, line: u32, kind: ScriptKind) -> Result<Vec<u8>, NoMemory>
-    ensures { IfOk result (λ bytes. bytes.items ≡ refusal_line line kind) }
+pub fn script_error_line(alloc: Global, error: ParseError) -> Result<Vec<u8>, NoMemory>
+    ensures { IfOk result (λ line. line.items ≡ script_error_line error) }
 {
-    let text = format!(in alloc; "error: line {line}: {kind}\n")?;
+    let text = format!(in alloc; "error: {error}\n")?;
+    Ok(text.into_bytes())
+}
+
+/// The line that says why a journal is refused: `error: line 27: unlawful`.
+///
+/// Takes memory for the line; where there is none: `NoMemory`.
+pub fn journal_error_line(alloc: Global, error: ReplayError) -> Result<Vec<u8>, NoMemory>
+    ensures { IfOk result (λ line. line.items ≡ journal_error_line error) }
+{
+    let text = format!(in alloc; "error: {error}\n")?;
     Ok(text.into_bytes())
 }

@@ -12,7 +12,25 @@ use std::sync::Arc;
 use std::sync::atomic::{AtomicU64, Ordering};
 use std::test::*;
 
-pub(crate) const TWO_STARTUPS: &[u8] = b"\
+mod files;
+mod full;
+mod generated;
+mod refused;
+mod registrations;
+mod replays;
+mod schedules;
+mod suspending;
+mod walks;
+
+/// The words, what is read, and what is to come of it.
+pub(crate) struct Row {
+    words: &'static [&'static str],
+    input: &'static [u8],
+    status: u8,
+    output: &'static [u8],
+}
+
+const SCRIPT: &[u8] = b"\
     cpus 2\n\
     sub net:a both single\n\
     sub net:b both single\n\
@@ -21,7 +39,7 @@ pub(crate) const TWO_STARTUPS: &[u8] = b"\
     setup 150 2\n\
     up 1\n";
 
-pub(crate) const TWO_STARTUPS_PLAYED: &[u8] = b"\
+const PLAYED: &[u8] = b"\
     cpuhp journal 1\n\
     cpus 2\n\
     absent -\n\
@@ -52,43 +70,6 @@ pub(crate) const TWO_STARTUPS_PLAYED: &[u8] = b"\
     sub 150 net:b made 2 faults 0 instances -\n\
     ops ok 3 refused 0 fault 0 stuck 0 full 0\n\
     events 15\n";
-
-/// The second setup finds its state taken, processor 7 is not possible, and processor 0 is up.
-const REFUSALS: &[u8] = b"\
-    cpus 2\n\
-    sub a both single\n\
-    sub b both single\n\
-    actor a\n\
-    setup 120 1\n\
-    setup 120 2\n\
-    up 7\n\
-    up 0\n";
-
-const REFUSALS_PLAYED: &[u8] = b"\
-    cpuhp journal 1\n\
-    cpus 2\n\
-    absent -\n\
-    sub a both single\n\
-    sub b both single\n\
-    events\n\
-    admit 0 ap 0\n\
-    admit 1 ap 1\n\
-    admit 2 client\n\
-    reg 2 120 setup 120 1\n\
-    call 0 0 120 0 up ok\n\
-    regged 2 ok 0\n\
-    refused 2 16 setup 120 2\n\
-    refused 2 22 up 7\n\
-    enter 2 up 0\n\
-    done 2 ok 0\n\
-    end 10\n\
-    cpu 0 present state 200 keys 120.0\n\
-    cpu 1 present state 0 keys -\n\
-    disabled 0\n\
-    frozen -\n\
-    sub 120 a made 1 faults 0 instances -\n\
-    ops ok 2 refused 2 fault 0 stuck 0 full 0\n\
-    events 10\n";
 
 /// A hook of the test's own: it answers as a script's hook does, and counts its calls where the test
 /// sees them too.
@@ -135,23 +116,23 @@ pub(crate) fn some_hooks(alloc: Global, count: u32) -> Result<Rack<ScriptHook>, 
 }
 
 /// A source of these bytes.
-pub(crate) fn source_of(alloc: Global, bytes: &[u8]) -> Result<MemSource, AllocError>
+fn source_of(alloc: Global, bytes: &[u8]) -> Result<MemSource, AllocError>
     ensures { IfOk result (λ source. source.faults ≡ 0) }
 {
     Ok(MemSource::new(alloc, Vec::from_slice(alloc, bytes)?))
 }
 
 /// A sink that has room for what is written here, so that it takes no more memory.
-pub(crate) fn ample_sink(alloc: Global) -> Result<MemSink, AllocError>
+fn ample_sink(alloc: Global) -> Result<MemSink, AllocError>
     ensures { IfOk result (λ sink. sink.faults ≡ 0) }
 {
     let mut sink = MemSink::new(alloc);
-    sink.bytes.reserve(4096)?;
+    sink.bytes.reserve(8192)?;
     Ok(sink)
 }
 
 /// Runs `hp_main` with these words. Where memory is wanting nothing is written, and the test ends.
-fn run<H: Hook>(
+fn run_with<H: Hook>(
     rt: &impl Abort,
     alloc: Global,
     words: &[&str],
@@ -177,115 +158,38 @@ fn run<H: Hook>(
     Ok(status)
 }
 
-/// What a command writes of a script with a rack, where nothing fails.
-pub(crate) fn written<H: Hook>(
+/// The status, and what is written, where nothing fails.
+pub(crate) fn run<H: Hook>(
     rt: &impl Abort,
     alloc: Global,
-    command: &str,
-    script: &[u8],
+    words: &[&str],
+    input: &[u8],
     rack: &mut Rack<H>,
-) -> Result<Vec<u8>, Fail> {
-    let mut source = source_of(alloc, script)?;
+) -> Result<(u8, Vec<u8>), Fail> {
+    let mut source = source_of(alloc, input)?;
     let mut sink = ample_sink(alloc)?;
-    let status = run(rt, alloc, &[command], &mut source, &mut sink, rack)?;
-    assert_eq!(rt; status, 0);
-    Ok(sink.bytes)
+    let status = run_with(rt, alloc, words, &mut source, &mut sink, rack)?;
+    Ok((status, sink.bytes))
 }
 
-/// What `play` writes.
-pub(crate) fn played<H: Hook>(
-    rt: &impl Abort,
-    alloc: Global,
-    script: &[u8],
-    rack: &mut Rack<H>,
-) -> Result<Vec<u8>, Fail> {
-    written(rt, alloc, "play", script, rack)
-}
-
-/// Plays each script, and compares what is written with the output beside it.
-pub(crate) fn assert_played(
-    rt: &impl Abort,
-    alloc: Global,
-    scripts: &[(&[u8], &[u8])],
-) -> Result<(), Fail> {
-    for (script, output) in scripts {
-        let mut rack = some_hooks(alloc, 4)?;
-        let written = played(rt, alloc, script, &mut rack)?;
-        assert_eq!(rt; written.as_slice(), *output);
-        assert_eq!(rt; rack.hooks.len(), 4);
+/// Runs each row, and compares its status and what is written.
+pub(crate) fn check(rt: &impl Abort, alloc: Global, rows: &[Row]) -> Result<(), Fail> {
+    for row in rows {
+        let mut rack = some_hooks(alloc, 12)?;
+        let (status, written) = run(rt, alloc, row.words, row.input, &mut rack)?;
+        assert_eq!(rt; status, row.status);
+        assert_eq!(rt; written.as_slice(), row.output);
     }
     Ok(())
-}
-
-/// How many calls two hooks of the test's own count while a script is played.
-pub(crate) fn count_calls(rt: &impl Abort, alloc: Global, script: &[u8]) -> Result<u64, Fail> {
-    let calls = Arc::new(alloc, AtomicU64::new(0))?;
-    let mut hooks: Vec<Box<dyn Hook + Send>> = Vec::new(alloc);
-    for _ in 0..2 {
-        let calls = Arc::try_clone(&calls)?;
-        let inner = ScriptHook::new();
-        hooks.push(Box::new(alloc, SharedHook { inner, calls })?)?;
-    }
-    let mut rack = Rack { hooks };
-    played(rt, alloc, script, &mut rack)?;
-    assert_eq!(rt; rack.hooks.len(), 2);
-    Ok(calls.load(Ordering::SeqCst))
-}
-
-/// Plays a script, read by tens of bytes, with each of its reads failing in turn: how many can fail.
-pub(crate) fn fail_reads(rt: &impl Abort, alloc: Global, script: &[u8]) -> Result<u64, Fail> {
-    let mut rack = some_hooks(alloc, 4)?;
-    let mut failed = 0;
-    for call in 1..100 {
-        let mut source = source_of(alloc, script)?;
-        source.step = 10;
-        source.fails.push(call)?;
-        let mut sink = ample_sink(alloc)?;
-        let status = run(rt, alloc, &["play"], &mut source, &mut sink, &mut rack)?;
-        if status == 0 {
-            break;
-        }
-        assert_eq!(rt; status, 3, "read {call}");
-        assert_eq!(rt; (source.faults, sink.calls), (1, 0), "read {call}");
-        failed = call;
-    }
-    Ok(failed)
-}
-
-/// Plays a script, whose output is written by hundreds of bytes, with each of its writes failing in
-/// turn: how many can fail.
-pub(crate) fn fail_writes(
-    rt: &impl Abort,
-    alloc: Global,
-    script: &[u8],
-    output: &[u8],
-) -> Result<u64, Fail> {
-    let mut rack = some_hooks(alloc, 4)?;
-    let mut failed = 0;
-    for call in 1..100 {
-        let mut source = source_of(alloc, script)?;
-        let mut sink = ample_sink(alloc)?;
-        sink.step = 100;
-        sink.fails.push(call)?;
-        let status = run(rt, alloc, &["play"], &mut source, &mut sink, &mut rack)?;
-        if status == 0 {
-            break;
-        }
-        assert_eq!(rt; status, 4, "write {call}");
-        assert!(rt; output.starts_with(&sink.bytes), "write {call}");
-        assert!(rt; sink.bytes.len() < output.len(), "write {call}");
-        assert_eq!(rt; sink.faults, 1, "write {call}");
-        failed = call;
-    }
-    Ok(failed)
 }
 
 #[test]
 fn a_script_is_played(rt: HostRuntime) -> Result<(), Fail> {
     let alloc = rt.alloc();
     let mut rack = some_hooks(alloc, 4)?;
-    let written = played(&rt, alloc, TWO_STARTUPS, &mut rack)?;
-    assert_eq!(rt; written.as_slice(), TWO_STARTUPS_PLAYED);
+    let (status, written) = run(&rt, alloc, &["play"], SCRIPT, &mut rack)?;
+    assert_eq!(rt; status, 0);
+    assert_eq!(rt; written.as_slice(), PLAYED);
     assert_eq!(rt; rack.hooks.len(), 4);
     for (hook, made) in rack.hooks.iter().zip([0, 0, 2, 2]) {
         assert_eq!(rt; hook.made(), made);
@@ -296,98 +200,84 @@ fn a_script_is_played(rt: HostRuntime) -> Result<(), Fail> {
 
 #[test]
 fn hooks_of_the_caller_are_called(rt: HostRuntime) -> Result<(), Fail> {
-    assert_eq!(rt; count_calls(&rt, rt.alloc(), TWO_STARTUPS)?, 4);
+    let alloc = rt.alloc();
+    let calls = Arc::new(alloc, AtomicU64::new(0))?;
+    let mut hooks: Vec<Box<dyn Hook + Send>> = Vec::new(alloc);
+    for _ in 0..2 {
+        let calls = Arc::try_clone(&calls)?;
+        let inner = ScriptHook::new();
+        hooks.push(Box::new(alloc, SharedHook { inner, calls })?)?;
+    }
+    let mut rack = Rack { hooks };
+    let (status, _) = run(&rt, alloc, &["play"], SCRIPT, &mut rack)?;
+    assert_eq!(rt; status, 0);
+    assert_eq!(rt; rack.hooks.len(), 2);
+    assert_eq!(rt; calls.load(Ordering::SeqCst), 4);
     Ok(())
 }
 
 #[test]
 fn each_failing_read_is_told(rt: HostRuntime) -> Result<(), Fail> {
-    let failed = fail_reads(&rt, rt.alloc(), TWO_STARTUPS)?;
+    let alloc = rt.alloc();
+    let mut rack = some_hooks(alloc, 4)?;
     // 88 bytes by tens, and the end
-    assert_eq!(rt; failed, 10);
+    for call in 1..11 {
+        let mut source = source_of(alloc, SCRIPT)?;
+        source.step = 10;
+        source.fails.push(call)?;
+        let mut sink = ample_sink(alloc)?;
+        let status = run_with(&rt, alloc, &["play"], &mut source, &mut sink, &mut rack)?;
+        assert_eq!(rt; status, 3, "read {call}");
+        assert_eq!(rt; (source.faults, sink.calls), (1, 0), "read {call}");
+    }
     Ok(())
 }
 
 #[test]
 fn each_failing_write_is_told(rt: HostRuntime) -> Result<(), Fail> {
-    let failed = fail_writes(&rt, rt.alloc(), TWO_STARTUPS, TWO_STARTUPS_PLAYED)?;
+    let alloc = rt.alloc();
+    let mut rack = some_hooks(alloc, 4)?;
     // 579 bytes by hundreds
-    assert_eq!(rt; failed, 6);
+    for call in 1..7 {
+        let mut source = source_of(alloc, SCRIPT)?;
+        let mut sink = ample_sink(alloc)?;
+        sink.step = 100;
+        sink.fails.push(call)?;
+        let status = run_with(&rt, alloc, &["play"], &mut source, &mut sink, &mut rack)?;
+        assert_eq!(rt; status, 4, "write {call}");
+        assert!(rt; PLAYED.starts_with(&sink.bytes), "write {call}");
+        assert!(rt; sink.bytes.len() < PLAYED.len(), "write {call}");
+        assert_eq!(rt; sink.faults, 1, "write {call}");
+    }
     Ok(())
 }
 
 #[test]
-fn first_bytes_stay_where_a_write_fails(rt: HostRuntime) -> Result<(), Fail> {
+fn too_few_hooks_for_a_generated_script(rt: HostRuntime) -> Result<(), Fail> {
+    let alloc = rt.alloc();
+    let mut rack = some_hooks(alloc, 11)?;
+    let (status, written) = run(&rt, alloc, &["bench"], b"", &mut rack)?;
+    assert_eq!(rt; status, 2);
+    assert_eq!(rt;
+        written.as_slice(),
+        b"error: line 31: too many\n".as_slice()
+    );
+    Ok(())
+}
+
+#[test]
+fn nothing_is_decided_past_the_limit(rt: HostRuntime) -> Result<(), Fail> {
     let alloc = rt.alloc();
     let mut rack = some_hooks(alloc, 4)?;
-    let mut source = source_of(alloc, TWO_STARTUPS)?;
+    let long = vec![in alloc; b'\n'; 1_048_700]?;
+    let mut source = source_of(alloc, &long)?;
     let mut sink = ample_sink(alloc)?;
-    sink.step = 1;
-    sink.fails.push(2)?;
-    let status = run(&rt, alloc, &["play"], &mut source, &mut sink, &mut rack)?;
-    assert_eq!(rt; status, 4);
-    assert_eq!(rt; sink.bytes.as_slice(), b"c".as_slice());
-    Ok(())
-}
-
-#[test]
-fn other_words_are_answered_by_the_usage_line(rt: HostRuntime) -> Result<(), Fail> {
-    let alloc = rt.alloc();
-    let mut rack = some_hooks(alloc, 4)?;
-    let lines: [&[&str]; 8] = [
-        &[],
-        &["fly"],
-        &["play", "play"],
-        &["--help"],
-        &["play "],
-        &["Play"],
-        &["", "play"],
-        &["play\n"],
-    ];
-    for words in lines {
-        let mut source = source_of(alloc, TWO_STARTUPS)?;
-        let mut sink = ample_sink(alloc)?;
-        let status = run(&rt, alloc, words, &mut source, &mut sink, &mut rack)?;
-        assert_eq!(rt; status, 1);
-        assert_eq!(rt;
-            sink.bytes.as_slice(),
-            b"usage: hp play|replay|states|report|gen|bench [--seed N] [--size N]\n".as_slice()
-        );
-        assert_eq!(rt; source.calls, 0);
-    }
-    Ok(())
-}
-
-#[test]
-fn operations_are_refused(rt: HostRuntime) -> Result<(), Fail> {
-    assert_played(&rt, rt.alloc(), &[(REFUSALS, REFUSALS_PLAYED)])
-}
-
-#[test]
-fn other_bytes_are_refused(rt: HostRuntime) -> Result<(), Fail> {
-    let alloc = rt.alloc();
-    let mut rack = some_hooks(alloc, 4)?;
-    let long = vec![in alloc; b'\n'; 1_048_577]?;
-    let longer = vec![in alloc; b'\n'; 1_048_700]?;
-    let scripts: [(&[u8], usize); 6] = [
-        (b"", 0),
-        (b"cpus 2\nactor a\nboot 1\n", 22),
-        (b"cpus 2\nactor a\nup 1", 19),
-        (b"cpus 65\nactor a\n", 16),
-        (&long, 1_048_577),
-        (&longer, 1_048_577),
-    ];
-    for (bytes, read) in scripts {
-        let mut source = source_of(alloc, bytes)?;
-        let mut sink = ample_sink(alloc)?;
-        let status = run(&rt, alloc, &["play"], &mut source, &mut sink, &mut rack)?;
-        assert_eq!(rt; status, 2);
-        assert_eq!(rt;
-            sink.bytes.as_slice(),
-            b"error: line 0: not built\n".as_slice()
-        );
-        assert_eq!(rt; source.at, read);
-    }
-    assert_eq!(rt; rack.hooks.len(), 4);
+    let status = run_with(&rt, alloc, &["play"], &mut source, &mut sink, &mut rack)?;
+    assert_eq!(rt; status, 2);
+    assert_eq!(rt;
+        sink.bytes.as_slice(),
+        b"error: line 0: too long\n".as_slice()
+    );
+    assert_eq!(rt; source.at, 1_048_577);
     Ok(())
 }

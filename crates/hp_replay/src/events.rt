@@ -9,12 +9,12 @@ ghost use Rattle.hp_replay.specs.Stages.{among_events, whole, asks, end_step};
 ghost use Rattle.hp_replay.specs.Judged.{Leads};
 ghost use Rattle.hp_replay.specs.Reading.{GoesOver, RefusesLine, RefusedFrom};
 
-use crate::checker::Checker;
 use crate::end::end_of_line;
 use crate::error::{ReplayError, ReplayKind};
 use crate::event::event_of_line;
 use crate::line::{Line, Lines};
 use hp_event::{Event, Head, Journal};
+use hp_law::Law;
 use hp_states::NoMemory;
 use std::alloc::Global;
 
@@ -30,28 +30,28 @@ fn make_place(journal: &mut Journal) -> Result<(), NoMemory>
 }
 
 /// Takes an event's line.
-fn take_event<C: Checker>(
-    checker: &mut C,
+fn take_event(
+    law: &mut Law,
     journal: &mut Journal,
     event: &Event,
     line: &Line<'_>,
 ) -> Result<(), ReplayError>
-    requires head { C.head_of checker.old ≡ journal.old.head }
-    requires events { C.events_of checker.old ≡ journal.old.events }
+    requires head { law.old.head ≡ journal.old.head }
+    requires events { law.old.events ≡ journal.old.events }
     requires promised { journal.old.promised ≡ 0 }
     requires lawful { IsLawful journal.old.head journal.old.events }
     ensures stands { OnOk result (Stands journal.old.head journal.old.events event.now) }
     ensures journal { OnOk result (journal.new
         ≡ record journal.old { events = journal.old.events ++ event.now ∷ [] }) }
-    ensures head { OnOk result (C.head_of checker.new ≡ journal.new.head) }
-    ensures events { OnOk result (C.events_of checker.new ≡ journal.new.events) }
+    ensures head { OnOk result (law.new.head ≡ journal.new.head) }
+    ensures events { OnOk result (law.new.events ≡ journal.new.events) }
     ensures bad { IfErr result (RefusesLine (asks journal.old.head journal.old.events event.now) line.now.number) }
 {
-    if !checker.can_stand(event) {
+    if !law.can_stand(event) {
         return Err(line.bad(ReplayKind::Unlawful));
     }
     make_place(journal)?;
-    checker.take(event)?;
+    law.take(event)?;
     journal.push(*event);
     Ok(())
 }
@@ -77,23 +77,19 @@ pub fn take_end(journal: &Journal, line: &Line<'_>) -> Result<(), ReplayError>
 }
 
 /// Takes the lines of the events, and the `end` line behind them.
-pub fn read_events<C: Checker>(
-    alloc: Global,
-    head: Head,
-    lines: &mut Lines<'_>,
-) -> Result<Journal, ReplayError>
+pub fn read_events(alloc: Global, head: Head, lines: &mut Lines<'_>) -> Result<Journal, ReplayError>
     requires { IsHead head }
     ensures ok { IfOk result (λ journal.
         GoesOver lines.old (among_events head []) lines.new (whole journal.head journal.events)) }
     ensures promised { IfOk result (λ journal. journal.promised ≡ 0) }
     ensures bad { IfErr result (RefusedFrom (among_events head []) lines.old) }
 {
-    let mut checker = C::start(alloc, &head)?;
+    let mut law = Law::start(alloc, &head)?;
     let mut journal = Journal::new(alloc, head);
     loop {
         let line = lines.expect()?;
         match event_of_line(&line) {
-            Some(event) => take_event(&mut checker, &mut journal, &event, &line)?,
+            Some(event) => take_event(&mut law, &mut journal, &event, &line)?,
             None => {
                 take_end(&journal, &line)?;
                 return Ok(journal);

@@ -1,9 +1,8 @@
 //! The reader and checker of a printed journal.
 //!
 //! `check` reads the text of a journal, with or without its summary, and answers the journal, or the
-//! first line that can't stand and why. Which event can stand next is said by a machine, that of
-//! `hp_law` or any `Checker` (`check_with`); all else is decided here. Lines are slices of the input, and nothing is copied but the
-//! head and the events.
+//! first line that can't stand and why. Which event can stand next says a `Law` of `hp_law`; all else
+//! is decided here. Lines are slices of the input, and nothing is copied but the head and the events.
 //!
 //! To read the definitions, take `specs/Numbers.antt`, `LineWords`, `Readers`, `OpAt` and `EventAt`,
 //! which read a line by the grammar, apart from how it is printed; `HeadWords`, `HeadLines` and
@@ -18,7 +17,6 @@
 #![tactic(auto)]
 
 mod answer;
-mod checker;
 mod end;
 mod error;
 mod event;
@@ -38,7 +36,6 @@ mod summary_lines;
 mod tests;
 mod words;
 
-pub use checker::Checker;
 pub use error::{ReplayError, ReplayKind};
 pub use fits::{event_fits, events_fit};
 pub use laws::{
@@ -46,4 +43,4 @@ pub use laws::{
     judged_is_verdict, line_says_one, read_event_is_spelled, standing_is_spelled, text_is_accepted,
     text_says_one,
 };
-pub use replay::{check, check_with};
+pub use replay::check;

@@ -4,14 +4,12 @@ ghost use Rattle.std.specs.Prelude.{◌≡◌, IfOk, IfErr};
 ghost use Rattle.hp_replay.specs.Judged.{accepted};
 ghost use Rattle.hp_replay.specs.Verdict.{IsReplay, IsRefusal};
 
-use crate::checker::Checker;
 use crate::error::{ReplayError, ReplayKind};
 use crate::events::read_events;
 use crate::head::read_head;
 use crate::line::Lines;
 use crate::summary_lines::read_summary;
 use hp_event::Journal;
-use hp_law::Law;
 use hp_states::MAX_JOURNAL_BYTES;
 use std::alloc::Global;
 
@@ -35,28 +33,6 @@ pub fn check(alloc: Global, bytes: &[u8]) -> Result<Journal, ReplayError>
     // They are none, and this is the first line that can't stand, or that is missing.
     ensures refused { IfErr result (IsRefusal bytes.now) }
 {
-    check_with::<Law>(alloc, bytes)
-}
-
-/// As `check`, by any machine.
-///
-/// The bytes may be any. The machine `C` says which event can stand next.
-///
-/// - `Bad` where they are no such text: with the first line that can't stand, counted from 1, and
-///   its kind (`ReplayKind`); with the line behind the last, where one is missing; or with line 0,
-///   where there are more than `MAX_JOURNAL_BYTES` bytes, of which none is looked at then.
-/// - `NoMemory` where memory was wanting.
-///
-/// Each byte is looked at a few times at most. Takes memory for the journal, for the machine, and
-/// for the summary where the input has one. Nothing is promised a place in the journal. The text of
-/// journals is this project's own.
-pub fn check_with<C: Checker>(alloc: Global, bytes: &[u8]) -> Result<Journal, ReplayError>
-    // The bytes are the text of this lawful journal, or its text and its summary.
-    ensures journal { IfOk result (λ j. IsReplay bytes.now (accepted j.head j.events)) }
-    ensures promised { IfOk result (λ j. j.promised ≡ 0) }
-    // They are none, and this is the first line that can't stand, or that is missing.
-    ensures refused { IfErr result (IsRefusal bytes.now) }
-{
     if bytes.len() > MAX_JOURNAL_BYTES as usize {
         return Err(ReplayError::Bad {
             line: 0,
@@ -65,7 +41,7 @@ pub fn check_with<C: Checker>(alloc: Global, bytes: &[u8]) -> Result<Journal, Re
     }
     let mut lines = Lines::of(bytes);
     let head = read_head(alloc, &mut lines)?;
-    let journal = read_events::<C>(alloc, head, &mut lines)?;
+    let journal = read_events(alloc, head, &mut lines)?;
     read_summary(alloc, &journal, &mut lines)?;
     Ok(journal)
 }

@@ -11,6 +11,8 @@ mod head;
 mod instances;
 mod lines;
 mod numbers;
+mod one_journal;
+mod one_journal_changed;
 mod refusals;
 mod registrations;
 mod seats;

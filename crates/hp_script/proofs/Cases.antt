@@ -2,7 +2,7 @@
 use Rattle.std.proofs.Common.{◌≡◌, ℕ, ◌+◌, List, [], ◌∷◌, ◌++◌, Option, Some, None, refl}
 use Rattle.std.specs.Prelude.{codes}
 use Rattle.hp_script.specs.declared.error.ScriptKind.{ScriptKind}
-use Rattle.hp_script.specs.declared.error.ScriptKind.TheVariants.{BadByte, NoCpus, BadWord, NotBuilt, BadOrder, StillLocked, BadForm, BadNumber, NoSub, TooMany, NoActor}
+use Rattle.hp_script.specs.declared.error.ScriptKind.TheVariants.{BadByte, NoCpus, BadWord, BadOrder, StillLocked, BadForm, BadNumber, NoSub, TooMany, NoActor}
 use Rattle.hp_script.specs.declared.before.Before.{Before}
 use Rattle.hp_script.specs.Pieces.{lines}
 use Rattle.hp_script.specs.Verbs.{verb_of}
@@ -313,50 +313,50 @@ actor_33 : verdict 2 ((codes "cpus 1" ++ 10 ∷ []) ++ (codes "actor a" ++ 10 �
 unfolding verdict verb_of none_of one_of two_of numbers_of dir_of calls_of kind_of flag_of both_flags some_flags flags_of number_of sub_of rule_of mix_of turns_of schedule_of_kind schedule_of actor_of pair_of signed_of show_of_file show_of flagged_of place_of op_of
 actor_33 = refl
 
-target_unbuilt : verdict 2 ((codes "cpus 2" ++ 10 ∷ []) ++ (codes "actor x" ++ 10 ∷ []) ++ (codes "target 1 200" ++ 10 ∷ [])) ≡ Some (3, NotBuilt)
+target_said : verdict 2 ((codes "cpus 2" ++ 10 ∷ []) ++ (codes "actor x" ++ 10 ∷ []) ++ (codes "target 1 200" ++ 10 ∷ [])) ≡ None
 unfolding verdict verb_of none_of one_of two_of numbers_of dir_of calls_of kind_of flag_of both_flags some_flags flags_of number_of sub_of rule_of mix_of turns_of schedule_of_kind schedule_of actor_of pair_of signed_of show_of_file show_of flagged_of place_of op_of
-target_unbuilt = refl
+target_said = refl
 
-fail_unbuilt : verdict 2 ((codes "cpus 2" ++ 10 ∷ []) ++ (codes "actor x" ++ 10 ∷ []) ++ (codes "fail" ++ 10 ∷ [])) ≡ Some (3, NotBuilt)
+fail_alone : verdict 2 ((codes "cpus 2" ++ 10 ∷ []) ++ (codes "actor x" ++ 10 ∷ []) ++ (codes "fail" ++ 10 ∷ [])) ≡ Some (3, BadForm)
 unfolding verdict verb_of none_of one_of two_of numbers_of dir_of calls_of kind_of flag_of both_flags some_flags flags_of number_of sub_of rule_of mix_of turns_of schedule_of_kind schedule_of actor_of pair_of signed_of show_of_file show_of flagged_of place_of op_of
-fail_unbuilt = refl
+fail_alone = refl
 
-show_unbuilt : verdict 2 ((codes "cpus 2" ++ 10 ∷ []) ++ (codes "actor x" ++ 10 ∷ []) ++ (codes "show states" ++ 10 ∷ [])) ≡ Some (3, NotBuilt)
+show_said : verdict 2 ((codes "cpus 2" ++ 10 ∷ []) ++ (codes "actor x" ++ 10 ∷ []) ++ (codes "show states" ++ 10 ∷ [])) ≡ None
 unfolding verdict verb_of none_of one_of two_of numbers_of dir_of calls_of kind_of flag_of both_flags some_flags flags_of number_of sub_of rule_of mix_of turns_of schedule_of_kind schedule_of actor_of pair_of signed_of show_of_file show_of flagged_of place_of op_of
-show_unbuilt = refl
+show_said = refl
 
-boot_unbuilt : verdict 2 ((codes "cpus 2" ++ 10 ∷ []) ++ (codes "actor x" ++ 10 ∷ []) ++ (codes "boot x" ++ 10 ∷ [])) ≡ Some (3, NotBuilt)
+boot_no_number : verdict 2 ((codes "cpus 2" ++ 10 ∷ []) ++ (codes "actor x" ++ 10 ∷ []) ++ (codes "boot x" ++ 10 ∷ [])) ≡ Some (3, BadForm)
 unfolding verdict verb_of none_of one_of two_of numbers_of dir_of calls_of kind_of flag_of both_flags some_flags flags_of number_of sub_of rule_of mix_of turns_of schedule_of_kind schedule_of actor_of pair_of signed_of show_of_file show_of flagged_of place_of op_of
-boot_unbuilt = refl
+boot_no_number = refl
 
-disable_unbuilt : verdict 2 ((codes "cpus 2" ++ 10 ∷ []) ++ (codes "actor x" ++ 10 ∷ []) ++ (codes "disable" ++ 10 ∷ [])) ≡ Some (3, NotBuilt)
+disable_said : verdict 2 ((codes "cpus 2" ++ 10 ∷ []) ++ (codes "actor x" ++ 10 ∷ []) ++ (codes "disable" ++ 10 ∷ [])) ≡ None
 unfolding verdict verb_of none_of one_of two_of numbers_of dir_of calls_of kind_of flag_of both_flags some_flags flags_of number_of sub_of rule_of mix_of turns_of schedule_of_kind schedule_of actor_of pair_of signed_of show_of_file show_of flagged_of place_of op_of
-disable_unbuilt = refl
+disable_said = refl
 
-enable_unbuilt : verdict 2 ((codes "cpus 2" ++ 10 ∷ []) ++ (codes "actor x" ++ 10 ∷ []) ++ (codes "enable now" ++ 10 ∷ [])) ≡ Some (3, NotBuilt)
+enable_more : verdict 2 ((codes "cpus 2" ++ 10 ∷ []) ++ (codes "actor x" ++ 10 ∷ []) ++ (codes "enable now" ++ 10 ∷ [])) ≡ Some (3, BadForm)
 unfolding verdict verb_of none_of one_of two_of numbers_of dir_of calls_of kind_of flag_of both_flags some_flags flags_of number_of sub_of rule_of mix_of turns_of schedule_of_kind schedule_of actor_of pair_of signed_of show_of_file show_of flagged_of place_of op_of
-enable_unbuilt = refl
+enable_more = refl
 
-freeze_unbuilt : verdict 2 ((codes "cpus 2" ++ 10 ∷ []) ++ (codes "actor x" ++ 10 ∷ []) ++ (codes "freeze 9999" ++ 10 ∷ [])) ≡ Some (3, NotBuilt)
+freeze_high : verdict 2 ((codes "cpus 2" ++ 10 ∷ []) ++ (codes "actor x" ++ 10 ∷ []) ++ (codes "freeze 9999" ++ 10 ∷ [])) ≡ Some (3, BadNumber)
 unfolding verdict verb_of none_of one_of two_of numbers_of dir_of calls_of kind_of flag_of both_flags some_flags flags_of number_of sub_of rule_of mix_of turns_of schedule_of_kind schedule_of actor_of pair_of signed_of show_of_file show_of flagged_of place_of op_of
-freeze_unbuilt = refl
+freeze_high = refl
 
-thaw_unbuilt : verdict 2 ((codes "cpus 2" ++ 10 ∷ []) ++ (codes "actor x" ++ 10 ∷ []) ++ (codes "thaw" ++ 10 ∷ [])) ≡ Some (3, NotBuilt)
+thaw_said : verdict 2 ((codes "cpus 2" ++ 10 ∷ []) ++ (codes "actor x" ++ 10 ∷ []) ++ (codes "thaw" ++ 10 ∷ [])) ≡ None
 unfolding verdict verb_of none_of one_of two_of numbers_of dir_of calls_of kind_of flag_of both_flags some_flags flags_of number_of sub_of rule_of mix_of turns_of schedule_of_kind schedule_of actor_of pair_of signed_of show_of_file show_of flagged_of place_of op_of
-thaw_unbuilt = refl
+thaw_said = refl
 
-wakeup_unbuilt : verdict 2 ((codes "cpus 2" ++ 10 ∷ []) ++ (codes "actor x" ++ 10 ∷ []) ++ (codes "wakeup" ++ 10 ∷ [])) ≡ Some (3, NotBuilt)
+wakeup_said : verdict 2 ((codes "cpus 2" ++ 10 ∷ []) ++ (codes "actor x" ++ 10 ∷ []) ++ (codes "wakeup" ++ 10 ∷ [])) ≡ None
 unfolding verdict verb_of none_of one_of two_of numbers_of dir_of calls_of kind_of flag_of both_flags some_flags flags_of number_of sub_of rule_of mix_of turns_of schedule_of_kind schedule_of actor_of pair_of signed_of show_of_file show_of flagged_of place_of op_of
-wakeup_unbuilt = refl
+wakeup_said = refl
 
-unbuilt_before_order : verdict 2 ((codes "cpus 1" ++ 10 ∷ []) ++ (codes "sub a both single" ++ 10 ∷ []) ++ (codes "thaw" ++ 10 ∷ [])) ≡ Some (3, NotBuilt)
+thaw_before_actor : verdict 2 ((codes "cpus 1" ++ 10 ∷ []) ++ (codes "sub a both single" ++ 10 ∷ []) ++ (codes "thaw" ++ 10 ∷ [])) ≡ Some (3, BadOrder)
 unfolding verdict verb_of none_of one_of two_of numbers_of dir_of calls_of kind_of flag_of both_flags some_flags flags_of number_of sub_of rule_of mix_of turns_of schedule_of_kind schedule_of actor_of pair_of signed_of show_of_file show_of flagged_of place_of op_of
-unbuilt_before_order = refl
+thaw_before_actor = refl
 
-cpus_before_unbuilt : verdict 2 ((codes "thaw" ++ 10 ∷ [])) ≡ Some (1, NoCpus)
+thaw_before_cpus : verdict 2 ((codes "thaw" ++ 10 ∷ [])) ≡ Some (1, NoCpus)
 unfolding verdict verb_of none_of one_of two_of numbers_of dir_of calls_of kind_of flag_of both_flags some_flags flags_of number_of sub_of rule_of mix_of turns_of schedule_of_kind schedule_of actor_of pair_of signed_of show_of_file show_of flagged_of place_of op_of
-cpus_before_unbuilt = refl
+thaw_before_cpus = refl
 
-byte_before_unbuilt : verdict 2 ((codes "cpus 1" ++ 10 ∷ []) ++ (codes "boot 1" ++ 9 ∷ [])) ≡ Some (2, BadByte)
+boot_bad_byte : verdict 2 ((codes "cpus 1" ++ 10 ∷ []) ++ (codes "boot 1" ++ 9 ∷ [])) ≡ Some (2, BadByte)
 unfolding verdict verb_of none_of one_of two_of numbers_of dir_of calls_of kind_of flag_of both_flags some_flags flags_of number_of sub_of rule_of mix_of turns_of schedule_of_kind schedule_of actor_of pair_of signed_of show_of_file show_of flagged_of place_of op_of
-byte_before_unbuilt = refl
+boot_bad_byte = refl

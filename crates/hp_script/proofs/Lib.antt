@@ -1,5 +1,5 @@
 mod Cases
-mod UnbuiltCases
+mod OperationCases
 pub mod VerbWords
 pub mod PieceLoops
 pub mod Ranging
@@ -11,3 +11,13 @@ pub mod OneRefusal
 pub mod TakenLines
 pub mod SoundScripts
 pub mod PlayableScripts
+pub mod Appended
+pub mod GeneratedLoops
+pub mod DecimalWords
+pub mod CleanLines
+pub mod FineLines
+pub mod Spelled
+pub mod GeneratedSays
+pub mod GeneratedFine
+pub mod GeneratedScripts
+pub mod GeneratedShort

@@ -42,10 +42,10 @@ fits n word same small =
 
 -- ---- pieces
 
-at_end : (end byte : ℕ) (bytes : List ℕ) → byte ≡ end → pieces end (byte ∷ bytes) ≡ [] ∷ pieces end bytes
+pub at_end : (end byte : ℕ) (bytes : List ℕ) → byte ≡ end → pieces end (byte ∷ bytes) ≡ [] ∷ pieces end bytes
 at_end end byte bytes same = let t : eqb byte end ≡ true = eq-eqb byte end same in rw t refl
 
-in_piece : (end byte : ℕ) (bytes : List ℕ) → (byte ≡ end → ⊥) → pieces end (byte ∷ bytes) ≡ onto_first byte (pieces end bytes)
+pub in_piece : (end byte : ℕ) (bytes : List ℕ) → (byte ≡ end → ⊥) → pieces end (byte ∷ bytes) ≡ onto_first byte (pieces end bytes)
 in_piece end byte bytes other = let t : eqb byte end ≡ false = ne_eqb byte end other in rw t refl
 
 -- what is passed up to a place, in front of the pieces of what is left, are the pieces of all

@@ -247,7 +247,6 @@ playable hooks s b sound good =
       few_actors = omega (arith, sound.fits.actors, sound.fits.few);
       few_ops = a.few_ops;
       ops_are = λ k d within i e more. (a.ops_are k d within i e more).0;
-      ops_built = λ k d within i e more. (a.ops_are k d within i e more).2;
       schedule_is = h.schedule;
       hooks_for_all = omega (arith, a.setups, a.few_setups);
     }

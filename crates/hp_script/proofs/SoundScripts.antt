@@ -16,7 +16,6 @@ use Rattle.hp_script.specs.declared.before.Before.{Before}
 use Rattle.hp_script.specs.declared.statement.Statement.{Statement}
 use Rattle.hp_script.specs.declared.statement.Statement.TheVariants as says
 use Rattle.hp_script.specs.Numbers.{is_within}
-use Rattle.hp_script.specs.Verbs.{is_built, verb_for}
 use Rattle.hp_script.specs.Ranges.{are_rising, is_any_within, is_rule, is_schedule, is_op}
 use Rattle.hp_script.specs.Before.{after, is_setup}
 use Rattle.hp_script.specs.Refusals.{is_first, names_no_sub}
@@ -164,9 +163,9 @@ head_more hooks s b (says.Operation op) t f p = record {
 
 -- ---- the actors
 
--- its numbers are in range, it is built, and a setup's subsystem is one of so many
+-- its numbers are in range, and a setup's subsystem is one of so many
 abbrev pub IsSoundOp : (subs : ℕ) → Op → Type 0
-IsSoundOp subs op = (is_op op ≡ true) × (names_no_sub subs (says.Operation op) ≡ false) × (is_built (verb_for op) ≡ true)
+IsSoundOp subs op = (is_op op ≡ true) × (names_no_sub subs (says.Operation op) ≡ false)
 
 -- each actor but the last ends unlocked, and the last is locked or not
 abbrev pub AreLocked : (actors : List (List Op)) (last : Bool) → Type 0
@@ -192,8 +191,8 @@ abbrev IsShort : List Op → Type 0
 IsShort ops = length ops ≤ MAX_OPERATIONS
 
 one_sub_more : (subs : ℕ) (op : Op) → IsSoundOp subs op → IsSoundOp (subs + 1) op
-one_sub_more subs (op.Setup state sub form) h = (h.0, grind (arith, nat_tests, h.1), h.2)
-one_sub_more subs other h = (h.0, refl, h.2)
+one_sub_more subs (op.Setup state sub form) h = (h.0, grind (arith, nat_tests, h.1))
+one_sub_more subs other h = (h.0, refl)
 
 ops_more : (P : Op → Type 0) (op : Op) → P op → (actors : List (List Op)) → All (All P) actors → All (All P) (with_last (one_op_more op) actors)
 ops_more P op is [] are = are
@@ -280,7 +279,7 @@ actors_more hooks s b says.Actor t p = record {
 actors_more hooks s b (says.Operation op) t p =
     let room = room_of (nat_le MAX_OPERATIONS b.ops) (is_setup op) (nat_le hooks b.setups) t.room in
     record {
-      ops_are = ops_more (IsSoundOp b.subs) op (t.range, t.sub, t.built) s.actors p.ops_are;
+      ops_are = ops_more (IsSoundOp b.subs) op (t.range, t.sub) s.actors p.ops_are;
       few_ops = short_more op s.actors (omega (arith, p.last, leb-false MAX_OPERATIONS b.ops room.0)) p.few_ops;
       last = omega (arith, p.last, last_more op s.actors);
       setups = omega (arith, p.setups, setups_more op s.actors, setups_said (is_setup op) b.setups);

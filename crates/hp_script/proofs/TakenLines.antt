@@ -1,13 +1,11 @@
 -- What holds of a statement whose line isn't refused, after what stood before it.
 use Rattle.std.proofs.Common.{◌≡◌, ℕ, ◌≤◌, Bool, true, false, not, cond, ◌&&◌, List, [], ◌∷◌, length, Option, Some, None, refl, sym, ap, subst, ◌∙◌, arith}
-use Rattle.std.specs.Prelude.{option_map, codes, nat_le, bytes_eq}
+use Rattle.std.specs.Prelude.{option_map, codes, nat_le}
 use Rattle.std.specs.List.{list_all}
 use Rattle.std.proofs.lemmas.Bool.{leb-true}
 use Rattle.std.proofs.lemmas.List.Sums.{AllPass-from_list_all}
 use Rattle.hp_states.specs.declared.limits.TheConstants.{MAX_NAME_LEN}
 use Rattle.hp_states.specs.Names.{is_name_byte, IsName}
-use Rattle.hp_event.specs.declared.op.Op.{Op}
-use Rattle.hp_event.specs.declared.op.Op.TheVariants as op
 use Rattle.hp_event.specs.declared.head.Sub.{Sub}
 use Rattle.hp_script.specs.declared.error.ScriptKind.{ScriptKind}
 use Rattle.hp_script.specs.declared.error.ScriptKind.TheVariants.{BadByte}
@@ -17,10 +15,10 @@ use Rattle.hp_script.specs.declared.before.Group.{Group}
 use Rattle.hp_script.specs.declared.before.Before.{Before}
 use Rattle.hp_script.specs.declared.statement.Statement.{Statement}
 use Rattle.hp_script.specs.declared.statement.Statement.TheVariants as says
-use Rattle.hp_script.specs.Words.{is_empty, words, has_bad_byte, is_skipped, is_comment}
+use Rattle.hp_script.specs.Words.{words, has_bad_byte, is_skipped, is_comment}
 use Rattle.hp_script.specs.Numbers.{is_byte, is_name_word, name_spelled}
-use Rattle.hp_script.specs.Verbs.{verb_of, is_built, verb_for}
-use Rattle.hp_script.specs.Statements.{◌>>=◌, next, none_of, two_of, calls_of, kind_of, number_of, numbers_of, sub_of, rule_of, schedule_of, actor_of, pair_of, signed_of, show_of_file, show_of, flagged_of, place_of, op_of, statement_by, statement_in}
+use Rattle.hp_script.specs.Verbs.{verb_of}
+use Rattle.hp_script.specs.Statements.{◌>>=◌, next, two_of, calls_of, kind_of, number_of, numbers_of, sub_of, rule_of, schedule_of, actor_of, op_of, statement_by, statement_in}
 use Rattle.hp_script.specs.Ranges.{is_in_range}
 use Rattle.hp_script.specs.Before.{statement_of}
 use Rattle.hp_script.specs.Refusals.{is_first, is_cpus, is_actor, can_stand, names_no_sub, is_too_many, first_of, statement_by_first, wrongs, refusal_of_words, refusal}
@@ -33,11 +31,6 @@ abbrev pub says_actor : Statement → Bool
 says_actor says.Actor = true
 says_actor _ = false
 
--- an operation that is said is built
-abbrev pub says_built : Statement → Bool
-says_built (says.Operation op) = is_built (verb_for op)
-says_built _ = true
-
 -- a subsystem has no name or one of the form of names
 abbrev pub IsTitled : Statement → Type 0
 IsTitled (says.Sub sub) = IsName sub.name
@@ -46,7 +39,6 @@ IsTitled other = Unit {0}
 pub record Taken (hooks : ℕ) (b : Before) (s : Statement) : Type 0 where
   pub first : is_first b.group ≡ says_cpus s
   pub unlocked : (says_actor s && b.locked) ≡ false
-  pub built : says_built s ≡ true
   pub titled : IsTitled s
   pub range : is_in_range b.possible s ≡ true
   pub sub : names_no_sub b.subs s ≡ false
@@ -109,70 +101,11 @@ title words sub e =
     let is = tested (is_name_word name.0.0) _ sub multi.2 in
     subst (λ (s : Sub). IsName s.name) is.1 (spelled name.0.0 is.0)
 
--- ---- the first word of an operation's line
-
-mapped_op : {A : Type 0} (f : A → Op) (o : Option A) (x : Op) (v : Verb) → option_map f o ≡ Some x → ((a : A) → verb_for (f a) ≡ v) → verb_for x ≡ v
-mapped_op f None x v e h = absurd cc
-mapped_op f (Some a) x v e h = subst (λ (y : Op). verb_for y ≡ v) (same (f a) x e) (h a)
-  where
-    same : (x y : Op) → ◌≡◌ {A = Option Op} (Some x) (Some y) → x ≡ y
-    same x y e = cc
-
-none_op : (said x : Op) (words : List (List ℕ)) → none_of said words ≡ Some x → verb_for x ≡ verb_for said
-unfolding none_of
-none_op said x words e = by_test (is_empty words) e
-  where
-    by_test : (t : Bool) → ◌≡◌ {A = Option Op} (cond t (Some said) None) (Some x) → verb_for x ≡ verb_for said
-    by_test true e = cc
-    by_test false e = absurd cc
-
-show_verb : (words : List (List ℕ)) (x : Op) → show_of words ≡ Some x → verb_for x ≡ verb.Show
-unfolding show_of show_of_file
-show_verb words x e =
-    let file = bound (next words) _ x e in
-    by_tests (bytes_eq file.0.0 (codes "states")) (bytes_eq file.0.0 (codes "state")) (bytes_eq file.0.0 (codes "target")) (bytes_eq file.0.0 (codes "fail")) file.0.1 file.2
-  where
-    by_tests : (all state target fail : Bool) (rest : List (List ℕ))
-        → cond all (none_of op.ShowStates rest) (cond state (option_map (λ cpu. op.ShowState cpu) (number_of rest)) (cond target (option_map (λ cpu. op.ShowTarget cpu) (number_of rest)) (cond fail (option_map (λ cpu. op.ShowFail cpu) (number_of rest)) None))) ≡ Some x
-        → verb_for x ≡ verb.Show
-    by_tests true state target fail rest e = none_op op.ShowStates x rest e
-    by_tests false true target fail rest e = mapped_op (λ cpu. op.ShowState cpu) (number_of rest) x verb.Show e (λ a. refl)
-    by_tests false false true fail rest e = mapped_op (λ cpu. op.ShowTarget cpu) (number_of rest) x verb.Show e (λ a. refl)
-    by_tests false false false true rest e = mapped_op (λ cpu. op.ShowFail cpu) (number_of rest) x verb.Show e (λ a. refl)
-    by_tests false false false false rest e = absurd cc
-
-op_verb : (v : Verb) (words : List (List ℕ)) (x : Op) → op_of v words ≡ Some x → verb_for x ≡ v
-unfolding op_of
-op_verb verb.Cpus words x e = absurd cc
-op_verb verb.Absent words x e = absurd cc
-op_verb verb.Sub words x e = absurd cc
-op_verb verb.Rule words x e = absurd cc
-op_verb verb.Schedule words x e = absurd cc
-op_verb verb.Actor words x e = absurd cc
-op_verb verb.Up words x e = mapped_op (λ cpu. op.Up cpu) (number_of words) x verb.Up e (λ a. refl)
-op_verb verb.Down words x e = mapped_op (λ cpu. op.Down cpu) (number_of words) x verb.Down e (λ a. refl)
-op_verb verb.Target words x e = mapped_op (λ x. op.Target x.0 x.1) (pair_of words) x verb.Target e (λ a. refl)
-op_verb verb.Fail words x e = mapped_op (λ x. op.Arm x.0 x.1) (pair_of words) x verb.Fail e (λ a. refl)
-op_verb verb.Setup words x e = mapped_op (λ x. op.Setup x.0 x.1 x.2) (place_of words) x verb.Setup e (λ a. refl)
-op_verb verb.Remove words x e = mapped_op (λ x. op.Remove x.0 x.1) (flagged_of words) x verb.Remove e (λ a. refl)
-op_verb verb.Add words x e = mapped_op (λ x. op.Add x.0 x.1 x.2) (place_of words) x verb.Add e (λ a. refl)
-op_verb verb.Del words x e = mapped_op (λ x. op.Del x.0 x.1 x.2) (place_of words) x verb.Del e (λ a. refl)
-op_verb verb.Boot words x e = mapped_op (λ most. op.Boot most) (number_of words) x verb.Boot e (λ a. refl)
-op_verb verb.Freeze words x e = mapped_op (λ n. op.Freeze n) (signed_of words) x verb.Freeze e (λ a. refl)
-op_verb verb.Lock words x e = none_op op.Lock x words e
-op_verb verb.Unlock words x e = none_op op.Unlock x words e
-op_verb verb.Disable words x e = none_op op.Disable x words e
-op_verb verb.Enable words x e = none_op op.Enable x words e
-op_verb verb.Thaw words x e = none_op op.Thaw x words e
-op_verb verb.Wakeup words x e = none_op op.Wakeup x words e
-op_verb verb.Show words x e = show_verb words x e
-
 -- ---- a first word and what its line says
 
 record Fitting (v : Verb) (s : Statement) : Type 0 where
   cpus : is_cpus (Some v) ≡ says_cpus s
   actor : is_actor (Some v) ≡ says_actor s
-  built : is_built v ≡ says_built s
   titled : IsTitled s
 
 some_is : (s t : Statement) → ◌≡◌ {A = Option Statement} (Some s) (Some t) → s ≡ t
@@ -184,13 +117,13 @@ mapped f None s v e h = absurd cc
 mapped f (Some a) s v e h = subst (Fitting v) (some_is (f a) s e) (h a refl)
 
 fitting : (v : Verb) (words : List (List ℕ)) (s : Statement) → statement_by v words ≡ Some s → Fitting v s
-fitting verb.Cpus words s e = mapped (λ n. says.Cpus n) (number_of words) s verb.Cpus e (λ a is. record { cpus = refl; actor = refl; built = refl; titled = tt })
-fitting verb.Absent words s e = mapped (λ n. says.Absent n) (numbers_of words) s verb.Absent e (λ a is. record { cpus = refl; actor = refl; built = refl; titled = tt })
-fitting verb.Sub words s e = mapped (λ n. says.Sub n) (sub_of words) s verb.Sub e (λ a is. record { cpus = refl; actor = refl; built = refl; titled = title words a is })
-fitting verb.Rule words s e = mapped (λ n. says.Rule n) (rule_of words) s verb.Rule e (λ a is. record { cpus = refl; actor = refl; built = refl; titled = tt })
-fitting verb.Schedule words s e = mapped (λ n. says.Schedule n) (schedule_of words) s verb.Schedule e (λ a is. record { cpus = refl; actor = refl; built = refl; titled = tt })
-fitting verb.Actor words s e = mapped (λ _. says.Actor) (actor_of words) s verb.Actor e (λ a is. record { cpus = refl; actor = refl; built = refl; titled = tt })
-fitting other words s e = mapped (λ o. says.Operation o) (op_of other words) s other e (λ a is. record { cpus = refl; actor = refl; built = ap is_built (sym (op_verb other words a is)); titled = tt })
+fitting verb.Cpus words s e = mapped (λ n. says.Cpus n) (number_of words) s verb.Cpus e (λ a is. record { cpus = refl; actor = refl; titled = tt })
+fitting verb.Absent words s e = mapped (λ n. says.Absent n) (numbers_of words) s verb.Absent e (λ a is. record { cpus = refl; actor = refl; titled = tt })
+fitting verb.Sub words s e = mapped (λ n. says.Sub n) (sub_of words) s verb.Sub e (λ a is. record { cpus = refl; actor = refl; titled = title words a is })
+fitting verb.Rule words s e = mapped (λ n. says.Rule n) (rule_of words) s verb.Rule e (λ a is. record { cpus = refl; actor = refl; titled = tt })
+fitting verb.Schedule words s e = mapped (λ n. says.Schedule n) (schedule_of words) s verb.Schedule e (λ a is. record { cpus = refl; actor = refl; titled = tt })
+fitting verb.Actor words s e = mapped (λ _. says.Actor) (actor_of words) s verb.Actor e (λ a is. record { cpus = refl; actor = refl; titled = tt })
+fitting other words s e = mapped (λ o. says.Operation o) (op_of other words) s other e (λ a is. record { cpus = refl; actor = refl; titled = tt })
 
 -- ---- no condition holds
 
@@ -217,13 +150,12 @@ taken_verb hooks b (Some v) rest s fine said =
     let f = fitting v rest s said in
     let all = none_holds (wrongs hooks b (Some v) (Some s)) (sym (ap (λ (o : Option Statement). first_of (wrongs hooks b (Some v) o)) said) ∙ fine) in
     record {
-      first = first_is b.group v all.0 all.1.1.1.0 ∙ f.cpus;
-      unlocked = ap (λ (a : Bool). a && b.locked) (sym f.actor) ∙ all.1.1.1.1.0;
-      built = sym f.built ∙ from_not (is_built v) all.1.1.0;
+      first = first_is b.group v all.0 all.1.1.0 ∙ f.cpus;
+      unlocked = ap (λ (a : Bool). a && b.locked) (sym f.actor) ∙ all.1.1.1.0;
       titled = f.titled;
-      range = from_not (is_in_range b.possible s) all.1.1.1.1.1.1.0;
-      sub = all.1.1.1.1.1.1.1.0;
-      room = all.1.1.1.1.1.1.1.1.0;
+      range = from_not (is_in_range b.possible s) all.1.1.1.1.1.0;
+      sub = all.1.1.1.1.1.1.0;
+      room = all.1.1.1.1.1.1.1.0;
     }
 
 taken_words : (hooks : ℕ) (b : Before) (ws : List (List ℕ)) (s : Statement)

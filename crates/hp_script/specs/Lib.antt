@@ -13,3 +13,4 @@ pub mod Drafts
 pub mod LineAnswers
 pub mod Judged
 pub mod Texts
+pub mod Generated

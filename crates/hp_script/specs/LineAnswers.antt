@@ -1,7 +1,7 @@
 -- What a reader of the code answers, beside what reading gives. This project's own.
 use Rattle.std.specs.Prelude.{◌≡◌, ℕ, Bool, false, not, ◌&&◌, List, [], ◌∷◌, Option, Some, None, Result, Ok, Err}
 use Rattle.hp_script.specs.declared.error.ScriptKind.{ScriptKind}
-use Rattle.hp_script.specs.declared.error.ScriptKind.TheVariants.{NoCpus, BadWord, NotBuilt, BadOrder, StillLocked, NoSub, TooMany}
+use Rattle.hp_script.specs.declared.error.ScriptKind.TheVariants.{NoCpus, BadWord, BadOrder, StillLocked, NoSub, TooMany}
 use Rattle.hp_script.specs.declared.error.ParseError.{ParseError}
 use Rattle.hp_script.specs.declared.error.ParseError.TheVariants as error
 use Rattle.hp_script.specs.declared.verb.Verb.{Verb}
@@ -9,7 +9,7 @@ use Rattle.hp_script.specs.declared.before.Before.{Before}
 use Rattle.hp_script.specs.declared.statement.Statement.{Statement}
 use Rattle.hp_script.specs.declared.stop.Stop.{Stop}
 use Rattle.hp_script.specs.declared.stop.Stop.TheVariants.{Bad, NoMemory}
-use Rattle.hp_script.specs.Refusals.{is_first, is_cpus, is_unknown, is_unbuilt, stands, is_actor, first_of, names_no_sub, is_too_many, refusal_of_words, refusal}
+use Rattle.hp_script.specs.Refusals.{is_first, is_cpus, is_unknown, stands, is_actor, first_of, names_no_sub, is_too_many, refusal_of_words, refusal}
 use Rattle.hp_script.specs.Statements.{statement_in}
 use Rattle.hp_script.specs.Before.{statement_of, after_line}
 use Rattle.hp_script.specs.declared.draft.Draft.{Draft}
@@ -21,12 +21,11 @@ Gives (Ok a) read = read ≡ Ok a
 Gives (Err (Bad kind)) read = read ≡ Err kind
 Gives (Err NoMemory) read = Unit {0}
 
--- what is wrong with a first word here: the first five conditions of words
+-- what is wrong with a first word here: the first four conditions of words
 abbrev pub wrongs_of_place : Before → Option Verb → List (Bool × ScriptKind)
 wrongs_of_place b verb =
     (is_first b.group && not (is_cpus verb), NoCpus)
     ∷ (is_unknown verb, BadWord)
-    ∷ (is_unbuilt verb, NotBuilt)
     ∷ (not (stands b.group verb), BadOrder)
     ∷ (is_actor verb && b.locked, StillLocked)
     ∷ []

@@ -1,10 +1,9 @@
--- What holds of each script that is read: a machine can be started with its head and can play its actors, its operations
--- are built, its numbers are in their ranges, and there are hooks enough for its setups. This project's own.
+-- What holds of each script that is read: a machine can be started with its head and can play its actors, its numbers
+-- are in their ranges, and there are hooks enough for its setups. This project's own.
 use Rattle.std.specs.Prelude.{◌≡◌, ℕ, ◌≤◌, true, List, length, All, sum_by, count_by}
 use Rattle.hp_states.specs.declared.limits.TheConstants.{MAX_ACTORS, MAX_OPERATIONS}
 use Rattle.hp_event.specs.declared.op.Op.{Op}
 use Rattle.hp_model.specs.Scripts.{IsScript}
-use Rattle.hp_script.specs.Verbs.{is_built, verb_for}
 use Rattle.hp_script.specs.Before.{is_setup}
 use Rattle.hp_script.specs.Ranges.{is_op, is_schedule}
 use Rattle.hp_script.specs.Script.{Contents}
@@ -18,6 +17,5 @@ pub record IsPlayable (hooks : ℕ) (script : Contents) : Type 0 where
   pub few_actors : length script.actors ≤ MAX_ACTORS
   pub few_ops : All (λ ops. length ops ≤ MAX_OPERATIONS) script.actors
   pub ops_are : All (All (λ op. is_op op ≡ true)) script.actors
-  pub ops_built : All (All (λ op. is_built (verb_for op) ≡ true)) script.actors
   pub schedule_is : is_schedule script.schedule ≡ true
   pub hooks_for_all : sum_by setups_in script.actors ≤ hooks

@@ -3,7 +3,7 @@ use Rattle.std.specs.Prelude.{ℕ, Bool, true, false, not, ◌&&◌, ◌||◌, n
 use Rattle.hp_states.specs.declared.limits.TheConstants.{MAX_SUBS, MAX_RULES, MAX_ACTORS, MAX_OPERATIONS}
 use Rattle.hp_event.specs.declared.op.Op.TheVariants as op
 use Rattle.hp_script.specs.declared.error.ScriptKind.{ScriptKind}
-use Rattle.hp_script.specs.declared.error.ScriptKind.TheVariants.{BadByte, NoCpus, BadWord, NotBuilt, BadOrder, StillLocked, BadForm, BadNumber, NoSub, TooMany, NoActor}
+use Rattle.hp_script.specs.declared.error.ScriptKind.TheVariants.{BadByte, NoCpus, BadWord, BadOrder, StillLocked, BadForm, BadNumber, NoSub, TooMany, NoActor}
 use Rattle.hp_script.specs.declared.verb.Verb.{Verb}
 use Rattle.hp_script.specs.declared.verb.Verb.TheVariants as verb
 use Rattle.hp_script.specs.declared.before.Group.{Group}
@@ -12,7 +12,7 @@ use Rattle.hp_script.specs.declared.before.Before.{Before}
 use Rattle.hp_script.specs.declared.statement.Statement.{Statement}
 use Rattle.hp_script.specs.declared.statement.Statement.TheVariants as says
 use Rattle.hp_script.specs.Words.{words, has_bad_byte, is_skipped}
-use Rattle.hp_script.specs.Verbs.{verb_of, is_built}
+use Rattle.hp_script.specs.Verbs.{verb_of}
 use Rattle.hp_script.specs.Statements.{statement_by}
 use Rattle.hp_script.specs.Ranges.{is_in_range}
 use Rattle.hp_script.specs.Before.{is_setup}
@@ -23,11 +23,6 @@ use Rattle.hp_script.specs.Before.{is_setup}
 abbrev pub is_unknown : Option Verb → Bool
 is_unknown None = true
 is_unknown (Some verb) = false
-
--- a first word of an operation that isn't built
-abbrev pub is_unbuilt : Option Verb → Bool
-is_unbuilt None = false
-is_unbuilt (Some verb) = not (is_built verb)
 
 abbrev pub is_cpus : Option Verb → Bool
 is_cpus (Some verb.Cpus) = true
@@ -112,7 +107,6 @@ abbrev pub wrongs : (hooks : ℕ) → Before → Option Verb → Option Statemen
 wrongs hooks b verb said =
     (is_first b.group && not (is_cpus verb), NoCpus)
     ∷ (is_unknown verb, BadWord)
-    ∷ (is_unbuilt verb, NotBuilt)
     ∷ (not (stands b.group verb), BadOrder)
     ∷ (is_actor verb && b.locked, StillLocked)
     ∷ (is_none said, BadForm)

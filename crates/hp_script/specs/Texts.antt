@@ -3,7 +3,7 @@ use Rattle.std.specs.Prelude.{ℕ, List, ◌++◌, codes, decimal}
 use Rattle.hp_script.specs.declared.error.ParseError.{ParseError}
 use Rattle.hp_script.specs.declared.error.ParseError.TheVariants.{Bad, NoMemory}
 use Rattle.hp_script.specs.declared.error.ScriptKind.{ScriptKind}
-use Rattle.hp_script.specs.declared.error.ScriptKind.TheVariants.{TooLong, BadByte, NoCpus, BadWord, BadOrder, StillLocked, BadForm, BadNumber, NoSub, TooMany, NoActor, NotBuilt}
+use Rattle.hp_script.specs.declared.error.ScriptKind.TheVariants.{TooLong, BadByte, NoCpus, BadWord, BadOrder, StillLocked, BadForm, BadNumber, NoSub, TooMany, NoActor}
 
 abbrev pub kind_text : ScriptKind → List ℕ
 kind_text TooLong = codes "too long"
@@ -17,7 +17,6 @@ kind_text BadNumber = codes "bad number"
 kind_text NoSub = codes "no sub"
 kind_text TooMany = codes "too many"
 kind_text NoActor = codes "no actor"
-kind_text NotBuilt = codes "not built"
 
 -- what an error of the reader is written as
 abbrev pub error_text : ParseError → List ℕ

@@ -1,7 +1,5 @@
 -- The first words of lines. This project's own.
-use Rattle.std.specs.Prelude.{ℕ, Bool, true, false, List, [], ◌∷◌, codes, Option, find, bytes_eq}
-use Rattle.hp_event.specs.declared.op.Op.{Op}
-use Rattle.hp_event.specs.declared.op.Op.TheVariants as op
+use Rattle.std.specs.Prelude.{ℕ, List, [], ◌∷◌, codes, Option, find, bytes_eq}
 use Rattle.hp_script.specs.declared.verb.Verb.{Verb}
 use Rattle.hp_script.specs.declared.verb.Verb.TheVariants as verb
 
@@ -40,39 +38,3 @@ all_verbs =
 -- the verb whose word this is
 unfoldable pub verb_of : (word : List ℕ) → Option Verb
 verb_of word = find (λ v. bytes_eq word (word_of v)) all_verbs
-
--- whether the machine has what a line of this first word asks for: files, suspend and the counts of hotplug aren't built yet
-abbrev pub is_built : Verb → Bool
-is_built verb.Target = false
-is_built verb.Fail = false
-is_built verb.Show = false
-is_built verb.Boot = false
-is_built verb.Disable = false
-is_built verb.Enable = false
-is_built verb.Freeze = false
-is_built verb.Thaw = false
-is_built verb.Wakeup = false
-is_built _ = true
-
--- the first word of an operation's line
-abbrev pub verb_for : Op → Verb
-verb_for (op.Up cpu) = verb.Up
-verb_for (op.Down cpu) = verb.Down
-verb_for (op.Target cpu value) = verb.Target
-verb_for (op.Arm cpu value) = verb.Fail
-verb_for (op.ShowState cpu) = verb.Show
-verb_for (op.ShowTarget cpu) = verb.Show
-verb_for (op.ShowFail cpu) = verb.Show
-verb_for op.ShowStates = verb.Show
-verb_for (op.Setup state sub form) = verb.Setup
-verb_for (op.Remove state form) = verb.Remove
-verb_for (op.Add state inst form) = verb.Add
-verb_for (op.Del state inst form) = verb.Del
-verb_for op.Lock = verb.Lock
-verb_for op.Unlock = verb.Unlock
-verb_for (op.Boot most) = verb.Boot
-verb_for op.Disable = verb.Disable
-verb_for op.Enable = verb.Enable
-verb_for (op.Freeze primary) = verb.Freeze
-verb_for op.Thaw = verb.Thaw
-verb_for op.Wakeup = verb.Wakeup

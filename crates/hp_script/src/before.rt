@@ -152,9 +152,6 @@ impl Before {
         let Some(verb) = verb else {
             return Err(ScriptKind::BadWord);
         };
-        if !verb.is_built() {
-            return Err(ScriptKind::NotBuilt);
-        }
         if !self.group.can_stand(verb) {
             return Err(ScriptKind::BadOrder);
         }

@@ -34,8 +34,6 @@ pub enum ScriptKind {
     TooMany,
     /// There is no actor.
     NoActor,
-    /// A line asks for an operation that is not built yet.
-    NotBuilt,
 }
 
 impl ScriptKind {
@@ -55,7 +53,6 @@ impl ScriptKind {
             ScriptKind::NoSub => "no sub",
             ScriptKind::TooMany => "too many",
             ScriptKind::NoActor => "no actor",
-            ScriptKind::NotBuilt => "not built",
         }
     }
 }

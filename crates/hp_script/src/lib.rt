@@ -1,4 +1,5 @@
-//! Scripts: their lines, what each says, and the first that is refused.
+//! Scripts: their lines, what each says, and the first that is refused; and scripts that are
+//! generated.
 //!
 //! [`parse`] reads a script whole, or says which line is refused first, and why. What that means is
 //! in `specs/`, to be read in this order: `Pieces` (lines), `Words`, `Numbers`, `Verbs` (first
@@ -7,13 +8,18 @@
 //! script that lines say), `Judged` (what `parse` answers), `Playable` (what holds of each script
 //! that is read) and `Schedules` (a schedule as the run of a script takes it). [`one_refusal`] is the
 //! law that at most one line and one kind are refused, [`read_scripts_play`] that each script that is
-//! read can be played. Operations that the machine hasn't yet have their lines here already: one
-//! condition of `Refusals` refuses them, and goes with them.
+//! read can be played.
+//!
+//! [`generate`] writes the script of a seed and a size: its lines are in `Generated`, drawn by
+//! [`Draws`], which a mixed schedule draws its seats by too. [`generated_scripts_read`] is the law
+//! that none of its lines is refused where there are twelve hooks, and
+//! [`generated_scripts_want_hooks`] says at which line it is refused where there are fewer.
 //!
 //! The code goes the same way: `words` and `numbers`, `fields`, the lines of each kind in `heading`
 //! and `operation`, `statement` for any line, `before` for what may stand, `line` for one line,
-//! `draft` for the script that grows, `reader` for all lines. Small scripts, judged by computing the
-//! definitions alone, stand beside the lemmas, in `Cases.antt`.
+//! `draft` for the script that grows, `reader` for all lines; then `draws`, `drawn` for what is drawn
+//! for an actor, and `generator` for the lines that are written. Small scripts, judged by computing
+//! the definitions alone, stand beside the lemmas, in `Cases.antt`.
 //!
 //! ```text
 //! cpus 2
@@ -26,8 +32,11 @@
 
 mod before;
 mod draft;
+mod drawn;
+mod draws;
 mod error;
 mod fields;
+mod generator;
 mod heading;
 mod limits;
 mod line;
@@ -42,11 +51,16 @@ mod stop;
 #[cfg(test)]
 mod tests;
 #[cfg(test)]
+mod tests_generator;
+#[cfg(test)]
 mod tests_refusals;
 mod verb;
 mod words;
 
+pub use draws::Draws;
 pub use error::{ParseError, ScriptKind};
+pub use generator::{generate, generated_scripts_read, generated_scripts_want_hooks};
+pub use limits::MAX_GENERATED_SIZE;
 pub use reader::{one_refusal, parse, read_scripts_play};
 pub use schedule::Schedule;
 pub use script::Script;

@@ -102,8 +102,7 @@ pub fn one_refusal()
 
 /// The law that each script that is read can be played: a machine can be started with its head and
 /// has seats for its actors, its setups are of subsystems of the head and at most as many as the
-/// hooks, each actor ends outside its read sections, each operation is built, and each number is in
-/// its range.
+/// hooks, each actor ends outside its read sections, and each number is in its range.
 ///
 /// It holds of all bytes and any hooks. The function does nothing, and takes no memory. The ranges
 /// are this project's own.

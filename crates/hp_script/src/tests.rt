@@ -69,9 +69,8 @@ fn operations(rt: HostRuntime) -> Result<(), Fail> {
     Ok(())
 }
 
-/// Lines of operations that are not built yet: the first word, what stands behind it, and what they
-/// say.
-const UNBUILT: [(Verb, &'static [u8], Result<Op, ScriptKind>); 18] = [
+/// Lines of operations: the first word, what stands behind it, and what they say.
+const LINES: [(Verb, &'static [u8], Result<Op, ScriptKind>); 18] = [
     (
         Verb::Target,
         b"1 -2147483648",
@@ -101,8 +100,8 @@ const UNBUILT: [(Verb, &'static [u8], Result<Op, ScriptKind>); 18] = [
 ];
 
 #[test]
-fn unbuilt_operations(rt: HostRuntime) {
-    for (verb, behind, said) in UNBUILT {
+fn lines_of_operations(rt: HostRuntime) {
+    for (verb, behind, said) in LINES {
         assert!(rt; operation(verb, behind) == said);
     }
 }

@@ -8,7 +8,7 @@ use std::test::*;
 /// A script, the hooks, and the line and the kind that it is refused with.
 type Row = (&'static [u8], u32, u32, ScriptKind);
 
-const REFUSED: [Row; 76] = [
+const REFUSED: [Row; 75] = [
     (b"", 2, 1, ScriptKind::NoCpus),
     (b" \n\n# c\n", 2, 4, ScriptKind::NoCpus),
     (b"# \t\n", 2, 1, ScriptKind::BadByte),
@@ -218,35 +218,24 @@ const REFUSED: [Row; 76] = [
     ),
     (b"cpus 1\nactor a b\n", 2, 2, ScriptKind::BadForm),
     (b"cpus 1\nactor a#\n", 2, 2, ScriptKind::BadForm),
-    (
-        b"cpus 2\nactor x\ntarget 1 200\n",
-        2,
-        3,
-        ScriptKind::NotBuilt,
-    ),
-    (b"cpus 2\nactor x\nfail\n", 2, 3, ScriptKind::NotBuilt),
-    (
-        b"cpus 2\nactor x\nshow states\n",
-        2,
-        3,
-        ScriptKind::NotBuilt,
-    ),
-    (b"cpus 2\nactor x\nboot x\n", 2, 3, ScriptKind::NotBuilt),
-    (b"cpus 2\nactor x\ndisable\n", 2, 3, ScriptKind::NotBuilt),
-    (b"cpus 2\nactor x\nenable now\n", 2, 3, ScriptKind::NotBuilt),
+    (b"cpus 2\nactor x\ntarget 1\n", 2, 3, ScriptKind::BadForm),
+    (b"cpus 2\nactor x\nfail\n", 2, 3, ScriptKind::BadForm),
+    (b"cpus 2\nactor x\nshow\n", 2, 3, ScriptKind::BadForm),
+    (b"cpus 2\nactor x\nboot x\n", 2, 3, ScriptKind::BadForm),
+    (b"cpus 2\nactor x\nenable now\n", 2, 3, ScriptKind::BadForm),
     (
         b"cpus 2\nactor x\nfreeze 9999\n",
         2,
         3,
-        ScriptKind::NotBuilt,
+        ScriptKind::BadNumber,
     ),
-    (b"cpus 2\nactor x\nthaw\n", 2, 3, ScriptKind::NotBuilt),
-    (b"cpus 2\nactor x\nwakeup\n", 2, 3, ScriptKind::NotBuilt),
+    (b"cpus 2\nactor x\nfreeze -2\n", 2, 3, ScriptKind::BadNumber),
+    (b"cpus 2\nactor x\nfreeze -0\n", 2, 3, ScriptKind::BadForm),
     (
         b"cpus 1\nsub a both single\nthaw\n",
         2,
         3,
-        ScriptKind::NotBuilt,
+        ScriptKind::BadOrder,
     ),
     (b"thaw\n", 2, 1, ScriptKind::NoCpus),
     (b"cpus 1\nboot 1\t", 2, 2, ScriptKind::BadByte),
@@ -314,7 +303,7 @@ fn too_long(rt: HostRuntime) -> Result<(), Fail> {
 }
 
 /// The number and the words of each kind, as a user of the program meets them.
-const KINDS: [(ScriptKind, u32, &str); 12] = [
+const KINDS: [(ScriptKind, u32, &str); 11] = [
     (ScriptKind::TooLong, 1, "too long"),
     (ScriptKind::BadByte, 2, "bad byte"),
     (ScriptKind::NoCpus, 3, "no cpus"),
@@ -326,7 +315,6 @@ const KINDS: [(ScriptKind, u32, &str); 12] = [
     (ScriptKind::NoSub, 9, "no sub"),
     (ScriptKind::TooMany, 10, "too many"),
     (ScriptKind::NoActor, 11, "no actor"),
-    (ScriptKind::NotBuilt, 12, "not built"),
 ];
 
 #[test]

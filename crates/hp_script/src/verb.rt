@@ -1,7 +1,7 @@
 //! The first words of lines.
 
 ghost use Rattle.std.specs.Prelude.{◌≡◌};
-ghost use Rattle.hp_script.specs.Verbs.{verb_of, is_built};
+ghost use Rattle.hp_script.specs.Verbs.{verb_of};
 
 /// The first word of a line, which says what kind of line it is.
 #[derive(Clone, Copy, Debug, PartialEq, Eq)]
@@ -29,26 +29,6 @@ pub enum Verb {
     Freeze,
     Thaw,
     Wakeup,
-}
-
-impl Verb {
-    /// Whether the machine has what a line of this first word asks for.
-    pub fn is_built(self) -> bool
-        ensures { result ≡ is_built self }
-    {
-        !matches!(
-            self,
-            Verb::Target
-                | Verb::Fail
-                | Verb::Show
-                | Verb::Boot
-                | Verb::Disable
-                | Verb::Enable
-                | Verb::Freeze
-                | Verb::Thaw
-                | Verb::Wakeup
-        )
-    }
 }
 
 /// The verb whose word this is.

@@ -1,5 +1,5 @@
-//! What the tests ask of a journal's text: whether it is accepted, and whether it is refused with one
-//! line changed.
+//! What the tests ask of a journal's text: whether it is accepted, whether it is refused with one line
+//! changed, and what is said of it.
 
 use crate::{ReplayError, ReplayKind, check};
 use std::alloc::Global;
@@ -26,6 +26,42 @@ pub fn with_line(alloc: Global, text: &[u8], number: usize, line: &[u8]) -> Resu
         }
     }
     Ok(all)
+}
+
+/// The line of a number, counted from 1.
+pub fn line_at(alloc: Global, text: &[u8], number: usize) -> Result<Vec<u8>, Fail> {
+    let mut line = Vec::new(alloc);
+    let mut at = 1usize;
+    for byte in text {
+        if at == number {
+            line.push(*byte)?;
+        }
+        if *byte == b'\n' {
+            at = at.saturating_add(1);
+        }
+    }
+    Ok(line)
+}
+
+/// The text with the line of a number and the next in each other's place.
+pub fn with_swap(alloc: Global, text: &[u8], number: usize) -> Result<Vec<u8>, Fail> {
+    let next = number.saturating_add(1);
+    let first = line_at(alloc, text, number)?;
+    let second = line_at(alloc, text, next)?;
+    let half = with_line(alloc, text, number, second.as_slice())?;
+    with_line(alloc, half.as_slice(), next, first.as_slice())
+}
+
+/// What is said of a text: nothing where it is accepted, or else the line and the kind.
+pub type Verdict = Option<(u32, ReplayKind)>;
+
+/// What is said of a text.
+pub fn verdict_of(alloc: Global, text: &[u8]) -> Result<Verdict, Fail> {
+    match check(alloc, text) {
+        Ok(_) => Ok(None),
+        Err(ReplayError::Bad { line, kind }) => Ok(Some((line, kind))),
+        Err(other) => Err(other.into()),
+    }
 }
 
 /// The line of the first event of a text that can't stand; none where the text is accepted.

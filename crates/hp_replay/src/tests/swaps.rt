@@ -2,36 +2,12 @@
 //! seats can pass each other where neither waits for the other.
 
 use crate::check;
-use crate::tests::changes::{line_refused, with_line};
+use crate::tests::changes::{line_refused, with_swap};
 use crate::tests::clients::TURNS_OF_CLIENTS;
 use crate::tests::seats::THREADS_IN_AND_OUT;
 use std::alloc::Global;
 use std::process::Abort;
 use std::test::*;
-
-/// The line of a number, counted from 1.
-fn line_at(alloc: Global, text: &[u8], number: usize) -> Result<Vec<u8>, Fail> {
-    let mut line = Vec::new(alloc);
-    let mut at = 1usize;
-    for byte in text {
-        if at == number {
-            line.push(*byte)?;
-        }
-        if *byte == b'\n' {
-            at = at.saturating_add(1);
-        }
-    }
-    Ok(line)
-}
-
-/// The text with the line of a number and the next in each other's place.
-fn with_swap(alloc: Global, text: &[u8], number: usize) -> Result<Vec<u8>, Fail> {
-    let next = number.saturating_add(1);
-    let first = line_at(alloc, text, number)?;
-    let second = line_at(alloc, text, next)?;
-    let half = with_line(alloc, text, number, second.as_slice())?;
-    with_line(alloc, half.as_slice(), next, first.as_slice())
-}
 
 /// The first line of an event for which swapping it with the next event does something else than is
 /// listed.

@@ -1,27 +1,58 @@
--- A refusal whose write fails was an answer.
-use Rattle.std.proofs.Common.{◌∙◌, lit<}
-use Rattle.hp_play.specs.Main.{refusal}
+-- What is written is an answer, whole or in part.
+use Rattle.std.proofs.Common.{map, string_bytes, length, ap, subst, refl, arith}
+use Rattle.hp_command.specs.Commands.{IsCommand}
+use Rattle.hp_play.specs.Main.{usage, refusal, bad_journal, usage_line}
+use Rattle.hp_play.proofs.Parts.{part_of, no_command}
 use Rattle.hp_play.proofs.top.hp_main.Goals as goal
 
-pub returns-in-Err-Refused-clause-write_fault : goal.returns-in-Err-Refused-clause-write_fault
-returns-in-Err-Refused-clause-write_fault g c = λ e.
-    let refused = rw c.in-Err-Refused.field-0-is at c.in-Err-Refused.ensures.stop in
-    let fault = c.write-in-Err-Refused.ensures.fault e (lit< tt) in (
-      fault.3,
-      record {
-        answer = refusal;
-        bytes = c.deref-in-Err-Refused.result.now;
-        is_answer =
-            record {
-              command = c.in-Some.command;
-              asked = c.in-Some.ensures.some;
-              script = refused.0.script;
-              read = refused.0.read;
-              no_form = refused.0.no_form;
-              line = c.deref-in-Err-Refused.ensures.value ∙ refused.0.line_is;
-            };
-        count = fault.0;
-        not_all = fault.1;
-        part = fault.2;
-      },
+pub returns-in-Ok-None-clause-bad_words : goal.returns-in-Ok-None-clause-bad_words
+returns-in-Ok-None-clause-bad_words g c = λ e. record {
+  bytes = usage_line;
+  is_answer =
+      no_command (map string_bytes c.deref.result.now) (map string_bytes c.args.words.now.items) (g.S.Source.left c.args.source.now)
+      (ap (map string_bytes) c.deref.ensures.value) (rw c.in-Ok-None.field-0-is at c.in-Ok-None.ensures.none);
+  all = (c.write.ensures.written (λ f. absurd (omega (arith, e, f)))).1;
+}
+
+pub returns-in-Ok-None-clause-write_fault : goal.returns-in-Ok-None-clause-write_fault
+returns-in-Ok-None-clause-write_fault g c = λ e.
+    let f = c.write.ensures.fault e in (
+      f.3,
+      part_of usage (map string_bytes c.args.words.now.items) (length c.args.rack.now.hooks.items) _
+          (g.S.Source.left c.args.source.now) (g.S.Source.left c.args.source.now) (g.K.Sink.taken c.args.sink.now)
+          (g.K.Sink.taken c.write.new.sink) usage_line usage_line
+          (no_command (map string_bytes c.deref.result.now) (map string_bytes c.args.words.now.items) (g.S.Source.left c.args.source.now)
+          (ap (map string_bytes) c.deref.ensures.value) (rw c.in-Ok-None.field-0-is at c.in-Ok-None.ensures.none)) refl f.0 f.1 f.2,
+    )
+
+pub returns-in-Err-BadScript-clause-write_fault : goal.returns-in-Err-BadScript-clause-write_fault
+returns-in-Err-BadScript-clause-write_fault g c = λ e.
+    let f = c.write-in-Err-BadScript.ensures.fault e in
+    let stop = rw c.in-Err-BadScript.field-0-is at c.in-Err-BadScript.ensures.stop in
+    let asked = rw c.in-Ok-Some.field-0-is at c.in-Ok-Some.ensures.some in (
+      f.3,
+      part_of refusal (map string_bytes c.args.words.now.items) (length c.args.rack.now.hooks.items) _
+          (g.S.Source.left c.args.source.now) (g.S.Source.left c.output_of.new.source) (g.K.Sink.taken c.args.sink.now)
+          (g.K.Sink.taken c.write-in-Err-BadScript.new.sink) c.in-Err-BadScript.line.items c.deref-in-Err-BadScript.result.now
+          (record {
+            command = c.in-Ok-Some.command;
+            asked = subst (λ z. IsCommand z c.in-Ok-Some.command) (ap (map string_bytes) c.deref.ensures.value) asked;
+            is = stop.0;
+          }) c.deref-in-Err-BadScript.ensures.value f.0 f.1 f.2,
+    )
+
+pub returns-in-Err-BadJournal-clause-write_fault : goal.returns-in-Err-BadJournal-clause-write_fault
+returns-in-Err-BadJournal-clause-write_fault g c = λ e.
+    let f = c.write-in-Err-BadJournal.ensures.fault e in
+    let stop = rw c.in-Err-BadJournal.field-0-is at c.in-Err-BadJournal.ensures.stop in
+    let asked = rw c.in-Ok-Some.field-0-is at c.in-Ok-Some.ensures.some in (
+      f.3,
+      part_of bad_journal (map string_bytes c.args.words.now.items) (length c.args.rack.now.hooks.items) _
+          (g.S.Source.left c.args.source.now) (g.S.Source.left c.output_of.new.source) (g.K.Sink.taken c.args.sink.now)
+          (g.K.Sink.taken c.write-in-Err-BadJournal.new.sink) c.in-Err-BadJournal.line.items c.deref-in-Err-BadJournal.result.now
+          (record {
+            command = c.in-Ok-Some.command;
+            asked = subst (λ z. IsCommand z c.in-Ok-Some.command) (ap (map string_bytes) c.deref.ensures.value) asked;
+            is = (stop.0, stop.1);
+          }) c.deref-in-Err-BadJournal.ensures.value f.0 f.1 f.2,
     )

@@ -5,15 +5,15 @@ use Rattle.hp_replay.specs.Reading.{GoesOver}
 use Rattle.hp_replay.proofs.EventReading.{stage_of}
 use Rattle.hp_replay.proofs.events.read_events.Given as goal
 
--- the machine has taken the journal's events
+-- the law has taken the journal's events
 abbrev pub invariant-loop-journal : goal.invariant-loop-journal
-invariant-loop-journal g l = record {
+invariant-loop-journal l = record {
   gone : GoesOver l.fn.lines (among_events l.fn.head []) l.lines (stage_of l.journal);
-  head : g.C.Checker.head_of l.checker ≡ l.journal.head;
-  events : g.C.Checker.events_of l.checker ≡ l.journal.events;
+  head : l.law.head ≡ l.journal.head;
+  events : l.law.events ≡ l.journal.events;
   promised : l.journal.promised ≡ 0;
   lawful : IsLawful l.journal.head l.journal.events;
 }
 
 abbrev pub decreases-loop-journal : goal.decreases-loop-journal
-decreases-loop-journal g l = length l.lines.lines
+decreases-loop-journal l = length l.lines.lines

@@ -1,5 +1,6 @@
-use Rattle.std.proofs.Common.{◌≡◌, ◌∙◌, ap, sym, subst, is_some, Option, List, [], ◌∷◌, ◌++◌, length, true, false}
+use Rattle.std.proofs.Common.{◌≡◌, ◌∙◌, refl, ap, sym, subst, is_some, Some, Option, List, [], ◌∷◌, ◌++◌, length, true, false}
 use Rattle.std.proofs.lemmas.Bool.{true≢false}
+use Rattle.hp_model.specs.Events.{answer_by}
 use Rattle.hp_model.specs.NextEvent.{next_event}
 use Rattle.hp_model.specs.Pending.{Pending, IsAllowed}
 use Rattle.hp_model.proofs.NextStands.{next_stands}
@@ -9,9 +10,10 @@ use Rattle.hp_ledger.specs.Ledger.{Entries}
 use Rattle.hp_ledger.specs.Entries.{entry_event}
 use Rattle.hp_ledger.proofs.FullNone.{full_none}
 use Rattle.hp_board.specs.Contents.{Contents, with_event}
-use Rattle.hp_board.specs.Hooks.{has_hook_after, leaves_hook}
-use Rattle.hp_board.specs.Turns.{IsTurn}
-use Rattle.hp_board.proofs.TurnsMade.{no_admission, brought, turn_made, hook_after, hook_same}
+use Rattle.hp_board.specs.Hooks.{has_hook, has_hook_after, leaves_hook}
+use Rattle.hp_board.specs.Turns.{IsTurn, goes_on}
+use Rattle.hp_board.proofs.TurnsMade.{no_admission, brought, turn_made, hook_after, hook_same, kept, unanswered}
+use Rattle.hp_board.proofs.Busy.{hook_again}
 use Rattle.hp_board.proofs.board.Board.turn.Goals as goal
 
 pub make-requires-clause-stands : goal.make-requires-clause-stands
@@ -109,3 +111,32 @@ returns-in-Full-clause-handed g c = λ leaves.
     let here =
     subst (λ (b : Contents). leaves_hook b.events (next_event b.head b.events c.args.by op) ≡ false) (sym c.self.view_is) leaves in
     absurd (true≢false (sym (ap (leaves_hook l.events) none) ∙ here))
+
+pub returns-in_ok-make-in-Event-clause-again : goal.returns-in_ok-make-in-Event-clause-again
+returns-in_ok-make-in-Event-clause-again g c = λ on.
+    let l = c.self.inside.ledger in
+    let e = c.in-Event.event in
+    let op = c.args.ask.now.op in
+    let k = c.args.by in
+    let inside : Contents = record { head = l.head; events = l.events; places = c.self.inside.table } in
+    let brings =
+    brought inside c.args.self.now (record { seat = k; op = op }) e (is_some c.args.ask.now.hook) c.self.view_is
+    c.self.invariant.lawful c.requires.allowed c.requires.hook c.in-Event.ensures.0 in
+    let made = c.in_ok-make-in-Event.ensures in
+    let after = hook_after l.events e c.args.ask.now.hook c.make.new.hook brings made.hands made.left in
+    let had : is_some c.args.ask.now.hook ≡ has_hook l.events k op =
+    c.requires.hook ∙ ap (λ (b : Contents). has_hook b.events k op) (sym c.self.view_is) in
+    let none = unanswered (answer_by e) c.len-at.result (ap goes_on (sym c.turn_of.ensures) ∙ on) in
+    after ∙ ap (has_hook_after l.events (Some e)) had ∙ hook_again l.head l.events k op e c.in-Event.ensures.0 none
+    ∙ ap (λ (x : Entries). has_hook x.events k op) (sym made.made)
+
+pub returns-in-Entry-clause-again : goal.returns-in-Entry-clause-again
+returns-in-Entry-clause-again g c = λ on.
+    let l = c.self.inside.ledger in
+    let e = entry_event l.head l.events c.in-Entry.entry in
+    let op = c.args.ask.now.op in
+    let k = c.args.by in
+    let had : is_some c.args.ask.now.hook ≡ has_hook l.events k op =
+    c.requires.hook ∙ ap (λ (b : Contents). has_hook b.events k op) (sym c.self.view_is) in
+    had ∙ sym (kept (has_hook l.events k op)) ∙ hook_again l.head l.events k op e c.in-Entry.ensures refl
+    ∙ ap (λ (x : Entries). has_hook x.events k op) (sym c.make_entry.ensures.made)

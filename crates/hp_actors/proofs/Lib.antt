@@ -1,0 +1,11 @@
+mod Busy
+mod Progressing
+mod Holding
+mod Playing
+mod Asked
+mod RoundLaws
+mod Resting
+mod Admissions
+mod Turning
+mod Taking
+mod Opening

@@ -1,0 +1,252 @@
+-- Turns of seats in rising number, and rounds of them, as the run makes them.
+use Rattle.std.proofs.Common.{◌≡◌, ℕ, zero, suc, ◌+◌, ◌-◌, ◌<◌, ◌≤◌, Bool, true, false, ◌&&◌, eqb, ltb, is_none, Option, Some, None, List, length, refl, ap, sym, subst, ◌∙◌, arith}
+use Rattle.std.specs.Prelude.{option_map, IsTrue}
+use Rattle.std.specs.List.{sum_by}
+use Rattle.std.proofs.lemmas.Bool.{true≢false, eqb-true, eqb-false, ltb-true, ltb-false}
+use Rattle.hp_states.specs.declared.limits.TheConstants.{MAX_EVENTS}
+use Rattle.hp_event.specs.declared.op.Op.{Op}
+use Rattle.hp_event.specs.declared.head.Head.{Head}
+use Rattle.hp_model.specs.Distance.{distance}
+use Rattle.hp_model.specs.Lists.{numbers}
+use Rattle.hp_model.specs.NextEvent.{due_entry}
+use Rattle.hp_model.specs.Processors.{present}
+use Rattle.hp_model.specs.Scripts.{IsScript}
+use Rattle.hp_model.specs.ScriptRun.{start, answered_below, is_over, after_round, after_rounds, IsRun}
+use Rattle.hp_model.specs.ScriptTurns.{Progress, unanswered, turn, after_turns}
+use Rattle.hp_model.proofs.RoundsEnd.{turns_go_on, turns_bounded}
+use Rattle.hp_board.specs.declared.turn.Ask.{Ask}
+use Rattle.hp_actors.specs.Asking.{IsReached}
+use Rattle.hp_actors.specs.Positions.{Position, op_of}
+use Rattle.hp_actors.proofs.Progressing.{turns_push, turns_none, idle_turn}
+
+-- seats that nothing is due from are passed over
+pub idle_until : (head : Head) (actors : List (List Op)) (at : Progress) (m d n : ℕ) → n ≡ m + d → n ≤ length (present head) →
+    ((k : ℕ) → m ≤ k → k < n → due_entry head (after_turns head actors at (numbers m)).events k ≡ None) →
+    after_turns head actors at (numbers n) ≡ after_turns head actors at (numbers m)
+idle_until head actors at m zero n is few none =
+    let e : n ≡ m = omega (arith, is) in ap (λ z. after_turns head actors at (numbers z)) e
+idle_until head actors at m (suc d) n is few none =
+    let k : ℕ = m + d in
+    let e : n ≡ suc k = omega (arith, is) in
+    let before = idle_until head actors at m d k refl (omega (arith, e, few)) (λ j a b. none j a (omega (arith, b, e))) in
+    let idle =
+    idle_turn head actors (after_turns head actors at (numbers m)) k (omega (arith, e, few)) (none k (omega arith) (omega (arith, e))) in
+    ap (λ z. after_turns head actors at (numbers z)) e
+    ∙ (turns_push head actors at (numbers k) k ∙ (ap (λ z. turn head actors z k) before ∙ idle))
+
+-- one seat more
+pub numbers_more : (head : Head) (actors : List (List Op)) (at : Progress) (k : ℕ) →
+    after_turns head actors at (numbers (k + 1)) ≡ turn head actors (after_turns head actors at (numbers k)) k
+numbers_more head actors at k =
+    let e : k + 1 ≡ suc k = omega arith in
+    ap (λ z. after_turns head actors at (numbers z)) e ∙ turns_push head actors at (numbers k) k
+
+-- the next seat that something is due from has its turn
+pub due_turn : (head : Head) (actors : List (List Op)) (at now : Progress) (m k : ℕ) →
+    now ≡ after_turns head actors at (numbers m) → m ≤ k → k < length (present head) →
+    ((j : ℕ) → m ≤ j → j < k → due_entry head now.events j ≡ None) →
+    turn head actors now k ≡ after_turns head actors at (numbers (k + 1))
+due_turn head actors at now m k is from below none =
+    let passed =
+    idle_until head actors at m (k - m) k (omega (arith, from)) (omega (arith, below))
+    (λ j a b. ap (λ z. due_entry head z.events j) (sym is) ∙ none j a b) in
+    ap (λ z. turn head actors z k) (is ∙ sym passed) ∙ sym (numbers_more head actors at k)
+
+pub none_due : (head : Head) (actors : List (List Op)) (at now : Progress) (m : ℕ) →
+    now ≡ after_turns head actors at (numbers m) → m ≤ length (present head) →
+    ((j : ℕ) → m ≤ j → j < length (present head) → due_entry head now.events j ≡ None) →
+    now ≡ after_turns head actors at (numbers (length (present head)))
+none_due head actors at now m is few none =
+    let P : ℕ = length (present head) in
+    is ∙ sym (idle_until head actors at m (P - m) P (omega (arith, few)) (omega arith)
+    (λ j a b. ap (λ z. due_entry head z.events j) (sym is) ∙ none j a b))
+
+-- where a run stands after turns of the first seats
+pub record IsServed (old now : Position) (next : ℕ) : Type 0 where
+  pub head : now.head ≡ old.head
+  pub actors : now.actors ≡ old.actors
+  pub few : next ≤ length (present old.head)
+  pub turned : now.progress ≡ after_turns old.head old.actors old.progress (numbers next)
+
+pub first_served : (old : Position) → IsServed old old 0
+first_served old = record {
+  head = refl;
+  actors = refl;
+  few = omega arith;
+  turned = sym (turns_none old.head old.actors old.progress);
+}
+
+pub more_served : (old now after : Position) (next seat : ℕ) → IsServed old now next → next ≤ seat →
+    seat < length (present now.head) →
+    ((k : ℕ) → next ≤ k → k < seat → due_entry now.head now.progress.events k ≡ None) →
+    after ≡ record { head = now.head; actors = now.actors; progress = turn now.head now.actors now.progress seat } →
+    IsServed old after (seat + 1)
+more_served old now after next seat s from below none is = record {
+  head = ap (λ p. p.head) is ∙ s.head;
+  actors = ap (λ p. p.actors) is ∙ s.actors;
+  few = let e : length (present now.head) ≡ length (present old.head) = ap (λ h. length (present h)) s.head in omega (arith, below, e);
+  turned =
+      let e : length (present now.head) ≡ length (present old.head) = ap (λ h. length (present h)) s.head in
+      ap (λ p. p.progress) is
+      ∙ (ap (λ h. turn h now.actors now.progress seat) s.head ∙ (ap (λ a. turn old.head a now.progress seat) s.actors
+      ∙ due_turn old.head old.actors old.progress now.progress next seat s.turned from (omega (arith, below, e))
+      (λ k a b. ap (λ h. due_entry h now.progress.events k) (sym s.head) ∙ none k a b)));
+}
+
+-- one seat more of a round
+pub seat_more : (old now after : Position) (seat : ℕ) → now.head ≡ old.head → now.actors ≡ old.actors →
+    now.progress ≡ after_turns old.head old.actors old.progress (numbers seat) →
+    after ≡ record { head = now.head; actors = now.actors; progress = turn now.head now.actors now.progress seat } →
+    after.progress ≡ after_turns old.head old.actors old.progress (numbers (seat + 1))
+seat_more old now after seat head actors turned is =
+    ap (λ p. p.progress) is
+    ∙ (ap (λ h. turn h now.actors now.progress seat) head ∙ (ap (λ a. turn old.head a now.progress seat) actors
+    ∙ (ap (λ q. turn old.head old.actors q seat) turned ∙ sym (numbers_more old.head old.actors old.progress seat))))
+
+pub all_served : (old now : Position) (next : ℕ) → IsServed old now next →
+    ((k : ℕ) → next ≤ k → k < length (present now.head) → due_entry now.head now.progress.events k ≡ None) →
+    now
+    ≡ record {
+      head = old.head;
+      actors = old.actors;
+      progress = after_turns old.head old.actors old.progress (numbers (length (present old.head)));
+    }
+all_served old now next s none =
+    let e : length (present now.head) ≡ length (present old.head) = ap (λ h. length (present h)) s.head in
+    let t =
+    none_due old.head old.actors old.progress now.progress next s.turned s.few
+    (λ k a b. ap (λ h. due_entry h now.progress.events k) (sym s.head) ∙ none k a (omega (arith, b, e))) in
+    same now.head now.actors now.progress old.head old.actors _ s.head s.actors t
+  where
+    same : (h : Head) (a : List (List Op)) (p : Progress) (i : Head) (b : List (List Op)) (q : Progress) → h ≡ i → a ≡ b → p ≡ q →
+        ◌≡◌ {A = Position} (record { head = h; actors = a; progress = p }) (record { head = i; actors = b; progress = q })
+    same h a p i b q x y z = rw (x, y, z) refl
+
+-- ---- whether all is answered
+
+both_false : (a b : Bool) → a ≡ false → (a && b) ≡ false
+both_false a b h = ap (λ z. z && b) h
+
+right_false : (a b : Bool) → b ≡ false → (a && b) ≡ false
+right_false true b h = h
+right_false false b h = refl
+
+less_or : (a b : ℕ) → a < suc b → (a ≡ b → ⊥) → a < b
+less_or a b l n = by (ltb a b) refl
+  where
+    by : (t : Bool) → ltb a b ≡ t → a < b
+    by true e = ltb-true a b e
+    by false e = let m = ltb-false a b e in absurd (n (omega (arith, l, m)))
+
+pub not_over : (actors : List (List Op)) (answers : List ℕ) (i n : ℕ) → i < n → is_none (unanswered actors answers i) ≡ false →
+    answered_below actors answers n ≡ false
+not_over actors answers i zero below h = absurd (omega (arith, below))
+not_over actors answers i (suc n) below h = go (eqb i n) refl (λ less. not_over actors answers i n less h)
+  where
+    go : (b : Bool) → eqb i n ≡ b → (i < n → answered_below actors answers n ≡ false) →
+        (answered_below actors answers n && is_none (unanswered actors answers n)) ≡ false
+    go true e before =
+        let same : i ≡ n = eqb-true i n e in
+        right_false (answered_below actors answers n) (is_none (unanswered actors answers n)) (rw same at h)
+    go false e before =
+        both_false (answered_below actors answers n) (is_none (unanswered actors answers n))
+        (before (less_or i n below (eqb-false i n e)))
+
+-- an actor that isn't done has an operation to be answered
+pub pending : {H : Type 0} (ask : Option (Ask H)) (b : Bool) → (ask ≡ None → IsTrue b) → b ≡ false →
+    is_none (option_map op_of ask) ≡ false
+pending None b h f = absurd (not_true b (h refl) f)
+  where
+    not_true : (b : Bool) → IsTrue b → b ≡ false → ⊥
+    not_true true t f = true≢false f
+    not_true false t f = absurd (grind arith)
+pending (Some ask) b h f = refl
+
+pub answered_more : (actors : List (List Op)) (answers : List ℕ) (i : ℕ) → answered_below actors answers i ≡ true →
+    unanswered actors answers i ≡ None → answered_below actors answers (i + 1) ≡ true
+answered_more actors answers i h none =
+    let e : i + 1 ≡ suc i = omega arith in
+    ap (answered_below actors answers) e
+    ∙ (ap (λ b. b && is_none (unanswered actors answers i)) h ∙ ap is_none none)
+
+-- ---- rounds
+
+-- so many rounds after a schedule's turns were made, and none of them once all was answered
+pub record HasRounds (head : Head) (actors : List (List Op)) (seats : List ℕ) (now : Progress) : Type 0 where
+  pub count : ℕ
+  pub now_is : now ≡ after_rounds head actors seats count
+  pub no_sooner : (n : ℕ) → n < count → is_over actors (after_rounds head actors seats n) ≡ false
+
+pub first_round : (head : Head) (actors : List (List Op)) (seats : List ℕ) (now : Progress) →
+    now ≡ after_turns head actors (start head actors) seats → HasRounds head actors seats now
+first_round head actors seats now is =
+    record { count = 0; now_is = is; no_sooner = λ n below. absurd (omega (arith, below)) }
+
+pub next_round : (head : Head) (actors : List (List Op)) (seats : List ℕ) (now after : Progress) → HasRounds head actors seats now →
+    is_over actors now ≡ false → after ≡ after_round head actors now → HasRounds head actors seats after
+next_round head actors seats now after r goes is = record {
+  count = suc r.count;
+  now_is = is ∙ ap (after_round head actors) r.now_is;
+  no_sooner = λ n below. go n below (ltb n r.count) refl;
+}
+  where
+    go : (n : ℕ) → n < suc r.count → (b : Bool) → ltb n r.count ≡ b → is_over actors (after_rounds head actors seats n) ≡ false
+    go n below true e = r.no_sooner n (ltb-true n r.count e)
+    go n below false e =
+        let m = ltb-false n r.count e in
+        let same : n ≡ r.count = omega (arith, below, m) in
+        ap (λ z. is_over actors (after_rounds head actors seats z)) same ∙ (ap (is_over actors) (sym r.now_is) ∙ goes)
+
+pub last_round : (head : Head) (actors : List (List Op)) (seats : List ℕ) (now : Progress) → HasRounds head actors seats now →
+    is_over actors now ≡ true → IsRun head actors seats now.events
+last_round head actors seats now r over = record {
+  rounds = r.count;
+  over = ap (is_over actors) (sym r.now_is) ∙ over;
+  no_sooner = r.no_sooner;
+  events_are = ap (λ z. z.events) r.now_is;
+}
+
+-- a round comes nearer to the end
+pub round_nearer : (head : Head) (actors : List (List Op)) (now after : Progress) → IsScript head actors →
+    IsReached head actors now → IsReached head actors after → is_over actors now ≡ false → after ≡ after_round head actors now →
+    (MAX_EVENTS + sum_by (λ ops. length ops) actors) - distance after
+    < (MAX_EVENTS + sum_by (λ ops. length ops) actors) - distance now
+round_nearer head actors now after script r s goes is =
+    let on =
+    turns_go_on head actors r.0 script (ap (is_over actors) (sym r.1) ∙ goes) in
+    let on_now : distance now < distance after =
+    subst (λ z. distance z < distance after) (sym r.1)
+    (subst (λ z. distance (after_turns head actors (start head actors) r.0) < distance z)
+    (ap (after_round head actors) (sym r.1) ∙ sym is) on) in
+    let bounded = subst (λ z. distance z ≤ MAX_EVENTS + sum_by (λ ops. length ops) actors) (sym s.1) (turns_bounded head actors s.0 script) in
+    omega (arith, on_now, bounded)
+
+-- where the run stands before and after a round
+pub record IsRound (now after : Position) : Type 0 where
+  pub script : IsScript now.head now.actors
+  pub reached : IsReached now.head now.actors now.progress
+  pub reached_after : IsReached after.head after.actors after.progress
+  pub goes : is_over now.actors now.progress ≡ false
+  pub after_is :
+      after ≡ record { head = now.head; actors = now.actors; progress = after_round now.head now.actors now.progress }
+
+pub round_smaller : (now after : Position) → IsRound now after →
+    (MAX_EVENTS + sum_by (λ ops. length ops) after.actors) - distance after.progress
+    < (MAX_EVENTS + sum_by (λ ops. length ops) now.actors) - distance now.progress
+round_smaller now after r =
+    let actors : after.actors ≡ now.actors = ap (λ p. p.actors) r.after_is in
+    let reached =
+    subst (λ h. IsReached h now.actors after.progress) (ap (λ p. p.head) r.after_is)
+    (subst (λ a. IsReached after.head a after.progress) actors r.reached_after) in
+    subst (λ a.
+    (MAX_EVENTS + sum_by (λ ops. length ops) a) - distance after.progress
+    < (MAX_EVENTS + sum_by (λ ops. length ops) now.actors) - distance now.progress) (sym actors)
+    (round_nearer now.head now.actors now.progress after.progress r.script r.reached reached r.goes (ap (λ p. p.progress) r.after_is))
+
+-- rounds of a script, one more
+pub more_rounds : (old now after : Position) → now.head ≡ old.head → now.actors ≡ old.actors → IsRound now after →
+    (seats : List ℕ) → HasRounds old.head old.actors seats now.progress → HasRounds old.head old.actors seats after.progress
+more_rounds old now after head actors r seats h =
+    next_round old.head old.actors seats now.progress after.progress h (ap (λ a. is_over a now.progress) (sym actors) ∙ r.goes)
+    (ap (λ p. p.progress) r.after_is
+    ∙ (ap (λ z. after_round z now.actors now.progress) head ∙ ap (λ a. after_round old.head a now.progress) actors))

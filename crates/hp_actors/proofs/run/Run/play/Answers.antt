@@ -1,0 +1,14 @@
+-- The turns of the schedule, and rounds.
+use Rattle.std.proofs.Common.{◌+◌, length}
+use Rattle.hp_model.specs.Processors.{present}
+use Rattle.hp_model.specs.Schedule.{first_turns}
+use Rattle.hp_script.specs.Schedules.{schedule_written}
+use Rattle.hp_actors.proofs.Turning.{schedule_ran}
+use Rattle.hp_actors.proofs.run.Run.play.Goals as goal
+
+pub returns-clause-ran : goal.returns-clause-ran
+returns-clause-ran g c =
+    let p = c.args.self.now in
+    schedule_ran c.play_rounds.result p c.play_schedule.new.self
+    (first_turns (length (present p.head) + length p.actors) (schedule_written c.args.schedule.now)) c.play_rounds.new.self.progress.events
+    c.in_ok-play_schedule.ensures.ok c.requires c.play_rounds.ensures.ran

@@ -1,0 +1,36 @@
+-- Rounds until all is answered make the run.
+use Rattle.std.proofs.Common.{sym, ◌∙◌}
+use Rattle.hp_actors.proofs.RoundLaws.{IsRound, round_smaller, more_rounds}
+use Rattle.hp_actors.proofs.run.Run.play_rounds.Goals as goal
+
+pub loop-self-smaller : goal.loop-self-smaller
+loop-self-smaller g c =
+    let i = c.loop-self.invariant in
+    let round : IsRound c.loop-self.self c.round.new.self =
+    record {
+      script = i.script;
+      reached = i.reached;
+      reached_after = c.sound-in-loop-self.ensures.reached;
+      goes = sym c.is_over.ensures ∙ c.loop-self-test.true;
+      after_is = c.in_ok-round.ensures.ok;
+    } in
+    round_smaller c.loop-self.self c.round.new.self round
+
+pub loop-self-preserved : goal.loop-self-preserved
+loop-self-preserved g c =
+    let i = c.loop-self.invariant in
+    let round : IsRound c.loop-self.self c.round.new.self =
+    record {
+      script = i.script;
+      reached = i.reached;
+      reached_after = c.sound-in-loop-self.ensures.reached;
+      goes = sym c.is_over.ensures ∙ c.loop-self-test.true;
+      after_is = c.in_ok-round.ensures.ok;
+    } in
+    record {
+      head = c.in_ok-round.ensures.head ∙ i.head;
+      actors = c.in_ok-round.ensures.actors ∙ i.actors;
+      script = c.sound-in-loop-self.ensures.script;
+      reached = c.sound-in-loop-self.ensures.reached;
+      rounds = λ seats is. more_rounds c.args.self.now c.loop-self.self c.round.new.self i.head i.actors round seats (i.rounds seats is);
+    }

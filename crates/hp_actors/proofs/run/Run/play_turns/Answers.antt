@@ -1,0 +1,29 @@
+-- The turns that are left make the rest of them all.
+use Rattle.std.proofs.Common.{drop, ap, sym, refl, ◌∙◌, ◌+◌, slice_index_or}
+use Rattle.hp_model.specs.ScriptTurns.{after_turns}
+use Rattle.hp_actors.proofs.Turning.{turn_left, seats_left, none_left, all_made, stands_at}
+use Rattle.hp_actors.proofs.run.Run.play_turns.Goals as goal
+
+pub loop-seat-preserved : goal.loop-seat-preserved
+loop-seat-preserved g c =
+    let i = c.loop-seat.invariant in
+    let e = c.in_ok-turn.ensures.ok in
+    let whole = after_turns c.args.self.now.head c.args.self.now.actors c.args.self.now.progress c.args.seats.now in
+    record {
+      head = ap (λ p. p.head) e ∙ i.head;
+      actors = ap (λ p. p.actors) e ∙ i.actors;
+      left =
+          turn_left c.args.self.now c.loop-seat.self c.turn.new.self (slice_index_or c.args.seats.now c.loop-seat.seat-index 0)
+          (drop (c.loop-seat.seat-index + 1) c.args.seats.now) whole i.head i.actors
+          (ap (after_turns c.args.self.now.head c.args.self.now.actors c.loop-seat.self.progress)
+          (sym (seats_left c.args.seats.now c.loop-seat.seat-index (slice_index_or c.args.seats.now c.loop-seat.seat-index 0) c.loop-seat-test.true refl))
+          ∙ i.left) e;
+    }
+
+pub returns-clause-ok : goal.returns-clause-ok
+returns-clause-ok g c =
+    let i = c.loop-seat.invariant in
+    stands_at c.args.self.now c.loop-seat.self c.args.seats.now i.head i.actors
+    (all_made c.args.self.now.head c.args.self.now.actors c.loop-seat.self.progress
+    (after_turns c.args.self.now.head c.args.self.now.actors c.args.self.now.progress c.args.seats.now)
+    (drop c.loop-seat.seat-index c.args.seats.now) (none_left c.args.seats.now c.loop-seat.seat-index c.loop-seat-test.false) i.left)

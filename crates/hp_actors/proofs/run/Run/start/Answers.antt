@@ -1,0 +1,40 @@
+-- The run is at its start.
+use Rattle.std.proofs.Common.{[], length, replicate, ap, ◌∙◌}
+use Rattle.hp_model.specs.Processors.{present}
+use Rattle.hp_model.specs.Run.{admissions}
+use Rattle.hp_actors.proofs.Opening.{Opened, opened_position, opened_playing}
+use Rattle.hp_actors.proofs.run.Run.start.Goals as goal
+
+pub invariant_of-result : goal.invariant_of-result
+invariant_of-result g c =
+    let o : Opened c.in_ok-board.board c.present_count-threads.result c.in_ok-actors.actors.items c.args.script.now.head c.args.script.now.actors =
+    record {
+      script = c.requires.script;
+      head_is = c.in_ok-board.ensures.head ∙ c.head.ensures;
+      events_are =
+          c.in_ok-board.ensures.events
+          ∙ (ap (λ h. admissions h (replicate c.actors.result [])) c.head.ensures
+          ∙ ap (λ n. admissions c.args.script.now.head (replicate n [])) c.actors.ensures.count);
+      threads_are = c.present_count-threads.ensures ∙ ap (λ h. length (present h)) c.head-2.ensures;
+      ops_are = c.in_ok-actors.ensures.ops;
+      fresh = c.in_ok-actors.ensures.fresh;
+      none_yet = c.in_ok-board.ensures.none;
+    } in
+    opened_playing c.in_ok-board.board c.present_count-threads.result c.in_ok-actors.actors.items c.args.script.now.head c.args.script.now.actors o
+
+pub returns-clause-started : goal.returns-clause-started
+returns-clause-started g c =
+    let o : Opened c.in_ok-board.board c.present_count-threads.result c.in_ok-actors.actors.items c.args.script.now.head c.args.script.now.actors =
+    record {
+      script = c.requires.script;
+      head_is = c.in_ok-board.ensures.head ∙ c.head.ensures;
+      events_are =
+          c.in_ok-board.ensures.events
+          ∙ (ap (λ h. admissions h (replicate c.actors.result [])) c.head.ensures
+          ∙ ap (λ n. admissions c.args.script.now.head (replicate n [])) c.actors.ensures.count);
+      threads_are = c.present_count-threads.ensures ∙ ap (λ h. length (present h)) c.head-2.ensures;
+      ops_are = c.in_ok-actors.ensures.ops;
+      fresh = c.in_ok-actors.ensures.fresh;
+      none_yet = c.in_ok-board.ensures.none;
+    } in
+    opened_position c.in_ok-board.board c.present_count-threads.result c.in_ok-actors.actors.items c.args.script.now.head c.args.script.now.actors o

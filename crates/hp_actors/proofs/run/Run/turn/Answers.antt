@@ -1,0 +1,92 @@
+-- A turn of the run is the model's.
+use Rattle.std.proofs.Common.{◌≡◌, ℕ, ◌<◌, ◌≤◌, ◌+◌, ◌-◌, OnOk, OnErr, map, set, refl, ap, sym, subst, arith, length, Some}
+use Rattle.std.specs.Prelude.{slice_get}
+use Rattle.std.proofs.lemmas.Option.{slice_get_read}
+use Rattle.hp_actors.proofs.Playing.{lawful_of, allowed_of, turn_playing_at, turn_position_at, failed_position, no_seat}
+use Rattle.hp_model.specs.Pending.{IsAllowed}
+use Rattle.hp_model.specs.ScriptTurns.{Progress, turn}
+use Rattle.hp_actors.specs.Asking.{HasHooks}
+use Rattle.hp_actors.specs.Positions.{Position, position_of, ops_of}
+use Rattle.hp_actors.proofs.run.Run.turn.Goals as goal
+
+pub returns-then-place-len-clause-ok : goal.returns-then-place-len-clause-ok
+returns-then-place-len-clause-ok g c =
+    let b = c.self.inside.board in
+    let past : c.self.inside.threads + length c.self.inside.actors.items ≤ c.args.seat = omega arith in
+    subst (λ (z : Position). z ≡ record { head = z.head; actors = z.actors; progress = turn z.head z.actors z.progress c.args.seat })
+    c.self.view_is
+    (ap (λ (q : Progress). record { head = b.head; actors = map ops_of c.self.inside.actors.items; progress = q })
+    (sym (no_seat b c.self.inside.threads c.self.inside.actors.items c.args.seat c.self.invariant past)))
+
+pub turn-requires-clause-allowed : goal.turn-requires-clause-allowed
+turn-requires-clause-allowed g c =
+    let threads : ℕ = c.self.inside.threads in
+    let place : ℕ = c.args.seat - threads in
+    let actors = c.self.inside.actors.items in
+    let below : place < length actors = omega arith in
+    let here : threads + place ≡ c.args.seat = omega arith in
+    let at : slice_get actors place ≡ Some c.index_mut.result.now =
+    slice_get_read actors (length actors) place c.index_mut.result.now refl below c.index_mut.ensures.value in
+    λ ask asks.
+    subst (λ (k : ℕ). IsAllowed c.self.inside.board.head c.self.inside.board.events (record { seat = k; op = ask.op })) here
+    (allowed_of c.self.inside.board threads actors place c.index_mut.result.now ask c.self.invariant at asks)
+
+pub turn-requires-clause-hooks : goal.turn-requires-clause-hooks
+turn-requires-clause-hooks g c =
+    let threads : ℕ = c.self.inside.threads in
+    let place : ℕ = c.args.seat - threads in
+    let actors = c.self.inside.actors.items in
+    let below : place < length actors = omega arith in
+    let here : threads + place ≡ c.args.seat = omega arith in
+    let at : slice_get actors place ≡ Some c.index_mut.result.now =
+    slice_get_read actors (length actors) place c.index_mut.result.now refl below c.index_mut.ensures.value in
+    subst (λ (k : ℕ). HasHooks c.self.inside.board.events k c.index_mut.result.now) here
+    (c.self.invariant.hooks place c.index_mut.result.now at)
+
+pub turn-requires-clause-lawful : goal.turn-requires-clause-lawful
+turn-requires-clause-lawful g c = lawful_of c.self.inside.board c.self.inside.threads c.self.inside.actors.items c.self.invariant
+
+pub invariant_of-self : goal.invariant_of-self
+invariant_of-self g c =
+    let threads : ℕ = c.self.inside.threads in
+    let place : ℕ = c.args.seat - threads in
+    let actors = c.self.inside.actors.items in
+    let below : place < length actors = omega arith in
+    let here : threads + place ≡ c.args.seat = omega arith in
+    let at : slice_get actors place ≡ Some c.index_mut.result.now =
+    slice_get_read actors (length actors) place c.index_mut.result.now refl below c.index_mut.ensures.value in
+    turn_playing_at c.turn.result c.self.inside.board c.turn.new.board actors threads place c.args.seat c.index_mut.result.now
+    c.turn.new.self here c.self.invariant at c.turn.ensures.head c.turn.ensures.events c.turn.ensures.answered c.turn.ensures.ops
+    c.turn.ensures.hooks c.turn.ensures.kept c.turn.ensures.err
+
+pub returns-clause-ok : goal.returns-clause-ok
+returns-clause-ok g c =
+    let threads : ℕ = c.self.inside.threads in
+    let place : ℕ = c.args.seat - threads in
+    let actors = c.self.inside.actors.items in
+    let below : place < length actors = omega arith in
+    let here : threads + place ≡ c.args.seat = omega arith in
+    let at : slice_get actors place ≡ Some c.index_mut.result.now =
+    slice_get_read actors (length actors) place c.index_mut.result.now refl below c.index_mut.ensures.value in
+    let b = c.self.inside.board in
+    subst (λ (z : Position).
+    OnOk c.turn.result
+    (position_of c.turn.new.board (set actors place c.turn.new.self)
+    ≡ record { head = z.head; actors = z.actors; progress = turn z.head z.actors z.progress c.args.seat }))
+    c.self.view_is
+    (turn_position_at c.turn.result b c.turn.new.board actors threads place c.args.seat c.index_mut.result.now
+    c.turn.new.self here c.self.invariant at c.turn.ensures.head c.turn.ensures.events c.turn.ensures.answered c.turn.ensures.ops
+    c.turn.ensures.hooks c.turn.ensures.kept)
+
+pub returns-clause-err : goal.returns-clause-err
+returns-clause-err g c =
+    let threads : ℕ = c.self.inside.threads in
+    let place : ℕ = c.args.seat - threads in
+    let actors = c.self.inside.actors.items in
+    let below : place < length actors = omega arith in
+    let here : threads + place ≡ c.args.seat = omega arith in
+    let at : slice_get actors place ≡ Some c.index_mut.result.now =
+    slice_get_read actors (length actors) place c.index_mut.result.now refl below c.index_mut.ensures.value in
+    subst (λ (z : Position). OnErr c.turn.result (position_of c.turn.new.board (set actors place c.turn.new.self) ≡ z)) c.self.view_is
+    (failed_position c.turn.result c.self.inside.board c.turn.new.board actors place c.index_mut.result.now c.turn.new.self at
+    c.turn.ensures.ops c.turn.ensures.err)

@@ -1,0 +1,42 @@
+-- Each actor takes the hooks of its setups.
+use Rattle.std.proofs.Common.{◌≡◌, ◌+◌, take, subst, [], ◌∷◌, ◌++◌, map, ap, sym, ◌∙◌, arith}
+use Rattle.std.proofs.lemmas.List.{map-append}
+use Rattle.std.proofs.lemmas.List.Elements.{All-push}
+use Rattle.hp_actors.specs.Positions.{ops_of}
+use Rattle.hp_actors.specs.Racks.{AreLoaded, IsFresh}
+use Rattle.hp_script.specs.Playable.{setups_in}
+use Rattle.std.specs.List.{sum_by}
+use Rattle.hp_actors.proofs.Taking.{actors_left, actors_met, take_next, takes_both, takes_length}
+use Rattle.hp_actors.proofs.start.actors_of.Goals as goal
+
+pub new-requires : goal.new-requires
+new-requires g c =
+    let left = actors_left c.args.script.now.actors c.loop-number.number c.ops.result.now c.ops.ensures in
+    omega (arith, left, c.loop-number.invariant.left)
+
+pub loop-number-preserved : goal.loop-number-preserved
+loop-number-preserved g c =
+    let i = c.loop-number.invariant in
+    let e = c.in_ok-new.ensures in
+    let pushed = c.in_ok-push.ensures.items in
+    record {
+      ops =
+          ap (map ops_of) pushed
+          ∙ (map-append ops_of c.loop-number.actors.items (c.in_ok-new.field-0 ∷ [])
+          ∙ (ap (λ z. z ++ ops_of c.in_ok-new.field-0 ∷ []) i.ops
+          ∙ (ap (λ z. take c.loop-number.number c.args.script.now.actors ++ z ∷ []) e.ops
+          ∙ sym (take_next c.args.script.now.actors c.loop-number.number c.ops.result.now c.ops.ensures))));
+      fresh =
+          subst IsFresh (sym pushed)
+          (All-push (λ actor. (actor.answered ≡ 0) × AreLoaded actor.asks.items) c.loop-number.actors.items c.in_ok-new.field-0 i.fresh
+          (e.answered, e.loaded));
+      left =
+          let left = actors_left c.args.script.now.actors c.loop-number.number c.ops.result.now c.ops.ensures in
+          let r = takes_length c.loop-number.rack.hooks.items c.new.new.rack.hooks.items (setups_in c.ops.result.now) e.rack in
+          omega (arith, left, r, i.left);
+      taken =
+          takes_both c.args.rack.now.hooks.items c.loop-number.rack.hooks.items c.new.new.rack.hooks.items
+          (sum_by setups_in (take c.loop-number.number c.args.script.now.actors)) (setups_in c.ops.result.now)
+          (sum_by setups_in (take (c.loop-number.number + 1) c.args.script.now.actors)) i.taken e.rack
+          (actors_met c.args.script.now.actors c.loop-number.number c.ops.result.now c.ops.ensures);
+    }

@@ -1,0 +1,4 @@
+pub mod Positions
+pub mod Asking
+pub mod Turned
+pub mod Racks

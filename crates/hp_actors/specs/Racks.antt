@@ -1,0 +1,38 @@
+-- The hooks of a rack that setups take, and those that come back. This project's own.
+use Rattle.std.specs.Prelude.{◌≡◌, ℕ, ◌+◌, is_some, Option, List, ◌++◌, map, length, All}
+use Rattle.std.specs.List.{sum_by}
+use Rattle.hp_board.specs.HookCount.{hook_count, held}
+use Rattle.hp_board.specs.declared.turn.Ask.{Ask}
+use Rattle.hp_hook.specs.Counted.{Kept as Counts}
+use Rattle.hp_table.specs.Step.{Step}
+use Rattle.hp_ledger.specs.TableChanges.{is_setup}
+use Rattle.hp_actors.specs.declared.actor.Actor.{Actor}
+
+-- each setup has its hook, and nothing else has one
+abbrev pub AreLoaded : {H : Type 0} → List (Ask H) → Type 0
+AreLoaded asks = All (λ ask. is_some ask.hook ≡ is_setup ask.op) asks
+
+-- actors of which nothing is answered, with their hooks
+abbrev pub IsFresh : {H : Type 0} → List (Actor H) → Type 0
+IsFresh actors = All (λ actor. (actor.answered ≡ 0) × AreLoaded actor.asks.items) actors
+
+-- the hooks that are with an actor
+abbrev pub hooks_with : {H : Type 0} → Actor H → ℕ
+hooks_with actor = sum_by (λ ask. held (is_some ask.hook)) actor.asks.items
+
+-- those that are with the machine and with all actors
+abbrev pub hooks_in : {H : Type 0} → (places : List (Option Step)) → List (Actor H) → ℕ
+hooks_in places actors = hook_count places + sum_by hooks_with actors
+
+-- so many of the last hooks were taken
+pub record Takes {H : Type 0} (old new : List H) (count : ℕ) : Type 0 where
+  pub taken : List H
+  pub old_is : old ≡ new ++ taken
+  pub count_is : length taken ≡ count
+
+-- the last hooks have these counts
+pub record EndsWith {H : Type 0} (seen : H → Counts) (hooks : List H) (last : List Counts) : Type 0 where
+  pub front : List H
+  pub back : List H
+  pub hooks_are : hooks ≡ front ++ back
+  pub last_are : map seen back ≡ last

@@ -1,0 +1,91 @@
+//! The end of a run.
+
+ghost use Rattle.std.specs.Prelude.{◌≡◌, ◌+◌, true, is_some, None, OnOk, length, sum_by};
+ghost use Rattle.hp_board.specs.HookCount.{held};
+ghost use Rattle.hp_script.specs.Playable.{setups_in};
+ghost use Rattle.hp_board.specs.Retired.{registered_hooks};
+ghost use Rattle.hp_model.specs.MapLock.{operation};
+ghost use Rattle.hp_model.specs.Registrations.{registration};
+ghost use Rattle.hp_model.specs.ScriptRun.{is_over};
+ghost use Rattle.hp_actors.specs.Racks.{EndsWith, hooks_with};
+
+use crate::actor::Actor;
+use crate::run::Run;
+use hp_board::{Ask, Board};
+use hp_hook::{Hook, Rack};
+use hp_states::NoMemory;
+
+impl<H: Hook> Run<H> {
+    /// The machine as it stands, at any time. Takes no memory. This project's own.
+    pub fn board(&self) -> &Board<H>
+        ensures head { result.now.head ≡ self.now.head }
+        ensures events { result.now.events ≡ self.now.progress.events }
+    {
+        let _ = &self.threads;
+        &self.board
+    }
+
+    /// What holds where every operation is answered: nothing is in flight.
+    ///
+    /// Every operation is answered. Does nothing, and takes no memory. This project's own.
+    pub fn rests(&self)
+        requires { is_over self.now.actors self.now.progress ≡ true }
+        ensures operation { operation self.now.progress.events ≡ None }
+        ensures registration { registration self.now.progress.events ≡ None }
+    {
+        let _ = &self.threads;
+    }
+
+    /// Gives the run up: its hooks go behind those of the rack, first those that came back, and last those of
+    /// the registered states, in rising state. No hook is lost: those of all setups are there.
+    ///
+    /// Every operation is answered. The rack may be any. Takes memory for places in it; where that is wanting, some
+    /// hooks are lost: `NoMemory`. This project's own.
+    pub fn finish(self, rack: &mut Rack<H>) -> Result<(), NoMemory>
+        requires { is_over self.actors self.progress ≡ true }
+        ensures last { OnOk result (EndsWith
+            (λ h. record { plan = H.plan h; seen = H.seen h; made = H.made h; faults = H.faults h })
+            rack.new.hooks.items (registered_hooks self.head self.progress.events)) }
+        ensures all { OnOk result (
+            length rack.new.hooks.items ≡ length rack.old.hooks.items + sum_by setups_in self.actors) }
+    {
+        self.rests();
+        let Run { board, actors, .. } = self;
+        give_back(actors, rack)?;
+        match board.retire(rack) {
+            Ok(_) => Ok(()),
+            Err(_) => Err(NoMemory),
+        }
+    }
+}
+
+/// Puts the hooks that actors have behind those of the rack.
+fn give_back<H: Hook>(actors: Vec<Actor<H>>, rack: &mut Rack<H>) -> Result<(), NoMemory>
+    ensures { OnOk result (length rack.new.hooks.items ≡ length rack.old.hooks.items + sum_by hooks_with actors.items) }
+{
+    for actor in actors {
+        give_asks(actor.asks, rack)?;
+    }
+    Ok(())
+}
+
+/// Puts the hooks of operations behind those of the rack.
+fn give_asks<H: Hook>(asks: Vec<Ask<H>>, rack: &mut Rack<H>) -> Result<(), NoMemory>
+    ensures { OnOk result (length rack.new.hooks.items
+        ≡ length rack.old.hooks.items + sum_by (λ ask. held (is_some ask.hook)) asks.items) }
+{
+    for ask in asks {
+        give_hook(ask.hook, rack)?;
+    }
+    Ok(())
+}
+
+/// Puts a hook, if there is one, behind those of the rack.
+fn give_hook<H: Hook>(hook: Option<H>, rack: &mut Rack<H>) -> Result<(), NoMemory>
+    ensures { OnOk result (length rack.new.hooks.items ≡ length rack.old.hooks.items + held (is_some hook)) }
+{
+    if let Some(hook) = hook {
+        rack.hooks.push(hook)?;
+    }
+    Ok(())
+}

@@ -1,0 +1,27 @@
+//! The run of a script: its actors on a machine, in the interleaving of its schedule.
+//!
+//! `Run::start` seats the thread of each present processor and a client for each actor, and gives each
+//! setup a hook of a rack. `play` makes the turns of the schedule, and then rounds until every operation is
+//! answered; `turn` makes one turn of any seat. `board` shows the machine, `rests` says what holds where all
+//! is answered, and `finish` gives the run up: its hooks go back to the rack.
+//!
+//! Contracts see how far a run has come, as a `Position` (`specs/Positions.antt`); what a turn, a round and
+//! a schedule make of it say hp_model's `ScriptTurns`, `ScriptRun` and `Schedule`. `Racks.antt` says which
+//! hooks setups take, and which come last at the end. `Turned.antt` and `Asking.antt` are for the clauses of
+//! the code: what an actor's turn makes, and what holds of a run between two turns.
+//!
+//! The code goes from one actor to the whole: `actor`, `seating` and `start`, `run` for one turn of any
+//! seat, `rounds`, `schedule`, `finish`.
+#![tactic(auto)]
+
+mod actor;
+mod finish;
+mod rounds;
+mod run;
+mod schedule;
+mod seating;
+mod start;
+#[cfg(test)]
+mod tests;
+
+pub use run::Run;

@@ -1,0 +1,101 @@
+//! Rounds: one turn of each seat, in rising number.
+
+ghost use Rattle.std.specs.Prelude.{◌≡◌, ℕ, ◌+◌, ◌<◌, ◌≤◌, IfSome, None, OnOk, List, length, true};
+ghost use Rattle.std.specs.Option.{unwrap_or};
+ghost use Rattle.hp_model.specs.Lists.{numbers};
+ghost use Rattle.hp_model.specs.NextEvent.{due_entry};
+ghost use Rattle.hp_model.specs.Processors.{present};
+ghost use Rattle.hp_model.specs.ScriptRun.{start, is_over, after_round, IsRun};
+ghost use Rattle.hp_model.specs.ScriptTurns.{after_turns};
+
+use crate::run::Run;
+use hp_hook::Hook;
+use hp_states::NoMemory;
+
+impl<H: Hook> Run<H> {
+    /// Rounds, until every operation is answered.
+    ///
+    /// Takes memory as turns do; where that is wanting the run stands where it came: `NoMemory`.
+    pub(crate) fn play_rounds(&mut self) -> Result<(), NoMemory>
+        ensures ran { (seats : List ℕ) →
+            self.old.progress ≡ after_turns self.old.head self.old.actors (start self.old.head self.old.actors) seats →
+            OnOk result (IsRun self.old.head self.old.actors seats self.new.progress.events) }
+        ensures head { self.new.head ≡ self.old.head }
+        ensures actors { self.new.actors ≡ self.old.actors }
+        ensures over { OnOk result (is_over self.new.actors self.new.progress ≡ true) }
+    {
+        self.sound();
+        while !self.is_over() {
+            self.round()?;
+            self.sound();
+        }
+        Ok(())
+    }
+
+    /// One turn of each seat, in rising number.
+    ///
+    /// Takes memory as turns do; where that is wanting the run stands where it came: `NoMemory`.
+    fn round(&mut self) -> Result<(), NoMemory>
+        ensures ok { OnOk result (self.new
+            ≡ record self.old { progress = after_round self.old.head self.old.actors self.old.progress }) }
+        ensures head { self.new.head ≡ self.old.head }
+        ensures actors { self.new.actors ≡ self.old.actors }
+    {
+        self.serve_threads();
+        let (first, last) = self.actors_seats();
+        for seat in first..last {
+            self.turn(seat)?;
+        }
+        Ok(())
+    }
+
+    /// The seat of the first actor, and the number after that of the last.
+    pub(crate) fn actors_seats(&self) -> (u32, u32)
+        ensures first { result.0 ≡ length (present self.now.head) }
+        ensures last { result.1 ≡ length (present self.now.head) + length self.now.actors }
+    {
+        (self.threads, self.threads + self.actors.len() as u32)
+    }
+
+    /// One turn of each thread's seat, in rising number. Those that have nothing to make are passed over.
+    ///
+    /// Takes no memory.
+    fn serve_threads(&mut self)
+        ensures { self.new
+            ≡ record self.old {
+              progress = after_turns self.old.head self.old.actors self.old.progress
+                  (numbers (length (present self.old.head)));
+            } }
+    {
+        let mut next = 0;
+        while let Some(seat) = self.next_due(next) {
+            self.serve(seat);
+            next = seat + 1;
+        }
+    }
+
+    /// The first thread's seat from a number on that an entry is due from, if there is one. Takes no memory.
+    fn next_due(&self, next: u32) -> Option<u32>
+        ensures seat { IfSome result (λ seat. (next ≤ seat) × (seat < length (present self.now.head))) }
+        ensures counted { IfSome result (λ seat. seat < u32.MAX) }
+        ensures idle { (seat : ℕ) → next ≤ seat → seat < unwrap_or result (length (present self.now.head)) →
+            due_entry self.now.head self.now.progress.events seat ≡ None }
+    {
+        match self.board.due_seat() {
+            Some(seat) if next <= seat && seat < self.threads => Some(seat),
+            _ => None,
+        }
+    }
+
+    /// Whether every operation is answered. Takes no memory.
+    pub(crate) fn is_over(&self) -> bool
+        ensures { result ≡ is_over self.now.actors self.now.progress }
+    {
+        for actor in self.actors.as_slice() {
+            if !actor.is_done() {
+                return false;
+            }
+        }
+        true
+    }
+}

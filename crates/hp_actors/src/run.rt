@@ -1,0 +1,80 @@
+//! The run of a script.
+
+ghost use Rattle.std.specs.Prelude.{◌≡◌, ◌<◌, OnOk, OnErr, length};
+ghost use Rattle.hp_model.specs.Processors.{present};
+ghost use Rattle.hp_model.specs.ScriptTurns.{turn};
+ghost use Rattle.hp_actors.specs.Asking.{IsReached};
+ghost use Rattle.hp_model.specs.Scripts.{IsScript};
+
+use crate::actor::Actor;
+use hp_board::Board;
+use hp_hook::Hook;
+use hp_states::NoMemory;
+use std::marker::Model;
+
+/// A run of a script: the machine, and the actors whose turns come.
+///
+/// Contracts see the script's head, the operations of each actor, and how far the run has come
+/// (`Position`): the events so far, and how many operations of each actor are answered. The script is one that
+/// can be played, and turns of its seats made the run at any time.
+#[derive(Drop)]
+pub struct Run<H: Hook> {
+    pub(crate) board: Board<H>,
+    /// How many threads there are: their seats come before those of the actors.
+    pub(crate) threads: u32,
+    pub(crate) actors: Vec<Actor<H>>,
+}
+
+impl<H: Hook> Model for Run<H> {
+    ghost use Rattle.hp_actors.specs.Asking.{IsPlaying};
+    ghost use Rattle.hp_actors.specs.Positions.{Position, position_of};
+
+    ghost Value = { Position };
+
+    ghost view = { λ r. position_of r.board r.actors.items };
+
+    ghost invariant = { λ r. IsPlaying r.board r.threads r.actors.items };
+}
+
+impl<H: Hook> Run<H> {
+    /// What holds of a run at any time. Does nothing.
+    pub(crate) fn sound(&self)
+        ensures script { IsScript self.now.head self.now.actors }
+        ensures reached { IsReached self.now.head self.now.actors self.now.progress }
+    {
+        let _ = &self.threads;
+    }
+
+    /// One turn of a thread's seat: it makes the entry that is due from it, if one is. Takes no memory.
+    pub(crate) fn serve(&mut self, seat: u32)
+        requires { seat < length (present self.old.head) }
+        ensures { self.new
+            ≡ record self.old { progress = turn self.old.head self.old.actors self.old.progress seat } }
+    {
+        self.board.serve(seat);
+    }
+
+    /// One turn of a seat: the thread of a processor makes the entry that is due from it, an actor goes on with
+    /// its first operation that isn't answered, if there is one, and a number that is no seat does nothing.
+    ///
+    /// The seat may be any number: first come the threads of the present processors, in rising number, and
+    /// after them the actors. What the seat waits for leaves the run as it was, which is no error.
+    ///
+    /// Takes memory for a first event and for the begin of a walk; where that is wanting the run is as before:
+    /// `NoMemory`. Turns are this project's own.
+    pub fn turn(&mut self, seat: u32) -> Result<(), NoMemory>
+        ensures ok { OnOk result (self.new
+            ≡ record self.old { progress = turn self.old.head self.old.actors self.old.progress seat }) }
+        ensures err { OnErr result (self.new ≡ self.old) }
+    {
+        if seat < self.threads {
+            self.serve(seat);
+            return Ok(());
+        }
+        let place = (seat - self.threads) as usize;
+        if place >= self.actors.len() {
+            return Ok(());
+        }
+        self.actors[place].turn(&mut self.board, seat)
+    }
+}

@@ -1,0 +1,82 @@
+//! The turns of a schedule.
+
+ghost use Rattle.std.specs.Prelude.{◌≡◌, ◌+◌, OnOk, length, true};
+ghost use Rattle.hp_model.specs.Processors.{present};
+ghost use Rattle.hp_model.specs.Schedule.{IsRunBy, first_turns, mix};
+ghost use Rattle.hp_model.specs.ScriptRun.{start, is_over};
+ghost use Rattle.hp_model.specs.ScriptTurns.{after_turns};
+ghost use Rattle.hp_script.specs.Schedules.{schedule_written};
+
+use crate::run::Run;
+use hp_hook::Hook;
+use hp_script::{Draws, Schedule};
+use hp_states::NoMemory;
+
+impl<H: Hook> Run<H> {
+    /// The whole run: the turns of the script's schedule, and then rounds until every operation is answered.
+    ///
+    /// The run is at its start. Takes memory as turns do; where that is wanting the run stands where it came:
+    /// `NoMemory`. Schedules are this project's own.
+    pub fn play(&mut self, schedule: &Schedule) -> Result<(), NoMemory>
+        requires { self.old.progress ≡ start self.old.head self.old.actors }
+        ensures ran { OnOk result (IsRunBy self.old.head self.old.actors
+            (schedule_written schedule.now) self.new.progress.events) }
+        ensures head { self.new.head ≡ self.old.head }
+        ensures actors { self.new.actors ≡ self.old.actors }
+        ensures over { OnOk result (is_over self.new.actors self.new.progress ≡ true) }
+    {
+        self.play_schedule(schedule)?;
+        self.play_rounds()
+    }
+
+    /// The turns of a schedule, before the rounds.
+    fn play_schedule(&mut self, schedule: &Schedule) -> Result<(), NoMemory>
+        ensures ok { OnOk result (self.new
+            ≡ record self.old {
+              progress = after_turns self.old.head self.old.actors self.old.progress
+                  (first_turns (length (present self.old.head) + length self.old.actors)
+                  (schedule_written schedule.now));
+            }) }
+        ensures head { self.new.head ≡ self.old.head }
+        ensures actors { self.new.actors ≡ self.old.actors }
+    {
+        match schedule {
+            Schedule::Rounds => Ok(()),
+            Schedule::Turns(seats) => self.play_turns(seats.as_slice()),
+            Schedule::Mix { seed, turns } => self.play_drawn(*seed, *turns),
+        }
+    }
+
+    /// One turn of each of some seats, in their order.
+    fn play_turns(&mut self, seats: &[u32]) -> Result<(), NoMemory>
+        ensures ok { OnOk result (self.new
+            ≡ record self.old { progress = after_turns self.old.head self.old.actors self.old.progress seats.now }) }
+        ensures head { self.new.head ≡ self.old.head }
+        ensures actors { self.new.actors ≡ self.old.actors }
+    {
+        for seat in seats {
+            self.turn(*seat)?;
+        }
+        Ok(())
+    }
+
+    /// So many turns of seats that are drawn from a seed.
+    fn play_drawn(&mut self, seed: u64, turns: u32) -> Result<(), NoMemory>
+        ensures ok { OnOk result (self.new
+            ≡ record self.old {
+              progress = after_turns self.old.head self.old.actors self.old.progress
+                  (first_turns (length (present self.old.head) + length self.old.actors) (mix seed turns));
+            }) }
+        ensures head { self.new.head ≡ self.old.head }
+        ensures actors { self.new.actors ≡ self.old.actors }
+    {
+        self.sound();
+        let (_, seats) = self.actors_seats();
+        let mut draws = Draws::new(seed);
+        for _ in 0..turns {
+            let seat = draws.draw(seats);
+            self.turn(seat)?;
+        }
+        Ok(())
+    }
+}

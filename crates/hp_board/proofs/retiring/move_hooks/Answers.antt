@@ -1,0 +1,25 @@
+use Rattle.std.proofs.Common.{◌≢◌, ◌<◌, ◌≤◌, ◌∙◌, length, arith}
+use Rattle.hp_board.proofs.HooksRetired.{racked_put}
+use Rattle.hp_board.proofs.retiring.move_hooks.Goals as goal
+
+pub loop-state-preserved : goal.loop-state-preserved
+loop-state-preserved g c =
+    let k = c.loop-state.state in
+    let here : k ≤ k = omega arith in
+    let states = c.sound.ensures.states in
+    let test = c.loop-state-test.true in
+    let below : k < length c.args.table = omega (arith, test, states) in
+    let room = c.loop-state.invariant.room in
+    let more = c.put.ensures.length in
+    let places = c.put.ensures.places in
+    record {
+      same = λ s from.
+          let other : s ≢ k = λ is. absurd (omega (arith, is, from)) in
+          let above : k ≤ s = omega (arith, from) in
+          c.take_hook.ensures.others s other ∙ c.loop-state.invariant.same s above;
+      room = omega (arith, room, more, places);
+      racked =
+          racked_put _ _ _ _ c.args.table k c.take_hook.result _ below (c.loop-state.invariant.same k here)
+          c.loop-state.invariant.racked c.take_hook.ensures.hook c.take_hook.ensures.none
+          c.put.ensures.some c.put.ensures.none;
+    }

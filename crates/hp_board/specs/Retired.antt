@@ -1,0 +1,71 @@
+-- The hooks of a board that is given up: those of the registered states, in rising number, each as often called as the journal says.
+-- This project's own.
+use Rattle.std.specs.Prelude.{◌≡◌, ℕ, ◌+◌, Option, Some, None, List, [], ◌∷◌, ◌++◌, map, length}
+use Rattle.std.specs.List.{flat_map}
+use Rattle.hp_states.specs.declared.limits.TheConstants.{ONLINE}
+use Rattle.hp_states.specs.declared.plan.Rule.{Rule}
+use Rattle.hp_states.specs.Rules.{counts_of}
+use Rattle.hp_event.specs.declared.event.Event.{Event}
+use Rattle.hp_event.specs.declared.head.Head.{Head}
+use Rattle.hp_event.specs.declared.head.Sub.{Sub}
+use Rattle.hp_hook.specs.Counted.{Kept as Counts}
+use Rattle.hp_model.specs.Calls.{sites}
+use Rattle.hp_model.specs.Lists.{numbers}
+use Rattle.hp_model.specs.Registered.{Registered, registered}
+use Rattle.hp_model.specs.Subsystems.{sub_numbered}
+use Rattle.hp_model.specs.Summary.{hook_faults}
+use Rattle.hp_table.specs.Step.{Step}
+
+-- what the hook of a place has counted
+abbrev pub hook_at : Option Step → List Counts
+hook_at None = []
+hook_at (Some step) =
+    record { plan = step.kept.plan; seen = step.kept.seen; made = step.kept.made; faults = step.kept.faults } ∷ []
+
+-- and those of all places, in rising state
+abbrev pub hooks_of : List (Option Step) → List Counts
+hooks_of places = flat_map hook_at places
+
+abbrev pub plan_of : Option Sub → List Rule
+plan_of None = []
+plan_of (Some sub) = sub.plan
+
+-- what a hook with this plan has counted of the calls at a state since its setup began
+abbrev pub counts_by : (plan : List Rule) → List Event → (state : ℕ) → Counts
+counts_by plan events s =
+    record {
+      plan = plan;
+      seen = counts_of plan (sites s events);
+      made = length (sites s events);
+      faults = hook_faults s events;
+    }
+
+abbrev pub hook_if : Head → List Event → (state : ℕ) → Option Registered → List Counts
+hook_if head events s None = []
+hook_if head events s (Some r) = counts_by (plan_of (sub_numbered head r.sub)) events s ∷ []
+
+-- the hook of a state that is registered, by the journal alone: it has the plan of its subsystem
+abbrev pub registered_hook : Head → List Event → (state : ℕ) → List Counts
+registered_hook head events s = hook_if head events s (registered head s events)
+
+-- those of all registered states, in rising number
+unfoldable pub registered_hooks : Head → List Event → List Counts
+registered_hooks head events = flat_map (registered_hook head events) (numbers (ONLINE + 1))
+
+-- hooks with these counts were put behind those that were there
+pub record IsRacked {H : Type 0} (seen : H → Counts) (old new : List H) (hooks : List Counts) : Type 0 where
+  pub added : List H
+  pub behind : new ≡ old ++ added
+  pub are : map seen added ≡ hooks
+
+abbrev pub calls_if : (calls : ℕ) → Option Registered → List ℕ
+calls_if n None = []
+calls_if n (Some r) = n ∷ []
+
+-- how often the callbacks of a state were called since its setup, where it is registered
+abbrev pub calls_at : Head → List Event → (state : ℕ) → List ℕ
+calls_at head events s = calls_if (length (sites s events)) (registered head s events)
+
+-- of the registered states, in rising number
+unfoldable pub calls_of_registered : Head → List Event → List ℕ
+calls_of_registered head events = flat_map (calls_at head events) (numbers (ONLINE + 1))

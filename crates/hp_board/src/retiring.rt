@@ -1,0 +1,95 @@
+//! The end of a board.
+
+ghost use Rattle.std.specs.Prelude.{◌≡◌, ◌≢◌, ◌+◌, ◌<◌, ◌≤◌, ℕ, None, Some, [], ◌∷◌, ◌++◌, IfOk, IfErr, IfSome, IfNone, OnOk, OnErr, map, vec_len, vec_capacity};
+ghost use Rattle.hp_states.specs.declared.limits.TheConstants.{ONLINE};
+ghost use Rattle.hp_board.specs.Retired.{IsRacked, hook_at, hooks_of, registered_hooks, calls_of_registered};
+ghost use Rattle.hp_model.specs.Registrations.{registration};
+ghost use Rattle.hp_table.specs.Instances.{instances_at};
+ghost use Rattle.hp_table.specs.Step.{step_at};
+
+use crate::board::Board;
+use hp_event::Journal;
+use hp_hook::{Hook, Rack};
+use hp_states::{NoMemory, ONLINE};
+use hp_table::Table;
+
+/// How many states there are: a table has a place for each.
+const STATES: usize = ONLINE as usize + 1;
+
+impl<H: Hook> Board<H> {
+    /// Gives the board up: its journal is answered, and its hooks go behind those of the rack, in rising
+    /// state.
+    ///
+    /// Each hook is as it stood, with its plan and its counts. While no registration is in flight they are
+    /// those of the registered states, and have counted the calls of the journal since each setup began;
+    /// while one is, the hook of a setup is among them too. What is in flight is left as it is.
+    /// - `NoMemory` where memory for places in the rack was wanting. The board is handed back as it was
+    ///   then, and the rack has the same hooks.
+    ///
+    /// Takes memory for places in the rack alone, and time for the states. This project's own.
+    pub fn retire(self, rack: &mut Rack<H>) -> Result<Journal, (NoMemory, Board<H>)>
+        ensures head { IfOk result (λ journal. journal.head ≡ self.head) }
+        ensures events { IfOk result (λ journal. journal.events ≡ self.events) }
+        ensures hooks { OnOk result (IsRacked
+            (λ h. record { plan = H.plan h; seen = H.seen h; made = H.made h; faults = H.faults h })
+            rack.old.hooks.items rack.new.hooks.items (hooks_of self.places)) }
+        ensures registered { OnOk result (registration self.events ≡ None → IsRacked
+            (λ h. record { plan = H.plan h; seen = H.seen h; made = H.made h; faults = H.faults h })
+            rack.old.hooks.items rack.new.hooks.items (registered_hooks self.head self.events)) }
+        ensures made { OnOk result (registration self.events ≡ None →
+            map (λ h. H.made h) rack.new.hooks.items
+            ≡ map (λ h. H.made h) rack.old.hooks.items ++ calls_of_registered self.head self.events) }
+        ensures err { IfErr result (λ refused. refused.1 ≡ self) }
+        ensures rack { OnErr result (rack.new.hooks.items ≡ rack.old.hooks.items) }
+    {
+        if rack.hooks.try_reserve(STATES).is_err() {
+            return Err((NoMemory, self));
+        }
+        let Board { ledger, table } = self;
+        table.sound();
+        move_hooks(table, &mut rack.hooks);
+        Ok(ledger.into_journal())
+    }
+}
+
+/// Moves the hooks of a table behind others, which have places for as many. Takes no memory.
+fn move_hooks<H: Hook>(table: Table<H>, hooks: &mut Vec<H>)
+    requires { vec_len hooks.old + (ONLINE + 1) ≤ vec_capacity hooks.old }
+    ensures { IsRacked
+        (λ h. record { plan = H.plan h; seen = H.seen h; made = H.made h; faults = H.faults h })
+        hooks.old.items hooks.new.items (hooks_of table) }
+{
+    table.sound();
+    let mut table = table;
+    for state in 0..ONLINE + 1 {
+        put(hooks, take_hook(&mut table, state));
+    }
+}
+
+/// Puts a hook, if there is one, behind others, which have a place for it. Takes no memory.
+fn put<H: Hook>(hooks: &mut Vec<H>, hook: Option<H>)
+    requires { vec_len hooks.old < vec_capacity hooks.old }
+    ensures some { IfSome hook (λ h. hooks.new.items ≡ hooks.old.items ++ h ∷ []) }
+    ensures none { IfNone hook (hooks.new.items ≡ hooks.old.items) }
+    ensures length { vec_len hooks.new ≤ vec_len hooks.old + 1 }
+    ensures places { vec_capacity hooks.new ≡ vec_capacity hooks.old }
+{
+    if let Some(hook) = hook {
+        hooks.push_reserved(hook);
+    }
+}
+
+/// Takes the hook of a state out of a table, with its instances, if one is registered there.
+fn take_hook<H: Hook>(table: &mut Table<H>, state: u32) -> Option<H>
+    ensures hook { IfSome result (λ h.
+        hook_at (step_at table.old state)
+        ≡ record { plan = H.plan h; seen = H.seen h; made = H.made h; faults = H.faults h } ∷ []) }
+    ensures none { IfNone result (hook_at (step_at table.old state) ≡ []) }
+    ensures others { (s : ℕ) → s ≢ state → step_at table.new s ≡ step_at table.old s }
+{
+    table.clear_instances(state);
+    match table.uninstall(state) {
+        Ok(record) => Some(record.hook),
+        Err(_) => None,
+    }
+}

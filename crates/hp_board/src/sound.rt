@@ -1,0 +1,23 @@
+//! What holds of a board at any time.
+
+ghost use Rattle.hp_ledger.specs.Table.{IsTableOf};
+ghost use Rattle.hp_model.specs.Lawful.{IsLawful};
+ghost use Rattle.hp_table.specs.Sound.{IsSound};
+
+use crate::board::Board;
+use hp_hook::Hook;
+
+impl<H: Hook> Board<H> {
+    /// What is so of every board, which callers cite: it does nothing.
+    ///
+    /// Its journal is lawful, what stands at each state is what the journal says, and the states are those
+    /// of a table, 201 in all. Takes no memory. This project's own.
+    pub fn sound(&self)
+        ensures lawful { IsLawful self.now.head self.now.events }
+        ensures table { IsTableOf self.now.head self.now.events self.now.places }
+        ensures places { IsSound self.now.places }
+    {
+        let _ = &self.ledger;
+        self.table.sound();
+    }
+}

@@ -1,0 +1,9 @@
+pub mod Reading
+pub mod OptionLaws
+pub mod CommandLaws
+pub mod ClapWords
+pub mod ClapRules
+pub mod ClapSteps
+pub mod ClapWalk
+pub mod ClapReads
+pub mod ClapTakes

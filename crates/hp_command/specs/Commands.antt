@@ -1,0 +1,30 @@
+-- The commands, by the words that ask for them. This project's own.
+use Rattle.std.specs.Prelude.{◌≡◌, ◌⊎◌, ℕ, List, [], ◌∷◌, codes}
+use Rattle.hp_command.specs.Options.{AreOptions}
+use Rattle.hp_command.specs.declared.command.Command.{Command}
+use Rattle.hp_command.specs.declared.command.Command.TheVariants.{Play, States, Replay, Gen, Bench}
+
+-- the first word of a command
+abbrev pub word_of : Command → List ℕ
+word_of Play = codes "play"
+word_of States = codes "states"
+word_of Replay = codes "replay"
+word_of (Gen options) = codes "gen"
+word_of (Bench options) = codes "bench"
+
+-- the words behind it: options for a generated script, and none else
+abbrev pub AreRest : Command → (rest : List (List ℕ)) → Type 0
+AreRest (Gen options) rest = AreOptions rest options
+AreRest (Bench options) rest = AreOptions rest options
+AreRest _ rest = rest ≡ []
+
+-- the words, after the program's name, are those of the command
+pub record IsCommand (words : List (List ℕ)) (command : Command) : Type 0 where
+  pub rest : List (List ℕ)
+  pub begins : words ≡ word_of command ∷ rest
+  pub goes_on : AreRest command rest
+
+-- the first word is that of a command which takes options
+pub record HasOptions (words : List (List ℕ)) : Type 0 where
+  pub rest : List (List ℕ)
+  pub begins : (words ≡ codes "gen" ∷ rest) ⊎ (words ≡ codes "bench" ∷ rest)

@@ -1,0 +1,77 @@
+//! The commands, and the words that ask for them.
+
+ghost use Rattle.std.specs.Prelude.{◌≡◌, ◌≢◌, IfOk, IfErr, IfSome, IfNone, [], ◌∷◌, map, string_bytes, codes};
+ghost use Rattle.hp_command.specs.Commands.{HasOptions, IsCommand};
+ghost use Rattle.hp_command.specs.declared.command.Command.{Command as TheCommand};
+
+use crate::options::{Options, options_of};
+use hp_states::NoMemory;
+use std::alloc::Global;
+
+/// What the program is asked for.
+#[derive(Clone, Copy, Debug, PartialEq, Eq)]
+pub enum Command {
+    /// The text of the journal of a script, and its summary.
+    Play,
+    /// The states file after a script.
+    States,
+    /// The summary of a journal.
+    Replay,
+    /// A generated script.
+    Gen(Options),
+    /// The summary of the journal of a generated script.
+    Bench(Options),
+}
+
+/// The command that this one word asks for, if it is one without options.
+fn lone(word: &str) -> Option<Command>
+    ensures some { IfSome result (IsCommand (word.now ∷ [])) }
+    ensures none { IfNone result ((word.now ≢ codes "play")
+        × (word.now ≢ codes "states") × (word.now ≢ codes "replay")) }
+{
+    if word == "play" {
+        return Some(Command::Play);
+    }
+    if word == "states" {
+        return Some(Command::States);
+    }
+    if word == "replay" {
+        return Some(Command::Replay);
+    }
+    None
+}
+
+/// The command that the words after the program's name ask for, if they ask for one.
+///
+/// `play`, `states` and `replay` are that one word. `gen` and `bench` are that word and then options,
+/// in any order and each at most once: `--seed V` as two words or `--seed=V` as one, where V is 0 to
+/// 18446744073709551615, and 1 where it is left out; and `--size V` or `--size=V`, where V is 1 to
+/// 1,000, and 100 where it is left out. A value is decimal digits, without a sign and without a zero
+/// before others. All other words ask for nothing, `--help` too, and so does a list with a word that
+/// is exactly `--`. This is the project's own.
+///
+/// Takes memory for the options, which `clap` reads; where there is none: `NoMemory`.
+pub fn command_of(alloc: Global, words: &[String]) -> Result<Option<Command>, NoMemory>
+    ensures some { IfOk result (λ found. IfSome found (IsCommand (map string_bytes words.now))) }
+    ensures none { IfOk result (λ found. IfNone found ((command : TheCommand) →
+        IsCommand (map string_bytes words.now) command → ⊥)) }
+    ensures no_memory { IfErr result (λ _. HasOptions (map string_bytes words.now)) }
+{
+    let Some((word, rest)) = words.split_first() else {
+        return Ok(None);
+    };
+    let word = word.as_str();
+    if word == "gen" {
+        let options = options_of(alloc, rest)?;
+        return Ok(options.map(Command::Gen));
+    }
+    if word == "bench" {
+        let options = options_of(alloc, rest)?;
+        return Ok(options.map(Command::Bench));
+    }
+    if rest.is_empty() {
+        Ok(lone(word))
+    } else {
+        Ok(None)
+    }
+}

@@ -1,0 +1,20 @@
+//! What the words of the command line ask for.
+//!
+//! `command_of` finds the command that the words are; `specs/Commands.antt` and `specs/Options.antt`
+//! say which words are which command, and the answer is exact: a command comes of its words, of all
+//! of them, and of no others. The crate `clap` reads the options. What it makes of words is proved
+//! here of the command that it is given: it takes the words of the two options, and other words it
+//! refuses. Values are read here, since `clap` takes more than decimal digits for a number.
+#![tactic(auto)]
+
+mod command;
+mod law;
+mod number;
+mod options;
+#[cfg(test)]
+mod tests;
+mod texts;
+
+pub use command::{Command, command_of};
+pub use law::words_determine_the_command;
+pub use options::Options;

@@ -1,0 +1,120 @@
+//! Lists of words, and what they ask for.
+
+use crate::{Command, Options, command_of};
+use std::alloc::Global;
+use std::process::Abort;
+use std::test::Fail;
+
+/// Compares each list of words with the command that it is to be.
+fn assert_commands(
+    rt: &impl Abort,
+    alloc: Global,
+    rows: &[(&[&str], Option<Command>)],
+) -> Result<(), Fail> {
+    for (row, wanted) in rows {
+        let mut words = Vec::new(alloc);
+        for word in *row {
+            words.push(String::from_str(alloc, word)?)?;
+        }
+        assert_eq!(rt; command_of(alloc, &words)?, *wanted);
+    }
+    Ok(())
+}
+
+fn generated(seed: u64, size: u32) -> Option<Command> {
+    Some(Command::Gen(Options { seed, size }))
+}
+
+fn benched(seed: u64, size: u32) -> Option<Command> {
+    Some(Command::Bench(Options { seed, size }))
+}
+
+#[test]
+fn commands(rt: HostRuntime) -> Result<(), Fail> {
+    assert_commands(
+        &rt,
+        rt.alloc(),
+        &[
+            (&["play"], Some(Command::Play)),
+            (&["states"], Some(Command::States)),
+            (&["replay"], Some(Command::Replay)),
+            (&["gen"], generated(1, 100)),
+            (&["gen", "--seed", "0", "--size", "1"], generated(0, 1)),
+            (&["gen", "--seed=7", "--size=2"], generated(7, 2)),
+            (&["gen", "--size", "2", "--seed=7"], generated(7, 2)),
+            (&["gen", "--size=2"], generated(1, 2)),
+            (
+                &["gen", "--seed", "18446744073709551615"],
+                generated(u64::MAX, 100),
+            ),
+            (&["bench"], benched(1, 100)),
+            (&["bench", "--seed", "7", "--size", "2"], benched(7, 2)),
+            (&["bench", "--size=1000"], benched(1, 1000)),
+        ],
+    )
+}
+
+#[test]
+fn no_commands(rt: HostRuntime) -> Result<(), Fail> {
+    assert_commands(
+        &rt,
+        rt.alloc(),
+        &[
+            (&[], None),
+            (&[""], None),
+            (&["fly"], None),
+            (&["Play"], None),
+            (&["play", "play"], None),
+            (&["play", ""], None),
+            (&["--help"], None),
+            (&["-h"], None),
+            (&["--version"], None),
+            (&["--"], None),
+            (&["--", "play"], None),
+            (&["replay", "--"], None),
+            (&["gen", "--help"], None),
+            (&["gen", "-h"], None),
+            (&["bench", "--version"], None),
+            (&["bench", "help"], None),
+        ],
+    )
+}
+
+#[test]
+fn no_options(rt: HostRuntime) -> Result<(), Fail> {
+    assert_commands(
+        &rt,
+        rt.alloc(),
+        &[
+            (&["bench", "--"], None),
+            (&["gen", "--", "--size=2"], None),
+            (&["gen", "--size=2", "--"], None),
+            (&["gen", "--seed", "--", "1"], None),
+            (&["gen", "--seed", "0", "--seed", "1"], None),
+            (&["gen", "--size=2", "--seed=1", "--size=2"], None),
+            (&["gen", "--size", "0"], None),
+            (&["gen", "--size", "01"], None),
+            (&["gen", "--size=1001"], None),
+            (&["gen", "--seed=00"], None),
+            (&["gen", "--seed=18446744073709551616"], None),
+            (&["gen", "--seed", "+1"], None),
+            (&["gen", "--seed", "-1"], None),
+            (&["gen", "--seed=-1"], None),
+            (&["gen", "--seed= 1"], None),
+            (&["gen", "--seed=1=1"], None),
+            (&["gen", "--seed"], None),
+            (&["gen", "--seed="], None),
+            (&["gen", "--seed", ""], None),
+            (&["gen", "--seed", "--size", "2"], None),
+            (&["gen", "--seed", "=", "1"], None),
+            (&["gen", "--see", "1"], None),
+            (&["gen", "--seeds", "1"], None),
+            (&["gen", "-seed", "1"], None),
+            (&["gen", "seed", "1"], None),
+            (&["gen", "--Seed", "1"], None),
+            (&["gen", "--seed", "1", "2"], None),
+            (&["gen", "1"], None),
+            (&["gen", ""], None),
+        ],
+    )
+}

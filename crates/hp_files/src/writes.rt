@@ -1,0 +1,79 @@
+//! What may be written to the `target` and `fail` files.
+
+ghost use Rattle.std.specs.Prelude.{◌≡◌, ℕ, true, Some, IfErr, List};
+ghost use Rattle.hp_event.specs.declared.head.Head.{Head as AHead};
+ghost use Rattle.hp_event.specs.declared.event.Event.{Event};
+ghost use Rattle.hp_model.specs.Refusals.{refusals_of_arm, refusals_of_target};
+ghost use Rattle.hp_model.specs.RefusalsAtOnce.{first_that_holds, is_state};
+ghost use Rattle.hp_model.specs.Sequence.{target_of};
+ghost use Rattle.hp_model.specs.Shown.{shown as shown_of};
+ghost use Rattle.hp_files.specs.Writes.{unless_refused, refusals_of_target_value, refusals_of_fail_value, has_callback_at, HasNamesOf, HasCallbacksOf};
+
+use hp_hook::Hook;
+use hp_states::{BRINGUP_CPU, EINVAL, ONLINE, can_stop, is_atomic};
+use hp_table::Table;
+
+/// The state that a write to `target` says, by its value alone.
+///
+/// - `EINVAL` where the value is no state, where the state has no name, and where a walk can't be
+///   aimed at it, as at none from 62 to 102.
+///
+/// There is no other refusal; the table is only read. Takes no memory. After `target_store` of
+/// `kernel/cpu.c`; that a walk can't be aimed at those states is this project's own.
+pub fn check_target<H: Hook>(table: &Table<H>, value: i32) -> Result<u32, u32>
+    ensures by_table { result
+        ≡ unless_refused (first_that_holds (refusals_of_target_value table.now value)) (target_of value) }
+    ensures by_events { (head : AHead) (events : List Event) (cpu now : ℕ) → HasNamesOf head events table.now →
+        is_state value ≡ true →
+        IfErr result (λ errno. first_that_holds (refusals_of_target head events cpu (target_of value) now) ≡ Some errno) }
+{
+    if value < 0 || value > ONLINE as i32 {
+        return Err(EINVAL);
+    }
+    let state = value as u32;
+    if table.is_named(state) && can_stop(state) {
+        Ok(state)
+    } else {
+        Err(EINVAL)
+    }
+}
+
+/// The value that a write to the `fail` file of a processor says, which shows this state: -1, or the
+/// state at which its next walk is to fail.
+///
+/// - `EINVAL`, but for -1, where the value is no state, where the state is atomic, where it is a
+///   PREPARE state and the processor stands above those, and where no callback is registered there.
+///
+/// There is no other refusal; the table is only read. Takes no memory. After `fail_store` of
+/// `kernel/cpu.c`; each condition is this project's own.
+pub fn check_fail<H: Hook>(table: &Table<H>, value: i32, shown: u32) -> Result<i32, u32>
+    ensures by_table { result
+        ≡ unless_refused (first_that_holds (refusals_of_fail_value table.now value shown)) value }
+    ensures by_events { (head : AHead) (events : List Event) (cpu : ℕ) → HasCallbacksOf head events table.now →
+        shown ≡ shown_of head cpu events →
+        result ≡ unless_refused (first_that_holds (refusals_of_arm head events cpu value)) value }
+{
+    if value == -1 {
+        return Ok(value);
+    }
+    if value < 0 {
+        return Err(EINVAL);
+    }
+    let state = value as u32;
+    let is_past = state <= BRINGUP_CPU && BRINGUP_CPU < shown;
+    if state > ONLINE || is_atomic(state) || is_past || !has_a_callback(table, state) {
+        Err(EINVAL)
+    } else {
+        Ok(value)
+    }
+}
+
+/// Whether a state is registered with a callback of some direction.
+fn has_a_callback<H: Hook>(table: &Table<H>, state: u32) -> bool
+    ensures { result ≡ has_callback_at table.now state }
+{
+    match table.step(state) {
+        Some(record) => record.up || record.down,
+        None => false,
+    }
+}

@@ -1,0 +1,71 @@
+-- What is so of the journal of a script that was played.
+use Rattle.std.proofs.Common.{◌≡◌, ℕ, ◌+◌, Option, Some, None, List, ◌++◌, map, length, refl, ap, sym, subst, ◌∙◌, arith}
+use Rattle.std.specs.List.{sum_by}
+use Rattle.std.proofs.lemmas.List.{map-append, length-append}
+use Rattle.hp_event.specs.declared.op.Op.{Op}
+use Rattle.hp_event.specs.declared.head.Head.{Head}
+use Rattle.hp_event.specs.declared.event.Event.{Event}
+use Rattle.hp_hook.specs.Counted.{Kept as Counts}
+use Rattle.hp_model.specs.Lawful.{IsLawful}
+use Rattle.hp_model.specs.MapLock.{operation}
+use Rattle.hp_model.specs.Processors.{present}
+use Rattle.hp_model.specs.Registrations.{registration}
+use Rattle.hp_model.specs.Schedule.{first_turns, IsRunBy}
+use Rattle.hp_model.specs.Scripts.{IsScript}
+use Rattle.hp_model.specs.Walks.{Walk, walk}
+use Rattle.hp_model.proofs.HeadlineProof.{headline_of_front}
+use Rattle.hp_model.proofs.KeyLaw.{keys_at_rest}
+use Rattle.hp_model.proofs.OneNext.{owners}
+use Rattle.hp_model.proofs.Owners.{none_some}
+use Rattle.hp_model.proofs.ScriptRuns.{script_run_lawful}
+use Rattle.hp_script.specs.Playable.{setups_in}
+use Rattle.hp_script.specs.Schedules.{schedule_written}
+use Rattle.hp_script.specs.Script.{Contents}
+use Rattle.hp_actors.specs.Racks as actors
+use Rattle.hp_actors.specs.Racks.{Takes}
+use Rattle.hp_play.specs.Played.{IsJournalOf, EndsWith}
+
+-- no processor walks where nobody holds the map lock
+no_walk : (head : Head) (events : List Event) (cpu : ℕ) → IsLawful head events → operation events ≡ None → walk cpu events ≡ None
+no_walk head events cpu lawful free = go (walk cpu events) refl
+  where
+    go : (w : Option Walk) → walk cpu events ≡ w → w ≡ None
+    go None f = refl
+    go (Some w) f =
+        let p = (owners head events lawful).walk_op cpu w f in absurd (none_some p.0 (sym free ∙ p.1))
+
+pub journal_of : (script : Contents) (events : List Event) → IsScript script.head script.actors →
+    IsRunBy script.head script.actors (schedule_written script.schedule) events → operation events ≡ None →
+    registration events ≡ None → IsJournalOf script events
+journal_of script events plays run free quiet = record {
+  run = run;
+  lawful = lawful;
+  headline = λ front rest is.
+      headline_of_front script.head front rest (subst (λ es. IsLawful script.head es) (sym is) lawful);
+  no_operation = free;
+  no_registration = quiet;
+  keys = λ cpu. keys_at_rest script.head events cpu lawful (no_walk script.head events cpu lawful free) quiet;
+}
+  where
+    lawful : IsLawful script.head events
+    lawful =
+        script_run_lawful script.head script.actors
+        (first_turns (length (present script.head) + length script.actors) (schedule_written script.schedule)) events
+        plays.head_is plays.few_seats run
+
+-- the rack's last hooks, by what they have counted
+pub ends_with : {H : Type 0} (seen : H → Counts) (hooks : List H) (last : List Counts) → actors.EndsWith seen hooks last →
+    EndsWith (map seen hooks) last
+ends_with seen hooks last e = (
+  map seen e.front,
+  ap (map seen) e.hooks_are ∙ (map-append seen e.front e.back ∙ ap (λ z. map seen e.front ++ z) e.last_are),
+)
+
+-- what the setups took is back
+pub all_back : {H : Type 0} (old left now : List H) (mine actors : List (List Op)) → Takes old left (sum_by setups_in actors) →
+    length now ≡ length left + sum_by setups_in mine → mine ≡ actors → length now ≡ length old
+all_back old left now mine actors takes back same =
+    let had = ap length takes.old_is ∙ length-append left takes.taken in
+    let count = takes.count_is in
+    let sums = ap (sum_by setups_in) same in
+    omega (arith, had, count, sums, back)

@@ -1,0 +1,107 @@
+//! What each command does.
+
+ghost use Rattle.std.specs.Prelude.{◌≡◌, ◌<◌, ◌≤◌, map, length, IfOk, IfErr, OnOk};
+ghost use Rattle.hp_play.specs.Main.{IsDoneBy, IsScriptPlayed, IsReplayed, IsBenchPlayed};
+ghost use Rattle.hp_play.specs.Played.{IsPlayed};
+ghost use Rattle.hp_play.specs.Stops.{HasRanges, Stops, StopsScript, StopsJournal, Refuses};
+
+use crate::error::{journal_error_line, script_error_line};
+use crate::output::Output;
+use crate::play::play;
+use crate::read::read_input;
+use crate::stop::Stop;
+use hp_command::Command;
+use hp_hook::{Hook, Rack};
+use hp_io::Source;
+use hp_replay::{ReplayError, check};
+use hp_script::{ParseError, generate, parse};
+use hp_states::{MAX_JOURNAL_BYTES, MAX_SCRIPT_BYTES};
+use std::alloc::Global;
+
+/// What a command writes.
+pub fn output_of<S: Source, H: Hook>(
+    alloc: Global,
+    command: Command,
+    source: &mut S,
+    rack: &mut Rack<H>,
+) -> Result<Vec<u8>, Stop>
+    requires faults { S.faults source.old < u64.MAX }
+    requires ranges { HasRanges command }
+    ensures done { IfOk result (λ text. IsDoneBy command (length rack.old.hooks.items)
+        (map (λ h. record { plan = H.plan h; seen = H.seen h; made = H.made h; faults = H.faults h }) rack.new.hooks.items)
+        (S.left source.old) (S.left source.new) text.items) }
+    ensures faults { OnOk result (S.faults source.new ≡ S.faults source.old) }
+    ensures stop { IfErr result (Stops command (length rack.old.hooks.items)
+        (S.left source.old) (S.left source.new) (S.faults source.old) (S.faults source.new)) }
+{
+    match command {
+        Command::Play => script_played(alloc, Output::Journal, source, rack),
+        Command::States => script_played(alloc, Output::States, source, rack),
+        Command::Replay => replayed(alloc, source),
+        Command::Gen(options) => Ok(generate(alloc, options.seed, options.size)?),
+        Command::Bench(options) => {
+            let script = generate(alloc, options.seed, options.size)?;
+            text_of_script(alloc, Output::Summary, &script, rack)
+        }
+    }
+}
+
+/// What is written of the script that a source holds.
+fn script_played<S: Source, H: Hook>(
+    alloc: Global,
+    of: Output,
+    source: &mut S,
+    rack: &mut Rack<H>,
+) -> Result<Vec<u8>, Stop>
+    requires { S.faults source.old < u64.MAX }
+    ensures played { IfOk result (λ text. IsScriptPlayed of (length rack.old.hooks.items)
+        (map (λ h. record { plan = H.plan h; seen = H.seen h; made = H.made h; faults = H.faults h }) rack.new.hooks.items)
+        (S.left source.old) (S.left source.new) text.items) }
+    ensures faults { OnOk result (S.faults source.new ≡ S.faults source.old) }
+    ensures stop { IfErr result (StopsScript (length rack.old.hooks.items)
+        (S.left source.old) (S.left source.new) (S.faults source.old) (S.faults source.new)) }
+{
+    match read_input(alloc, source, MAX_SCRIPT_BYTES) {
+        Ok(script) => text_of_script(alloc, of, &script, rack),
+        Err(error) => Err(Stop::of_read(error)),
+    }
+}
+
+/// What is written of the script that some bytes are.
+fn text_of_script<H: Hook>(
+    alloc: Global,
+    of: Output,
+    bytes: &[u8],
+    rack: &mut Rack<H>,
+) -> Result<Vec<u8>, Stop>
+    ensures played { IfOk result (λ text. IsPlayed of (length rack.old.hooks.items)
+        (map (λ h. record { plan = H.plan h; seen = H.seen h; made = H.made h; faults = H.faults h }) rack.new.hooks.items)
+        bytes.now text.items) }
+    ensures stop { IfErr result (Refuses (length rack.old.hooks.items) bytes.now) }
+{
+    let hooks = rack.hooks.len().min(u32::MAX as usize) as u32;
+    match parse(alloc, bytes, hooks) {
+        Ok(script) => Ok(play(alloc, of, &script, rack)?),
+        Err(ParseError::NoMemory) => Err(Stop::NoMemory),
+        Err(error) => Err(Stop::BadScript(script_error_line(alloc, error)?)),
+    }
+}
+
+/// The summary of the journal whose text a source holds.
+fn replayed<S: Source>(alloc: Global, source: &mut S) -> Result<Vec<u8>, Stop>
+    requires { S.faults source.old < u64.MAX }
+    ensures replayed { IfOk result (λ text. IsReplayed (S.left source.old) (S.left source.new) text.items) }
+    ensures faults { OnOk result (S.faults source.new ≡ S.faults source.old) }
+    ensures stop { IfErr result (StopsJournal
+        (S.left source.old) (S.left source.new) (S.faults source.old) (S.faults source.new)) }
+{
+    let bytes = match read_input(alloc, source, MAX_JOURNAL_BYTES) {
+        Ok(bytes) => bytes,
+        Err(error) => return Err(Stop::of_read(error)),
+    };
+    match check(alloc, &bytes) {
+        Ok(journal) => Ok(hp_print::summary(alloc, &journal)?),
+        Err(ReplayError::NoMemory) => Err(Stop::NoMemory),
+        Err(error) => Err(Stop::BadJournal(journal_error_line(alloc, error)?)),
+    }
+}

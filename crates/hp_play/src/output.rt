@@ -1,0 +1,46 @@
+//! What is written of a run.
+
+ghost use Rattle.std.specs.Prelude.{◌≡◌, None, IfOk};
+ghost use Rattle.hp_model.specs.Registrations.{registration};
+ghost use Rattle.hp_play.specs.Outputs.{output};
+
+use hp_board::Board;
+use hp_event::Journal;
+use hp_hook::Hook;
+use hp_states::NoMemory;
+use std::alloc::Global;
+
+/// What is written of a run.
+#[derive(Clone, Copy, Debug)]
+pub enum Output {
+    /// The text of its journal, and the summary.
+    Journal,
+    /// The summary of its journal alone.
+    Summary,
+    /// The states file after it.
+    States,
+}
+
+/// What is written of a machine's run, in which no registration is in flight.
+///
+/// Takes memory for the text; where there is none: `NoMemory`.
+pub fn text_of<H: Hook>(alloc: Global, of: Output, board: &Board<H>) -> Result<Vec<u8>, NoMemory>
+    requires { registration board.now.events ≡ None }
+    ensures { IfOk result (λ text. text.items ≡ output of board.now.head board.now.events) }
+{
+    match of {
+        Output::Journal => journal_and_summary(alloc, board.journal()),
+        Output::Summary => hp_print::summary(alloc, board.journal()),
+        Output::States => board.states_text(alloc),
+    }
+}
+
+/// The text of a journal, and then its summary.
+fn journal_and_summary(alloc: Global, journal: &Journal) -> Result<Vec<u8>, NoMemory>
+    ensures { IfOk result (λ text. text.items ≡ output Output.Journal journal.now.head journal.now.events) }
+{
+    let mut text = hp_print::journal_text(alloc, journal)?;
+    let summary = hp_print::summary(alloc, journal)?;
+    text.extend_from_slice(&summary)?;
+    Ok(text)
+}

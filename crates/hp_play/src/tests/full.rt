@@ -1,0 +1,72 @@
+//! A journal that is full, which no script is long enough for: on the board alone.
+
+use hp_board::{Ask, Board, CpuPlan, Turn};
+use hp_event::{Answer, Numbers, Op, Role, Subs};
+use hp_hook::ScriptHook;
+use std::alloc::Global;
+use std::test::*;
+
+/// The only client's seat, behind those of the two threads.
+const CLIENT: u32 = 2;
+
+/// A board of two processors with no subsystem, their threads, and one client.
+fn board(alloc: Global) -> Result<Board<ScriptHook>, Fail> {
+    let plan = CpuPlan {
+        possible: 2,
+        absent: Numbers::new(alloc),
+    };
+    let mut board = match Board::start(alloc, plan, Subs::new(alloc)) {
+        Ok(board) => board,
+        Err(_) => return Err(Fail::from("the board starts")),
+    };
+    for role in [Role::Ap(0), Role::Ap(1), Role::Client] {
+        if board.admit(role).is_err() {
+            return Err(Fail::from("a seat comes in"));
+        }
+    }
+    Ok(board)
+}
+
+/// The client's operation until it is answered, with turns of processor 1's thread between its own.
+fn answer(board: &mut Board<ScriptHook>, op: Op) -> Result<Answer, Fail> {
+    let mut ask = Ask { op, hook: None };
+    for _ in 0..8 {
+        if !board.can_ask(CLIENT, &ask) {
+            return Err(Fail::from("the turn can be asked for"));
+        }
+        if let Turn::Answered { answer, .. } = board.turn(CLIENT, &mut ask)? {
+            return Ok(answer);
+        }
+        let _ = board.serve(1);
+    }
+    Err(Fail::from("the operation is answered"))
+}
+
+/// What `up 1` is answered after so many reads of a state, the processor's state then, and the journal's
+/// length.
+fn up_after(alloc: Global, reads: u32) -> Result<(Answer, u32, usize), Fail> {
+    let mut board = board(alloc)?;
+    for _ in 0..reads {
+        if answer(&mut board, Op::ShowState(0))? != Answer::Ok(200) {
+            return Err(Fail::from("processor 0 is shown online"));
+        }
+    }
+    let up = answer(&mut board, Op::Up(1))?;
+    if board.journal().head().possible != 2 {
+        return Err(Fail::from("the board has two processors"));
+    }
+    Ok((up, board.state(1), board.journal().events().len()))
+}
+
+#[test]
+fn an_up_fits_or_finds_the_journal_full(rt: HostRuntime) -> Result<(), Fail> {
+    assert_eq!(rt;
+        up_after(rt.alloc(), 1_048_564)?,
+        (Answer::Ok(0), 200, 1_048_571)
+    );
+    assert_eq!(rt;
+        up_after(rt.alloc(), 1_048_565)?,
+        (Answer::LogFull, 0, 1_048_570)
+    );
+    Ok(())
+}
