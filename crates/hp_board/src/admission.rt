@@ -59,7 +59,7 @@ impl<H: Hook> Board<H> {
             Err(JournalError::NoMemory) => return Err(AdmitError::NoMemory),
             Err(JournalError::Full) => unreachable!(),
         }
-        match self.ledger.admit(role) {
+        match self.ledger.admit(&self.table, role) {
             Ok(()) => Ok(seat),
             Err(NoMemory) => {
                 self.ledger.release();
@@ -75,7 +75,8 @@ impl<H: Hook> Board<H> {
     pub fn can_leave(&self, by: u32) -> bool
         ensures { IsTrue result ↔ Stands self.now.head self.now.events (Leave by) }
     {
-        self.ledger.can_leave(&self.table, by)
+        let _ = &self.table;
+        self.ledger.can_leave(by)
     }
 
     /// Lets a seat go, and answers the place of the event.

@@ -80,7 +80,8 @@ impl<H: Hook> Board<H> {
     pub fn due_seat(&self) -> Option<u32>
         ensures { (k : ℕ) → IsSome (due_entry self.now.head self.now.events k) ↔ (result ≡ Some k) }
     {
-        self.ledger.due_seat(&self.table)
+        let _ = &self.table;
+        self.ledger.due_seat()
     }
 
     /// Whether an operation of a seat is in flight: it holds the map lock, or registers.

@@ -156,7 +156,7 @@ impl<H: Hook> Board<H> {
     pub fn serve(&mut self, by: u32) -> Turn
         ensures { IsServed by self.old self.new result }
     {
-        match self.ledger.due(&self.table, by) {
+        match self.ledger.due(by) {
             Some(entry) => {
                 let at = self.ledger.journal().len();
                 make_entry(&mut self.ledger, &mut self.table, &entry);

@@ -67,7 +67,7 @@ impl Law {
         let _ = &self.table;
         match *event {
             Event::Admit { seat, role } => self.comes_in(seat, role),
-            Event::Leave { seat } => self.ledger.can_leave(&self.table, seat),
+            Event::Leave { seat } => self.ledger.can_leave(seat),
             Event::Call { seat, .. } => match self.due(seat) {
                 Some(entry) => same(&entry, event),
                 None => false,
@@ -121,7 +121,7 @@ impl Law {
     fn due(&self, seat: u32) -> Option<Event>
         ensures { result ≡ due_entry self.now.head self.now.events seat }
     {
-        match self.ledger.due(&self.table, seat) {
+        match self.ledger.due(seat) {
             Some(entry) => Some(entry.event(entry.how(self.answer_to(&entry)))),
             None => None,
         }

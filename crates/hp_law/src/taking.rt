@@ -32,7 +32,7 @@ pub(crate) fn add(
     ensures kept { OnErr result (table.new ≡ table.old) }
 {
     if let Event::Admit { role, .. } = *event {
-        return ledger.admit(role);
+        return ledger.admit(table, role);
     }
     change(table, ledger, event)?;
     ledger.append(table, *event);

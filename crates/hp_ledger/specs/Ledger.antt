@@ -1,6 +1,6 @@
--- What contracts see of a ledger, and what is so of it: its journal is lawful, its parts are the account of it, and it has
--- promised what the journal's definitions promise and what is reserved. This project's own.
-use Rattle.std.specs.Prelude.{◌≡◌, ◌+◌, ℕ, List}
+-- What contracts see of a ledger, and what is so of it: its journal is lawful, its parts are the account of it, it has promised
+-- what the journal's definitions promise and what is reserved, and it knows what is under way. This project's own.
+use Rattle.std.specs.Prelude.{◌≡◌, ◌+◌, ℕ, Option, List}
 use Rattle.hp_event.specs.Story.{Story}
 use Rattle.hp_event.specs.declared.head.Head.{Head}
 use Rattle.hp_event.specs.declared.event.Event.{Event}
@@ -9,7 +9,9 @@ use Rattle.hp_event.specs.declared.event.Role.{Role}
 use Rattle.hp_model.specs.Lawful.{IsLawful}
 use Rattle.hp_model.specs.Promised.{promised}
 use Rattle.hp_ledger.specs.declared.parts.Parts.{Parts}
+use Rattle.hp_ledger.specs.declared.coming.Coming.{Coming}
 use Rattle.hp_ledger.specs.Account.{IsAccount}
+use Rattle.hp_ledger.specs.UnderWay.{IsUnderWay}
 
 -- the head, the events, oldest first, and how much room is reserved for the event that comes
 pub record Entries : Type 0 where
@@ -21,6 +23,11 @@ pub record IsKept (journal : Story) (reserved : ℕ) (parts : Parts) : Type 0 wh
   pub lawful : IsLawful journal.head journal.events
   pub account : IsAccount journal.head journal.events parts
   pub promises : journal.promised ≡ promised journal.head journal.events + reserved
+
+-- and it knows what comes next of what is under way
+pub record IsLedger (journal : Story) (reserved : ℕ) (parts : Parts) (coming : Option Coming) : Type 0 where
+  pub kept : IsKept journal reserved parts
+  pub coming_is : IsUnderWay journal.head journal.events coming
 
 -- no seat comes in by it
 abbrev pub NoAdmission : Event → Type 0

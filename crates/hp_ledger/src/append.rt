@@ -1,9 +1,10 @@
 //! What one event more makes of each part of the account.
 
-ghost use Rattle.std.specs.Prelude.{◌≡◌, ◌≤◌, ◌<◌, ◌+◌, ℕ, List, ◌∷◌, [], ◌++◌, IsOk};
+ghost use Rattle.std.specs.Prelude.{◌≡◌, false, ◌≤◌, ◌<◌, ◌+◌, ℕ, List, ◌∷◌, [], ◌++◌, IsOk};
 ghost use Rattle.hp_event.specs.declared.event.Event.{Event as AnEvent};
 ghost use Rattle.hp_event.specs.declared.head.Head.{Head as AHead};
 ghost use Rattle.hp_event.specs.declared.op.Op.{Op as AnOp};
+ghost use Rattle.hp_model.specs.Events.{is_call};
 ghost use Rattle.hp_suspend.specs.Tables.{AreOnline};
 ghost use Rattle.hp_walk.specs.Keys.{keys_by};
 ghost use Rattle.hp_ledger.specs.After.{roll_after, holders_after, standing_after, suspension_after};
@@ -17,7 +18,7 @@ use crate::processors::Processors;
 use crate::registering::Registering;
 use crate::seats::Seats;
 use crate::suspended::Suspended;
-use hp_event::{Event, How};
+use hp_event::Event;
 use hp_hook::Hook;
 use hp_locks::{Locks, Why};
 use hp_table::Table;
@@ -68,17 +69,14 @@ pub(crate) fn walked_to(flights: &Flights, event: Event) -> u32
     }
 }
 
-/// A processor is armed, or not any more, or stands elsewhere: a walk that ends went to `to`.
+/// A processor is armed, or not any more, or stands elsewhere: a walk that ends went to `to`. The event is no
+/// entry.
 pub(crate) fn stand(processors: &mut Processors, event: Event, to: u32)
-    requires { HasPlaceFor event processors.old }
+    requires place { HasPlaceFor event processors.old }
+    requires no_entry { is_call event ≡ false }
     ensures { processors.new ≡ standing_after to event processors.old }
 {
     match event {
-        Event::Call {
-            cpu,
-            how: How::Injected,
-            ..
-        } => processors.arm(cpu, None),
         Event::WalkEnd { cpu, answer, .. } => {
             let stood = processors.state(cpu);
             processors.settle(cpu, answer.leaves_at(to, stood));
@@ -128,9 +126,10 @@ pub(crate) fn operate(held: &mut Option<Held>, event: Event, processors: &Proces
     }
 }
 
-/// A walk begins, goes on past an entry, or ends. Answers how much of its room is given back.
+/// A walk begins or ends. Answers how much of its room is given back. The event is no entry.
 pub(crate) fn fly<H: Hook>(flights: &mut Flights, table: &Table<H>, event: Event, need: u32) -> u32
-    requires { CanFly (keys_by table.now) need event flights.old }
+    requires walk { CanFly (keys_by table.now) need event flights.old }
+    requires no_entry { is_call event ≡ false }
     ensures { Flew (keys_by table.now) need result event flights.old flights.new }
 {
     match event {
@@ -140,30 +139,21 @@ pub(crate) fn fly<H: Hook>(flights: &mut Flights, table: &Table<H>, event: Event
             from,
             to,
         } => flights.begin(table, seat, cpu, from, to, need),
-        Event::Call { cpu, how, .. } => {
-            if flights.walking().is_some() {
-                flights.entry(table, cpu, how);
-            }
-        }
         Event::WalkEnd { cpu, .. } => return flights.end(cpu),
         _ => {}
     }
     0
 }
 
-/// A registration begins, goes on past an entry, or ends. Answers how much of its room is given back.
+/// A registration begins or ends. Answers how much of its room is given back. The event is no entry.
 pub(crate) fn register(registration: &mut Option<Registering>, event: Event, need: u32) -> u32
-    requires { CanRegister event }
+    requires begins { CanRegister event }
+    requires no_entry { is_call event ≡ false }
     ensures { Registered need result event registration.old registration.new }
 {
     match event {
         Event::RegBegin { seat, state, op } => {
             *registration = Some(Registering::begin(seat, op, state, need));
-        }
-        Event::Call { cpu, how, .. } => {
-            if let Some(registration) = registration {
-                registration.took(cpu, how);
-            }
         }
         Event::RegEnd { .. } => {
             if let Some(ended) = registration.take() {

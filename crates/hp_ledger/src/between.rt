@@ -11,52 +11,44 @@ ghost use Rattle.hp_model.specs.Waits.{wait_to_walk};
 ghost use Rattle.hp_ledger.specs.Between.{IsCurrent, IsBetween, Gives};
 ghost use Rattle.hp_ledger.specs.Next.{IsNext};
 ghost use Rattle.hp_ledger.specs.Operations.{IsFew, IsHeld};
+ghost use Rattle.hp_ledger.specs.Table.{IsTableOf};
 ghost use Rattle.hp_ledger.specs.UnderWay.{next_by};
 
 use crate::coming::Coming;
+use crate::ledger::Ledger;
 use crate::next::Next;
 use crate::operation::Held;
 use crate::parts::Parts;
-use hp_event::{Answer, Event, Journal};
+use hp_event::{Answer, Event};
 use hp_hook::Hook;
 use hp_locks::Why;
 use hp_suspend::{Asked, WalkAsk};
 use hp_table::Table;
 
-impl Parts {
+impl Ledger {
     /// What comes next of a seat that has an operation in flight, whichever operation that is.
     ///
-    /// The parts are the account of the journal, which is lawful, the table is its, and `room` is how many
-    /// events more it can promise.
     /// - `Entry` where the entry that comes next is the seat's to make.
     /// - `Event` with the room that it takes: the end of its walk or its registration, or, while nothing
     ///   walks, the begin of its next walk or its end, with `LogFull` where there is no room for a walk.
     /// - `Wait` where the thread of a processor has to make the next entry, or readers or a registration
     ///   keep out the next walk.
-    ///
-    /// Takes no memory, and time for the processors and for the states that a walk crosses. After
-    /// `_cpu_up` and `_cpu_down` of `kernel/cpu.c`; that one event comes next, and room, are this
-    /// project's own.
-    pub(crate) fn goes_on<H: Hook>(
-        &self,
-        journal: &Journal,
-        table: &Table<H>,
-        seat: u32,
-        room: u32,
-    ) -> Next
-        requires current { IsCurrent journal.now.head journal.now.events self.now table.now room }
-        requires busy { is_busy seat journal.now.events ≡ true }
-        ensures { (op : AnOp) → IsNext journal.now.head journal.now.events seat op result }
+    pub(crate) fn goes_on<H: Hook>(&self, table: &Table<H>, seat: u32) -> Next
+        requires table { IsTableOf self.now.head self.now.events table.now }
+        requires busy { is_busy seat self.now.events ≡ true }
+        ensures { (op : AnOp) → IsNext self.now.head self.now.events seat op result }
     {
-        if let Some(next) = next_from(self.under_way(journal, table), seat) {
+        if let Some(next) = next_from(self.coming, seat) {
             return next;
         }
-        match &self.operation {
-            Some(held) => self.next_of_holder(table, held, room),
+        match &self.parts.operation {
+            Some(held) => self.parts.next_of_holder(table, held, self.room()),
             None => unreachable!(),
         }
     }
+}
 
+impl Parts {
     /// What comes next of the operation that holds the map lock, while nothing walks.
     fn next_of_holder<H: Hook>(&self, table: &Table<H>, held: &Held, room: u32) -> Next
         requires few { IsFew held.now.sequence }

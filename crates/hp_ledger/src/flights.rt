@@ -146,11 +146,10 @@ impl Flights {
         requires walks { IfWalks (at_place self.old.by_cpu.items cpu) (CanGoOn (keys_by table.now) how) }
         ensures { WentOn (keys_by table.now) cpu how self.old self.new }
     {
-        match self.by_cpu[cpu as usize] {
-            Some(mut flight) => {
+        match &mut self.by_cpu[cpu as usize] {
+            Some(flight) => {
                 flight.walk.took(table, how);
                 flight.left -= 1;
-                self.by_cpu[cpu as usize] = Some(flight);
             }
             None => unreachable!(),
         }

@@ -27,6 +27,7 @@ ghost use Rattle.hp_ledger.specs.Ledger.{NoAdmission};
 ghost use Rattle.hp_ledger.specs.Next.{IsNext, IsDue};
 ghost use Rattle.hp_ledger.specs.Table.{IsTableOf};
 
+use crate::coming::Coming;
 use crate::entry::Entry;
 use crate::next::Next;
 use crate::parts::Parts;
@@ -47,11 +48,13 @@ use std::marker::Model;
 pub struct Ledger {
     journal: Journal,
     reserved: u32,
-    parts: Parts,
+    pub(crate) parts: Parts,
+    /// What comes next of what is under way, found anew at each event.
+    pub(crate) coming: Option<Coming>,
 }
 
 impl Model for Ledger {
-    ghost use Rattle.hp_ledger.specs.Ledger.{Entries, IsKept};
+    ghost use Rattle.hp_ledger.specs.Ledger.{Entries, IsLedger};
 
     ghost Value = { Entries };
 
@@ -61,7 +64,7 @@ impl Model for Ledger {
       reserved = l.reserved;
     } };
 
-    ghost invariant = { λ l. IsKept l.journal l.reserved l.parts };
+    ghost invariant = { λ l. IsLedger l.journal l.reserved l.parts l.coming };
 }
 
 impl Ledger {
@@ -78,6 +81,7 @@ impl Ledger {
             journal: Journal::new(alloc, head),
             reserved: 0,
             parts,
+            coming: None,
         })
     }
 
@@ -248,48 +252,47 @@ impl Ledger {
         requires subs { names_sub self.now.head op ≡ true }
         ensures { IsNext self.now.head self.now.events seat op result }
     {
-        let room = self.room();
         if self.is_busy(seat) {
-            return self.parts.goes_on(&self.journal, table, seat, room);
+            return self.goes_on(table, seat);
         }
-        self.parts.first(self.journal.head(), table, seat, op, room)
+        self.parts
+            .first(self.journal.head(), table, seat, op, self.room())
     }
 
     /// The entry that is due from a seat: what comes next of what is under way, where it is an entry and
     /// this seat's to make.
     ///
-    /// The table is the journal's. Takes no memory, and looks at no event. After `cpuhp_invoke_callback`
+    /// There is no condition. Takes no memory, and looks at no event. After `cpuhp_invoke_callback`
     /// and `cpuhp_invoke_ap_callback` of `kernel/cpu.c`.
-    pub fn due<H: Hook>(&self, table: &Table<H>, seat: u32) -> Option<Entry>
-        requires { IsTableOf self.now.head self.now.events table.now }
+    pub fn due(&self, seat: u32) -> Option<Entry>
         ensures { IsDue self.now.head self.now.events seat result }
     {
-        due_from(self.parts.under_way(&self.journal, table), seat)
+        let _ = &self.reserved;
+        due_from(self.coming, seat)
     }
 
     /// The seat that an entry is due from, if one is: there is at most one at any time.
     ///
-    /// The table is the journal's. Takes no memory, and looks at no event. After `cpuhp_invoke_callback`
+    /// There is no condition. Takes no memory, and looks at no event. After `cpuhp_invoke_callback`
     /// and `cpuhp_invoke_ap_callback` of `kernel/cpu.c`.
-    pub fn due_seat<H: Hook>(&self, table: &Table<H>) -> Option<u32>
-        requires { IsTableOf self.now.head self.now.events table.now }
+    pub fn due_seat(&self) -> Option<u32>
         ensures { (k : ℕ) → IsSome (due_entry self.now.head self.now.events k) ↔ (result ≡ Some k) }
     {
-        seat_from(self.parts.under_way(&self.journal, table))
+        let _ = &self.reserved;
+        seat_from(self.coming)
     }
 
     /// Whether a seat can leave: it is in, reads nothing, has nothing in flight, and no entry is due from
     /// it.
     ///
-    /// The table is the journal's. Takes no memory, and looks at no event. Seats are this project's own.
-    pub fn can_leave<H: Hook>(&self, table: &Table<H>, seat: u32) -> bool
-        requires { IsTableOf self.now.head self.now.events table.now }
+    /// There is no condition. Takes no memory, and looks at no event. Seats are this project's own.
+    pub fn can_leave(&self, seat: u32) -> bool
         ensures { result ≡ can_leave self.now.head self.now.events seat }
     {
         self.role(seat).is_some()
             && !self.is_reading(seat)
             && !self.is_busy(seat)
-            && self.due(table, seat).is_none()
+            && self.due(seat).is_none()
     }
 
     /// Reserves room for the event that comes and for what has to follow it: `n` events.
@@ -339,15 +342,17 @@ impl Ledger {
         self.journal.push(event);
         self.journal.give_back(freed);
         self.reserved = 0;
+        self.coming = self.parts.under_way(&self.journal, table);
     }
 
     /// Lets the next seat in, with this role, and appends its admission.
     ///
-    /// The admission stands, and room is reserved for what it needs. Takes memory; where that is wanting
-    /// nothing has changed: `NoMemory`.
-    pub fn admit(&mut self, role: Role) -> Result<(), NoMemory>
+    /// The admission stands, room is reserved for what it needs, and the table is the journal's. Takes
+    /// memory; where that is wanting nothing has changed: `NoMemory`.
+    pub fn admit<H: Hook>(&mut self, table: &Table<H>, role: Role) -> Result<(), NoMemory>
         requires stands { Stands self.old.head self.old.events (Admit (admits self.old.events) role) }
         requires room { self.old.reserved ≡ 2 }
+        requires table { IsTableOf self.old.head self.old.events table.now }
         ensures ok { OnOk result (self.new
             ≡ record self.old {
               events = self.old.events ++ Admit (admits self.old.events) role ∷ [];
@@ -359,6 +364,7 @@ impl Ledger {
         self.parts.admit(role)?;
         self.journal.push(Event::Admit { seat, role });
         self.reserved = 0;
+        self.coming = self.parts.under_way(&self.journal, table);
         Ok(())
     }
 

@@ -1,10 +1,14 @@
 //! The parts of the account.
 
-ghost use Rattle.std.specs.Prelude.{◌≡◌, [], IfOk, OnOk, OnErr};
+ghost use Rattle.std.specs.Prelude.{◌≡◌, ◌<◌, ℕ, [], Some, IfOk, OnOk, OnErr, length};
+ghost use Rattle.hp_states.specs.declared.limits.TheConstants.{MAX_CPUS};
 ghost use Rattle.hp_model.specs.Heads.{IsHead};
 ghost use Rattle.hp_walk.specs.Keys.{keys_by};
 ghost use Rattle.hp_ledger.specs.Account.{IsAccount};
-ghost use Rattle.hp_ledger.specs.Appending.{CanAdmit, Admitted, CanAppend, Appended};
+ghost use Rattle.hp_ledger.specs.After.{disarmed_after};
+ghost use Rattle.hp_ledger.specs.Appending.{CanAdmit, Admitted, CanAppend, Appended, WentOnIf, WentOnWith};
+ghost use Rattle.hp_ledger.specs.FlightChanges.{IfWalks, CanGoOn};
+ghost use Rattle.hp_ledger.specs.Places.{at_place};
 
 use crate::append::{depart, fly, hold, operate, register, stand, suspend, walked_to};
 use crate::flights::Flights;
@@ -13,7 +17,7 @@ use crate::processors::Processors;
 use crate::registering::Registering;
 use crate::seats::Seats;
 use crate::suspended::Suspended;
-use hp_event::{Event, Head, Role};
+use hp_event::{Event, Head, How, Role};
 use hp_hook::Hook;
 use hp_locks::Locks;
 use hp_states::NoMemory;
@@ -81,6 +85,10 @@ impl Parts {
         requires { CanAppend (keys_by table.now) need event self.old }
         ensures { Appended (keys_by table.now) need result event self.old self.new }
     {
+        if let Event::Call { cpu, how, .. } = event {
+            self.take_entry(table, cpu, how);
+            return 0;
+        }
         let to = walked_to(&self.flights, event);
         depart(&mut self.seats, event);
         hold(&mut self.locks, event);
@@ -90,5 +98,31 @@ impl Parts {
         let freed_by_walk = fly(&mut self.flights, table, event, need);
         let freed_by_registration = register(&mut self.registration, event, need);
         freed_by_walk + freed_by_registration
+    }
+
+    /// Takes an entry into account: the walk or the registration in flight goes on past it, and where it is
+    /// the fault at which its processor is armed, that is armed no more.
+    fn take_entry<H: Hook>(&mut self, table: &Table<H>, cpu: u32, how: How)
+        requires processors { cpu < length self.old.processors.armed }
+        requires flights { (n : ℕ) → self.old.flights.walking ≡ Some n → (cpu < length self.old.flights.by_cpu.items)
+            × IfWalks (at_place self.old.flights.by_cpu.items cpu) (CanGoOn (keys_by table.now) how) }
+        requires registration { cpu < MAX_CPUS }
+        ensures processors { self.new.processors ≡ disarmed_after how cpu self.old.processors }
+        ensures flights { WentOnIf self.old.flights.walking (keys_by table.now) cpu how self.old.flights self.new.flights }
+        ensures registration { WentOnWith cpu how self.old.registration self.new.registration }
+        ensures seats { self.new.seats ≡ self.old.seats }
+        ensures locks { self.new.locks ≡ self.old.locks }
+        ensures operation { self.new.operation ≡ self.old.operation }
+        ensures suspended { self.new.suspended ≡ self.old.suspended }
+    {
+        if matches!(how, How::Injected) {
+            self.processors.arm(cpu, None);
+        }
+        if self.flights.walking().is_some() {
+            self.flights.entry(table, cpu, how);
+        }
+        if let Some(registration) = &mut self.registration {
+            registration.took(cpu, how);
+        }
     }
 }

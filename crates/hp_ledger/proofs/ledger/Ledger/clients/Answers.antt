@@ -8,5 +8,5 @@ pub returns : goal.returns
 returns c =
     let j = c.self.inside.journal in
     let roll = c.self.inside.parts.seats in
-    let is = c.clients.ensures ∙ clients_are j.head j.events roll c.self.invariant.account.seats in
+    let is = c.clients.ensures ∙ clients_are j.head j.events roll c.self.invariant.kept.account.seats in
     subst (λ (l : Entries). c.clients.result ≡ clients l.events) c.self.view_is is

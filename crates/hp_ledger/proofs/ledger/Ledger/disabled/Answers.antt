@@ -5,5 +5,5 @@ use Rattle.hp_ledger.proofs.ledger.Ledger.disabled.Goals as goal
 
 pub returns : goal.returns
 returns c =
-    let is = c.disabled.ensures ∙ c.self.invariant.account.suspended.disabled_is in
+    let is = c.disabled.ensures ∙ c.self.invariant.kept.account.suspended.disabled_is in
     subst (λ (l : Entries). c.disabled.result ≡ disabled l.events) c.self.view_is is

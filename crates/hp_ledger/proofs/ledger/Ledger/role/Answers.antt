@@ -5,5 +5,5 @@ use Rattle.hp_ledger.proofs.ledger.Ledger.role.Goals as goal
 
 pub returns : goal.returns
 returns c =
-    let is = c.role.ensures ∙ sym (c.self.invariant.account.seats.roles_are c.args.seat) in
+    let is = c.role.ensures ∙ sym (c.self.invariant.kept.account.seats.roles_are c.args.seat) in
     subst (λ (l : Entries). c.role.result ≡ role_of c.args.seat l.events) c.self.view_is is
