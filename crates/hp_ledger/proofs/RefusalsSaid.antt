@@ -2,7 +2,7 @@
 use Rattle.std.proofs.Common.{◌≡◌, ℕ, ◌+◌, ◌<◌, ◌≤◌, Bool, true, false, not, ◌||◌, cond, ltb, is_some, Option, Some, None, List, [], ◌∷◌, ◌++◌, length, map, get_or, refl, sym, ap, ◌∙◌, arith}
 use Rattle.std.specs.Prelude.{ℤ, option_map}
 use Rattle.std.specs.List.{count_by}
-use Rattle.std.proofs.lemmas.Bool.{or_parts}
+use Rattle.std.proofs.lemmas.Bool.{or_parts, true≢false}
 use Rattle.std.proofs.lemmas.Bool.Decides.{nat_tests}
 use Rattle.std.proofs.lemmas.List.{get_or-map, length-map}
 use Rattle.std.proofs.lemmas.List.Sums.{length-filter, sum_by-cons}
@@ -21,7 +21,7 @@ use Rattle.hp_model.specs.Registrations.{registration, is_registering}
 use Rattle.hp_model.specs.MapLock.{operation}
 use Rattle.hp_model.specs.Seats.{is_busy}
 use Rattle.hp_model.specs.Waits.{Wait, is_disarming, is_waiting, wait_for_map, wait_for_registration, wait_to_begin, wait_to_register}
-use Rattle.hp_model.specs.RefusalsAtOnce.{Check, if_so, first_that_holds, refusals_at_once}
+use Rattle.hp_model.specs.RefusalsAtOnce.{Check, if_so, first_that_holds, is_state, refusals_at_once}
 use Rattle.hp_model.specs.Refusals.{one_online, refusals_after_waits, refusal}
 use Rattle.hp_model.specs.Suspend.{disabled}
 use Rattle.hp_model.proofs.InFlight.{none_of}
@@ -139,10 +139,15 @@ slots_full head es places range asked sub form idle t is full =
     let first = asks_first asked range is in
     rw (first.0, full_alike head es places range asked idle t first.1 full) refl
 
--- a target and an arming that wait for nothing and aren't refused at once: no registration is in flight, and the processor is one of
--- the possible ones
+there : (b : Bool) → not b ≡ false → b ≡ true
+there true h = refl
+there false h = absurd (true≢false h)
+
+-- a target and an arming that wait for nothing and aren't refused at once: no registration is in flight, the processor is one of the
+-- possible ones, and the target is a state
 pub target_can : (head : Head) (es : List Event) (k c : ℕ) (v : ℤ) → is_waiting es (Target c v) ≡ false →
-    first_that_holds (refusals_at_once head es k (Target c v)) ≡ None → (registration es ≡ None) × (c < head.possible)
+    first_that_holds (refusals_at_once head es k (Target c v)) ≡ None →
+    (registration es ≡ None) × (c < head.possible) × (is_state v ≡ true)
 target_can head es k c v ready passes =
     let alone =
     or_parts (is_some (wait_for_map (operation es))) (is_some (wait_for_registration (registration es)))
@@ -151,6 +156,7 @@ target_can head es k c v ready passes =
     let holds = none_holds (refusals_at_once head es k (Target c v)) passes in (
       none_of (registration es) (sym (registration_waits (registration es)) ∙ alone.1),
       possible head c holds.1.0,
+      there (is_state v) holds.1.1.0,
     )
 
 pub arm_can : (head : Head) (es : List Event) (k c : ℕ) (v : ℤ) → is_disarming v ≡ false → is_waiting es (Arm c v) ≡ false →

@@ -6,21 +6,22 @@ ghost use Rattle.hp_event.specs.declared.head.Head.{Head as AHead};
 ghost use Rattle.hp_event.specs.declared.op.Form.{Form};
 ghost use Rattle.hp_event.specs.declared.op.Op.TheVariants.{Setup, Remove, Add, Del};
 ghost use Rattle.hp_event.specs.declared.event.Event.{Event};
-ghost use Rattle.hp_model.specs.Refusals.{one_online, can_be_armed, refusals_of_target, refusals_of_arm, refusals_after_waits};
-ghost use Rattle.hp_model.specs.RefusalsAtOnce.{first_that_holds, if_so, refusals_at_once};
+ghost use Rattle.hp_model.specs.Refusals.{one_online, refusals_of_target, refusals_of_arm, refusals_after_waits};
+ghost use Rattle.hp_model.specs.RefusalsAtOnce.{first_that_holds, if_so, is_state, refusals_at_once};
 ghost use Rattle.hp_model.specs.Registrations.{registration};
+ghost use Rattle.hp_model.specs.Sequence.{target_of};
 ghost use Rattle.hp_model.specs.Settled.{settled};
 ghost use Rattle.hp_model.specs.Waits.{is_waiting};
 ghost use Rattle.hp_ledger.specs.Account.{IsAccount};
 ghost use Rattle.hp_ledger.specs.Way.{refusals_of_way};
 ghost use Rattle.hp_ledger.specs.Table.{IsTableOf};
 
-use crate::operation::target_of;
 use crate::parts::Parts;
 use crate::refusals_at_once::invalid;
 use hp_event::{Head, Op};
+use hp_files::{check_fail, check_target};
 use hp_hook::Hook;
-use hp_states::{BRINGUP_CPU, EBUSY, EINVAL, ENOSPC, ONLINE, Range, can_stop, is_atomic};
+use hp_states::{EBUSY, EINVAL, ENOSPC, Range};
 use hp_table::Table;
 use std::cmp::Ordering;
 
@@ -59,7 +60,7 @@ impl Parts {
             }
             Op::Boot(_) => busy_or_invalid(disabled, false),
             Op::Enable => invalid(!disabled),
-            Op::Target(cpu, to) => self.refused_target(head, table, cpu, target_of(to)),
+            Op::Target(cpu, to) => self.refused_target(head, table, cpu, to),
             Op::Arm(_, -1) => None,
             Op::Arm(cpu, value) => self.refused_arm(table, cpu, value),
             Op::Setup { state, .. } => refused_setup(table, state),
@@ -78,22 +79,22 @@ impl Parts {
         self.processors.online_count() == 1
     }
 
-    /// The number by which a target is refused.
+    /// The number by which a target is refused that is a state.
     fn refused_target<H: Hook>(
         &self,
         head: &Head,
         table: &Table<H>,
         cpu: u32,
-        to: u32,
+        value: i32,
     ) -> Option<u32>
         ensures { (events : List Event) → IsAccount head.now events self.now → IsTableOf head.now events table.now →
-            registration events ≡ None → cpu < head.now.possible →
-            result ≡ first_that_holds (refusals_of_target head.now events cpu to (settled cpu events)) }
+            registration events ≡ None → cpu < head.now.possible → is_state value ≡ true →
+            result ≡ first_that_holds (refusals_of_target head.now events cpu (target_of value) (settled cpu events)) }
     {
-        if !table.is_named(to) || !can_stop(to) {
-            return Some(EINVAL);
+        match check_target(table, value) {
+            Ok(state) => self.refused_way(head, cpu, state),
+            Err(errno) => Some(errno),
         }
-        self.refused_way(head, cpu, to)
     }
 
     /// The number by which a processor's way to a state is refused at which a walk can be aimed.
@@ -117,26 +118,7 @@ impl Parts {
             registration events ≡ None → cpu < head.possible →
             result ≡ first_that_holds (refusals_of_arm head events cpu value) }
     {
-        if value == -1 {
-            return None;
-        }
-        if value < 0 {
-            return Some(EINVAL);
-        }
-        let state = value as u32;
-        let is_past = state <= BRINGUP_CPU && BRINGUP_CPU < self.shown(cpu);
-        invalid(state > ONLINE || is_atomic(state) || is_past || !has_a_callback(table, state))
-    }
-}
-
-/// Whether a state is registered with a callback of some direction.
-fn has_a_callback<H: Hook>(table: &Table<H>, state: u32) -> bool
-    ensures { (head : AHead) (events : List Event) → IsTableOf head events table.now → registration events ≡ None →
-        result ≡ can_be_armed head state events }
-{
-    match table.step(state) {
-        Some(record) => record.up || record.down,
-        None => false,
+        check_fail(table, value, self.shown(cpu)).err()
     }
 }
 

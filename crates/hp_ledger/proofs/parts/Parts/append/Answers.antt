@@ -1,4 +1,4 @@
-use Rattle.std.proofs.Common.{◌≡◌, ℕ, [], ◌∷◌, ◌++◌, refl, sym, subst}
+use Rattle.std.proofs.Common.{[], ◌∷◌, ◌++◌, refl, sym, subst}
 use Rattle.hp_event.specs.declared.event.Event.{Event}
 use Rattle.hp_event.specs.declared.event.Event.TheVariants.{Call}
 use Rattle.hp_walk.specs.Keys.{keys_by}
@@ -23,8 +23,8 @@ returns-in-Call g c =
       processors = t.processors;
       suspended = λ op is. t.suspended;
       operation = λ head events online held.
-      subst (IsHeldBy head (events ++ e ∷ [])) (sym t.operation)
-      (held_stays head events e old.operation (λ k o n. absurd (cc)) (λ k c a n. absurd (cc)) (λ k a n. absurd (cc)) held);
+          subst (IsHeldBy head (events ++ e ∷ [])) (sym t.operation)
+          (held_stays head events e old.operation (λ k o n. absurd (cc)) (λ k c a n. absurd (cc)) (λ k a n. absurd (cc)) held);
       freed_by_walk = 0;
       freed_by_registration = 0;
       flights = (t.flights, refl);

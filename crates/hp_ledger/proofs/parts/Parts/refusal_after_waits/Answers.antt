@@ -1,5 +1,5 @@
-use Rattle.std.proofs.Common.{◌≡◌, sym, ap, ◌∙◌, rules}
-use Rattle.hp_model.specs.RefusalsAtOnce.{first_that_holds}
+use Rattle.std.proofs.Common.{◌≡◌, ℤ, true, to_z, of_z, w32, sym, ap, subst, ◌∙◌, rules}
+use Rattle.hp_model.specs.RefusalsAtOnce.{first_that_holds, is_state}
 use Rattle.hp_model.specs.Refusals.{refusals_of_target, refusals_after_waits}
 use Rattle.hp_model.specs.Sequence.{target_of}
 use Rattle.hp_model.specs.Settled.{settled}
@@ -11,9 +11,14 @@ returns-in-Target g c = λ events seat account table waits passes.
     let can =
     target_can c.args.head.now events seat c.in-Target.cpu c.in-Target.to (rw c.in-Target.is at waits) (rw c.in-Target.is at passes)
     in
-    let to : c.target_of.result ≡ target_of c.in-Target.to = search rules in
-    c.refused_target.ensures events account table can.0 can.1
-    ∙ ap (λ n. first_that_holds (refusals_of_target c.args.head.now events c.in-Target.cpu n (settled c.in-Target.cpu events))) to
+    let head = c.args.head.now in
+    let cpu = c.in-Target.cpu in
+    let to = c.in-Target.to in
+    let same : to_z w32 (of_z w32 to) ≡ to = search rules in
+    subst
+    (λ (v : ℤ). is_state v ≡ true →
+    c.refused_target.result ≡ first_that_holds (refusals_of_target head events cpu (target_of v) (settled cpu events))) same
+    (c.refused_target.ensures events account table can.0 can.1) can.2
     ∙ sym (ap (λ op. first_that_holds (refusals_after_waits c.args.head.now events op)) c.in-Target.is)
 
 pub returns-in-Setup : goal.returns-in-Setup
