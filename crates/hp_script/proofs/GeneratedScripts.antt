@@ -105,13 +105,13 @@ six_fine hooks size x enough few =
           (both hooks (among 1 12 12 false) (among 1 ops.0 12 false) (among more.0 more.1 12 false) (drawn_lines size x) (actors_from 5 2 size (state_behind_all size x)) (128 * size) (most_of 5 size) ops.2 more.2)),
     )
 
-pub whole : (hooks seed size : ℕ) → 12 ≤ hooks → seed < 2 ^ 64 → size ≤ 1000 → Ends hooks start (generated_lines seed size) 1048576
+pub whole : (hooks seed size : ℕ) → 12 ≤ hooks → seed < 2 ^ 64 → size ≤ 1000 → Ends hooks start (generated_lines seed size) MAX_SCRIPT_BYTES
 unfolding Ends
 whole hooks seed size enough lt few =
     let six = six_fine hooks size (state_behind 4 seed) enough few in (
       six.0,
       six.1,
-      longer hooks _ _ _ (1152 + (64 + (768 + (128 * size + most_of 5 size)))) 1048576 (omega (arith, few))
+      longer hooks _ _ _ (1152 + (64 + (768 + (128 * size + most_of 5 size)))) MAX_SCRIPT_BYTES (omega (arith, few))
           (both hooks start (upper group.Schedule 12 1) (among six.0 six.1 12 false) (heading seed) (actors size (state_behind 4 seed)) 1152 (64 + (768 + (128 * size + most_of 5 size)))
           (heading_fine hooks seed lt) six.2),
     )
