@@ -1,3 +1,4 @@
 pub mod ClientEvents
 pub mod Comes
 pub mod HeadSteps
+pub mod Rooms

@@ -1,19 +1,21 @@
 //! The machine of a journal's checker.
 
-ghost use Rattle.std.specs.Prelude.{◌≡◌, ◌↔◌, ◌++◌, ◌∷◌, [], true, IsTrue, IfOk, OnOk, OnErr};
+ghost use Rattle.std.specs.Prelude.{◌≡◌, ◌↔◌, ◌++◌, ◌∷◌, [], true, false, IsTrue, IfOk, OnOk, OnErr, length};
 ghost use Rattle.hp_event.specs.declared.event.Event.TheVariants.{Admit};
 ghost use Rattle.hp_model.specs.Heads.{IsHead};
 ghost use Rattle.hp_model.specs.How.{answer_at};
 ghost use Rattle.hp_model.specs.Lawful.{Stands};
+ghost use Rattle.hp_model.specs.Needs.{need as room_need, taken};
 ghost use Rattle.hp_model.specs.NextEvent.{due_entry};
 ghost use Rattle.hp_model.specs.FirstEvent.{is_client};
 ghost use Rattle.hp_model.specs.Subsystems.{names_sub};
 ghost use Rattle.hp_law.specs.Asked.{IsOfOperation};
+ghost use Rattle.hp_law.specs.RoomOf.{IsRoomOf};
 
 use crate::asked::asked_by;
 use crate::same::same;
-use crate::taking::add;
-use hp_event::{Event, Head, JournalError, Op, Role};
+use crate::taking::{add, make_room};
+use hp_event::{Event, Head, Journal, Op, Role};
 use hp_hook::ScriptHook;
 use hp_ledger::{Entry, Ledger, Next};
 use hp_states::{MAX_SEATS, NoMemory};
@@ -64,16 +66,7 @@ impl Law {
     pub fn can_stand(&self, event: &Event) -> bool
         ensures { IsTrue result ↔ Stands self.now.head self.now.events event.now }
     {
-        let _ = &self.table;
-        match *event {
-            Event::Admit { seat, role } => self.comes_in(seat, role),
-            Event::Leave { seat } => self.ledger.can_leave(seat),
-            Event::Call { seat, .. } => match self.due(seat) {
-                Some(entry) => same(&entry, event),
-                None => false,
-            },
-            _ => self.comes_next(event),
-        }
+        self.room_of(event).is_some()
     }
 
     /// Takes an event more, which can stand next.
@@ -88,17 +81,81 @@ impl Law {
         ensures err { OnErr result (self.new ≡ self.old) }
     {
         let need = self.ledger.need(&self.table, *event);
-        match self.ledger.reserve(need) {
-            Ok(()) => {}
-            Err(JournalError::NoMemory) => return Err(NoMemory),
-            Err(JournalError::Full) => unreachable!(),
+        self.take_with_room(event, need)
+    }
+
+    /// Takes an event more if it can stand next, and answers whether it can.
+    ///
+    /// Any event may be offered: this is `can_stand` and `take` in one, which looks once for what comes
+    /// next. Where the event can't stand nothing has changed. Takes memory where the journal, the seats
+    /// or a state's instances have no spare place; where that is wanting the event can stand, and nothing
+    /// has changed: `NoMemory`. Takes a time that doesn't grow with the number of events.
+    pub fn offer(&mut self, event: &Event) -> Result<bool, NoMemory>
+        ensures stands { IfOk result (λ stood. IsTrue stood ↔ Stands self.old.head self.old.events event.now) }
+        ensures taken { IfOk result (λ stood. IsTrue stood → self.new
+            ≡ record { head = self.old.head; events = self.old.events ++ event.now ∷ [] }) }
+        ensures refused { IfOk result (λ stood. stood ≡ false → self.new ≡ self.old) }
+        ensures lawful { OnErr result (Stands self.old.head self.old.events event.now) }
+        ensures err { OnErr result (self.new ≡ self.old) }
+    {
+        match self.room_of(event) {
+            Some(need) => {
+                self.take_with_room(event, need)?;
+                Ok(true)
+            }
+            None => Ok(false),
         }
+    }
+
+    /// How many events it took, 0 to `MAX_EVENTS`. Takes no memory.
+    pub fn len(&self) -> u32
+        ensures { result ≡ length self.now.events }
+    {
+        let _ = &self.table;
+        self.ledger.journal().len()
+    }
+
+    /// The journal of the events that it took, with nothing promised. Takes no memory.
+    pub fn into_journal(self) -> Journal
+        ensures { result ≡ record { head = self.head; events = self.events; promised = 0 } }
+    {
+        let _ = &self.table;
+        let mut journal = self.ledger.into_journal();
+        journal.give_back(journal.promised());
+        journal
+    }
+
+    /// Takes an event more, which can stand next and takes so much room of its own.
+    fn take_with_room(&mut self, event: &Event, need: u32) -> Result<(), NoMemory>
+        requires stands { Stands self.old.head self.old.events event.now }
+        requires need { need ≡ taken (room_need self.old.head self.old.events event.now) }
+        ensures ok { OnOk result (self.new
+            ≡ record { head = self.old.head; events = self.old.events ++ event.now ∷ [] }) }
+        ensures err { OnErr result (self.new ≡ self.old) }
+    {
+        make_room(&mut self.ledger, need)?;
         match add(&mut self.ledger, &mut self.table, event) {
             Ok(()) => Ok(()),
             Err(NoMemory) => {
                 self.ledger.release();
                 Err(NoMemory)
             }
+        }
+    }
+
+    /// The room that an event takes of its own, where it can stand next. None where it can't.
+    fn room_of(&self, event: &Event) -> Option<u32>
+        ensures { IsRoomOf self.now.head self.now.events event.now result }
+    {
+        let _ = &self.table;
+        match *event {
+            Event::Admit { seat, role } => self.comes_in(seat, role).then_some(2),
+            Event::Leave { seat } => self.ledger.can_leave(seat).then_some(0),
+            Event::Call { seat, .. } => match self.due(seat) {
+                Some(entry) => same(&entry, event).then_some(0),
+                None => None,
+            },
+            _ => self.comes_next(event),
         }
     }
 
@@ -138,23 +195,24 @@ impl Law {
         }
     }
 
-    /// Whether an event of an operation comes next of its seat.
-    fn comes_next(&self, event: &Event) -> bool
+    /// The room that an event of an operation takes of its own, where it comes next of its seat. None
+    /// where it doesn't.
+    fn comes_next(&self, event: &Event) -> Option<u32>
         requires { IsOfOperation event.now }
-        ensures { IsTrue result ↔ Stands self.now.head self.now.events event.now }
+        ensures { IsRoomOf self.now.head self.now.events event.now result }
     {
         let seat = event.seat();
         let op = asked_by(event);
         let role = self.ledger.role(seat);
         if !is_client(role) {
-            return false;
+            return None;
         }
         if !names_sub(self.ledger.journal().head(), op) {
-            return false;
+            return None;
         }
         match self.ledger.next(&self.table, seat, op) {
-            Next::Event { event: next, .. } => same(&next, event),
-            _ => false,
+            Next::Event { event: next, need } => same(&next, event).then_some(need),
+            _ => None,
         }
     }
 }

@@ -1,12 +1,14 @@
 //! What an event that is taken changes.
 
-ghost use Rattle.std.specs.Prelude.{◌≡◌, ◌++◌, ◌∷◌, [], OnOk, OnErr, is_some};
+ghost use Rattle.std.specs.Prelude.{◌≡◌, ◌+◌, ◌≤◌, ◌++◌, ◌∷◌, [], length, OnOk, OnErr, is_some};
+ghost use Rattle.hp_states.specs.declared.limits.TheConstants.{MAX_EVENTS};
 ghost use Rattle.hp_model.specs.Lawful.{Stands, IsLawful};
 ghost use Rattle.hp_model.specs.Needs.{need, taken};
+ghost use Rattle.hp_model.specs.Promised.{promised};
 ghost use Rattle.hp_ledger.specs.Table.{IsTableOf};
 ghost use Rattle.hp_ledger.specs.TableChanges.{brings_hook};
 
-use hp_event::{Event, Op};
+use hp_event::{Event, JournalError, Op};
 use hp_hook::ScriptHook;
 use hp_ledger::{Ledger, change_table};
 use hp_states::NoMemory;
@@ -37,6 +39,24 @@ pub(crate) fn add(
     change(table, ledger, event)?;
     ledger.append(table, *event);
     Ok(())
+}
+
+/// Reserves room for so many events, of which nothing is reserved yet and which fit. On an error
+/// nothing has changed.
+pub(crate) fn make_room(ledger: &mut Ledger, need: u32) -> Result<(), NoMemory>
+    requires none { ledger.old.reserved ≡ 0 }
+    requires fits { length ledger.old.events + promised ledger.old.head ledger.old.events + need ≤ MAX_EVENTS }
+    ensures ok { OnOk result (ledger.new ≡ record ledger.old { reserved = need }) }
+    ensures err { OnErr result (ledger.new ≡ ledger.old) }
+{
+    if need == 0 {
+        return Ok(());
+    }
+    match ledger.reserve(need) {
+        Ok(()) => Ok(()),
+        Err(JournalError::NoMemory) => Err(NoMemory),
+        Err(JournalError::Full) => unreachable!(),
+    }
 }
 
 /// Changes the table as an event that stands does.

@@ -116,3 +116,26 @@ fn the_named_states_are_of_no_processor(rt: HostRuntime) -> Result<(), Fail> {
     );
     Ok(())
 }
+
+/// Offered one after another those events are taken, and the first not once more; the journal is theirs.
+#[test]
+fn events_that_are_offered_make_a_journal(rt: HostRuntime) -> Result<(), Fail> {
+    let mut head = head(rt.alloc(), 2);
+    head.subs
+        .push(sub(rt.alloc(), b"net:a", HookPlan::none())?)?;
+    head.subs
+        .push(sub(rt.alloc(), b"net:b", HookPlan::none())?)?;
+    if !is_head(&head) {
+        return Err(Fail::from("no machine is started with this head"));
+    }
+    let mut law = Law::start(rt.alloc(), &head)?;
+    for event in &TWO_SETUPS {
+        assert!(rt; law.offer(event)?);
+    }
+    assert!(rt; !law.offer(&TWO_SETUPS[0])?);
+    assert_eq!(rt; law.len(), 9);
+    let journal = law.into_journal();
+    assert!(rt; journal.events() == TWO_SETUPS.as_slice());
+    assert_eq!(rt; journal.promised(), 0);
+    Ok(())
+}

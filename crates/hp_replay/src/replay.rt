@@ -41,7 +41,7 @@ pub fn check(alloc: Global, bytes: &[u8]) -> Result<Journal, ReplayError>
     }
     let mut lines = Lines::of(bytes);
     let head = read_head(alloc, &mut lines)?;
-    let journal = read_events(alloc, head, &mut lines)?;
+    let journal = read_events(alloc, &head, &mut lines)?;
     read_summary(alloc, &journal, &mut lines)?;
     Ok(journal)
 }
