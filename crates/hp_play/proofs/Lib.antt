@@ -1,3 +1,4 @@
 mod JournalLaws
 mod Scripts
 mod Parts
+mod Accepting

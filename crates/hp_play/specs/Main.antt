@@ -1,5 +1,5 @@
 -- What the program answers: a status, and what it writes. This project's own.
-use Rattle.std.specs.Prelude.{◌≡◌, ℕ, ◌+◌, ◌<◌, ◌⊎◌, Option, List, [], ◌∷◌, ◌++◌, take, length, codes}
+use Rattle.std.specs.Prelude.{◌≡◌, ℕ, ◌+◌, ◌<◌, ◌≤◌, ◌⊎◌, Option, Some, List, [], ◌∷◌, ◌++◌, take, length, codes}
 use Rattle.std.specs.Io.KnownBytes.{prepend_known, append_known, IsAtEnd}
 use Rattle.hp_states.specs.declared.limits.TheConstants.{MAX_SCRIPT_BYTES, MAX_JOURNAL_BYTES}
 use Rattle.hp_event.specs.declared.event.Event.{Event}
@@ -16,7 +16,8 @@ use Rattle.hp_replay.specs.Verdict.{IsReplay}
 use Rattle.hp_script.specs.declared.error.ParseError.TheVariants.{Bad as BadScript}
 use Rattle.hp_script.specs.declared.error.ScriptKind.{ScriptKind}
 use Rattle.hp_script.specs.Generated.{generated}
-use Rattle.hp_script.specs.Judged.{IsRefused}
+use Rattle.hp_script.specs.Judged.{IsRead, IsRefused}
+use Rattle.hp_script.specs.Script.{Contents}
 use Rattle.hp_play.specs.declared.output.Output.{Output}
 use Rattle.hp_play.specs.declared.output.Output.TheVariants as writes
 use Rattle.hp_play.specs.Played.{IsPlayed, counted_hooks}
@@ -60,6 +61,31 @@ IsDoneBy asks.Replay hooks rack left now written = IsReplayed left now written
 IsDoneBy (asks.Gen options) hooks rack left now written = (now ≡ left) × (written ≡ generated options.seed options.size)
 IsDoneBy (asks.Bench options) hooks rack left now written =
     IsBenchPlayed options.seed options.size hooks rack left now written
+
+-- ---- what is accepted
+
+-- the source holds a script
+pub record HoldsScript (hooks : ℕ) (left : Option (List ℕ)) : Type 0 where
+  pub bytes : List ℕ
+  pub script : Contents
+  pub held : left ≡ Some bytes
+  pub is_script : IsRead (counted_hooks hooks) bytes script
+
+-- the source holds the text of a lawful journal, with or without its summary
+pub record HoldsJournal (left : Option (List ℕ)) : Type 0 where
+  pub bytes : List ℕ
+  pub head : Head
+  pub events : List Event
+  pub held : left ≡ Some bytes
+  pub is_text : IsReplay bytes (accepted head events)
+
+-- what a command needs: the input that it reads, or of `bench` the hooks for the twelve setups of a generated script
+abbrev pub HasInput : Command → (hooks : ℕ) (left : Option (List ℕ)) → Type 0
+HasInput asks.Play hooks left = HoldsScript hooks left
+HasInput asks.States hooks left = HoldsScript hooks left
+HasInput asks.Replay hooks left = HoldsJournal left
+HasInput (asks.Gen options) hooks left = Unit {0}
+HasInput (asks.Bench options) hooks left = 12 ≤ hooks
 
 -- ---- what is refused
 

@@ -4,7 +4,7 @@ ghost use Rattle.std.specs.Prelude.{◌≡◌, ◌≢◌, ℕ, ◌+◌, ◌<◌,
 ghost use Rattle.std.specs.Io.KnownBytes.{append_known};
 ghost use Rattle.hp_command.specs.declared.command.Command.{Command};
 ghost use Rattle.hp_command.specs.Commands.{IsCommand};
-ghost use Rattle.hp_play.specs.Main.{Answer, Asked, Writes, WritesPart};
+ghost use Rattle.hp_play.specs.Main.{Answer, Asked, HasInput, Writes, WritesPart};
 ghost use Rattle.hp_play.specs.Stops.{Reads};
 
 use crate::commands::output_of;
@@ -70,7 +70,8 @@ fn write<K: Sink>(sink: &mut K, bytes: &[u8], status: u8) -> u8
 /// | 5 | memory was wanting | nothing |
 /// | 6 | exactly where the journal is refused, of `replay` alone | its first line that can't stand, and the cause |
 ///
-/// For the statuses 0, 2 and 6 of a command that reads, the source was read to its end, or to one byte past the
+/// A script, and the text of a lawful journal, is never refused: where no read and no write fails the status is
+/// 0, or 5. For the statuses 0, 2 and 6 of a command that reads, the source was read to its end, or to one byte past the
 /// most bytes of such an input. A script is played with hooks of the rack, one for each of its setups; the
 /// journal is the run of its actors by its schedule, and lawful: `specs/Played.antt` says what is so of it and
 /// of the rack after it. The statuses are this project's own.
@@ -86,6 +87,12 @@ pub fn hp_main<S: Source, K: Sink, H: Hook>(
 
     // Which statuses there are.
     ensures statuses { result ≤ BAD_JOURNAL }
+
+    // What has its input is done, where no object fails and memory isn't wanting.
+    ensures accepted { Asked (map string_bytes words.now.items)
+        (λ command. HasInput command (length rack.old.hooks.items) (S.left source.old)) →
+        S.faults source.new ≡ S.faults source.old → K.faults sink.new ≡ K.faults sink.old →
+        (result ≡ DONE) ⊎ (result ≡ NO_MEMORY) }
 
     // What is written under 0, 1, 2 and 6.
     ensures done { result ≡ DONE → Writes Answer.done (map string_bytes words.now.items)

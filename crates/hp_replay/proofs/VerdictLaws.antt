@@ -11,7 +11,7 @@ use Rattle.hp_replay.specs.Kinds.{kind_of}
 use Rattle.hp_replay.specs.Stages.{Stage, begins, titled, counted, headed, ruled, among_events, whole, among_summary, Step, goes, asks, stops, step}
 use Rattle.hp_replay.specs.Judged.{Outcome, accepted, refused, at_end, Leads, Judged}
 use Rattle.hp_replay.proofs.Follows.{Follows, judged_follows, follows_judged}
-use Rattle.hp_replay.specs.Verdict.{IsTextOf, IsFirstBad, IsCutOff, IsVerdict}
+use Rattle.hp_replay.specs.Verdict.{IsTextOf, IsFirstBad, IsCutOff, IsVerdict, IsReplay}
 use Rattle.hp_replay.proofs.Passes.{Passes, passes_one, passes-append, passes_front}
 use Rattle.hp_replay.proofs.Reached.{reached_stands}
 use Rattle.hp_replay.proofs.CanPass.{can_pass, reached_from, text_is_accepted, whole_is_text, summary_is_text}
@@ -205,3 +205,10 @@ judged_one s n (l ∷ ls) a b p q = one_step (step s l) n (λ o m. Judged m (n +
 -- an input has at most one verdict
 pub verdict_one : (bytes : List ℕ) (a b : Outcome) → IsVerdict bytes a → IsVerdict bytes b → a ≡ b
 verdict_one bytes a b p q = judged_one begins 1 (lines_of bytes) a b (verdict_is_judged bytes a p) (verdict_is_judged bytes b q)
+
+-- any input has one outcome at most
+pub one_outcome : (bytes : List ℕ) (a b : Outcome) → IsReplay bytes a → IsReplay bytes b → a ≡ b
+one_outcome bytes a b (inl p) (inl q) = p.1 ∙ sym q.1
+one_outcome bytes a b (inl p) (inr q) = absurd (omega (arith, p.0, q.0))
+one_outcome bytes a b (inr p) (inl q) = absurd (omega (arith, p.0, q.0))
+one_outcome bytes a b (inr p) (inr q) = verdict_one bytes a b p.1 q.1

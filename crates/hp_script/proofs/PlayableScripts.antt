@@ -129,7 +129,8 @@ fine_or_bad hooks b (l ∷ ls) = by_refusal (refusal hooks b l) refl (fine_or_ba
       refused = bad.refused;
     })
 
-short_read : (hooks : ℕ) (bytes : List ℕ) (script : Contents) → IsRead hooks bytes script → length bytes ≤ MAX_SCRIPT_BYTES
+-- a script that is read isn't too long
+pub short_read : (hooks : ℕ) (bytes : List ℕ) (script : Contents) → IsRead hooks bytes script → length bytes ≤ MAX_SCRIPT_BYTES
 short_read hooks bytes script read = by_length (nat_le (length bytes) MAX_SCRIPT_BYTES) refl
   where
     by_length : (t : Bool) → nat_le (length bytes) MAX_SCRIPT_BYTES ≡ t → length bytes ≤ MAX_SCRIPT_BYTES

@@ -1,11 +1,11 @@
-use Rattle.std.proofs.Common.{◌≡◌, ℕ, ◌≤◌, ◌<◌, List, length, sym, ◌∙◌, inl, inr, arith}
+use Rattle.std.proofs.Common.{◌≡◌, ℕ, ◌≤◌, ◌<◌, List, length, inl, inr, arith}
 use Rattle.hp_states.specs.declared.limits.TheConstants.{MAX_JOURNAL_BYTES}
 use Rattle.hp_event.specs.declared.head.Head.{Head}
 use Rattle.hp_event.specs.declared.event.Event.{Event}
 use Rattle.hp_replay.specs.declared.error.ReplayKind.TheVariants.{TooLong}
 use Rattle.hp_replay.specs.Judged.{Outcome, accepted, refused}
 use Rattle.hp_replay.specs.Verdict.{IsTextOf, IsReplay}
-use Rattle.hp_replay.proofs.VerdictLaws.{verdict_one}
+use Rattle.hp_replay.proofs.VerdictLaws.{one_outcome}
 use Rattle.hp_replay.proofs.laws.accepted_is_text.Goals as goal
 
 is_text : (bytes : List ℕ) (head : Head) (events : List Event) → IsReplay bytes (accepted head events) → (length bytes ≤ MAX_JOURNAL_BYTES) × IsTextOf bytes head events
@@ -16,12 +16,6 @@ is_long : (bytes : List ℕ) (o : Outcome) → MAX_JOURNAL_BYTES < length bytes 
 is_long bytes o lt (inl h) = h.1
 is_long bytes o lt (inr h) = absurd (omega (arith, lt, h.0))
 
-is_one : (bytes : List ℕ) (a b : Outcome) → IsReplay bytes a → IsReplay bytes b → a ≡ b
-is_one bytes a b (inl p) (inl q) = p.1 ∙ sym q.1
-is_one bytes a b (inl p) (inr q) = absurd (omega (arith, p.0, q.0))
-is_one bytes a b (inr p) (inl q) = absurd (omega (arith, p.0, q.0))
-is_one bytes a b (inr p) (inr q) = verdict_one bytes a b p.1 q.1
-
 pub returns-clause-accepted : goal.returns-clause-accepted
 returns-clause-accepted c = λ head events. (λ h. is_text c.args.input.now head events h, λ h. inr h)
 
@@ -29,4 +23,4 @@ pub returns-clause-too_long : goal.returns-clause-too_long
 returns-clause-too_long c = λ o lt. (λ h. is_long c.args.input.now o lt h, λ h. inl (lt, h))
 
 pub returns-clause-one : goal.returns-clause-one
-returns-clause-one c = λ a b p q. is_one c.args.input.now a b p q
+returns-clause-one c = λ a b p q. one_outcome c.args.input.now a b p q

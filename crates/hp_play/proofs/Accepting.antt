@@ -1,0 +1,81 @@
+-- A command that has its input isn't refused.
+use Rattle.std.proofs.Common.{◌≡◌, ℕ, ◌+◌, ◌<◌, ◌≤◌, ◌⊎◌, inl, inr, Option, Some, None, List, [], ◌++◌, length, sym, subst, ◌∙◌, arith}
+use Rattle.std.proofs.lemmas.List.{append-nil, length-append}
+use Rattle.hp_states.specs.declared.limits.TheConstants.{MAX_SCRIPT_BYTES, MAX_JOURNAL_BYTES}
+use Rattle.hp_event.specs.declared.head.Head.{Head}
+use Rattle.hp_event.specs.declared.event.Event.{Event}
+use Rattle.hp_command.specs.declared.command.Command.{Command}
+use Rattle.hp_command.specs.declared.command.Command.TheVariants as asks
+use Rattle.hp_command.specs.Commands.{IsCommand}
+use Rattle.hp_command.proofs.CommandLaws.{same_command}
+use Rattle.hp_script.specs.Judged.{IsRefused}
+use Rattle.hp_script.proofs.PlayableScripts.{short_read}
+use Rattle.hp_replay.specs.declared.error.ReplayKind.{ReplayKind}
+use Rattle.hp_replay.specs.Judged.{Outcome, accepted, refused}
+use Rattle.hp_replay.specs.Verdict.{IsReplay}
+use Rattle.hp_replay.proofs.VerdictLaws.{one_outcome}
+use Rattle.hp_play.specs.Main.{WasRead, Asked, HoldsScript, HoldsJournal, HasInput, IsBadScript, IsBadJournal, IsRefusedBy}
+use Rattle.hp_play.specs.Played.{counted_hooks}
+
+same_some : (a b : List ℕ) → Some a ≡ Some b → a ≡ b
+same_some a b h = cc
+
+-- of bytes that are few enough all were read
+all_read : (limit : ℕ) (left now : Option (List ℕ)) (bytes all : List ℕ) → left ≡ Some all → length all ≤ limit →
+    WasRead limit left now bytes → bytes ≡ all
+all_read limit left None bytes all held few read = let first = sym held ∙ read.first in absurd (cc)
+all_read limit left (Some rest) bytes all held few read = go read.whole
+  where
+    parts : bytes ++ rest ≡ all
+    parts = same_some (bytes ++ rest) all (sym read.first ∙ held)
+
+    go : (rest ≡ []) ⊎ (length bytes ≡ limit + 1) → bytes ≡ all
+    go (inl none) = sym (append-nil bytes) ∙ (rw none at parts)
+    go (inr many) =
+        let more = length-append bytes rest in
+        let whole : length (bytes ++ rest) ≤ limit = rw parts few in
+        absurd (omega (arith, more, many, whole))
+
+no_bad_script : (hooks : ℕ) (left now : Option (List ℕ)) (written : List ℕ) → HoldsScript hooks left → IsBadScript hooks left now written → ⊥
+no_bad_script hooks left now written s bad =
+    let few = short_read (counted_hooks hooks) s.bytes s.script s.is_script in
+    let same = all_read MAX_SCRIPT_BYTES left now bad.bytes s.bytes s.held few bad.read in
+    s.is_script.unrefused bad.line bad.kind
+    (subst (λ (bytes : List ℕ). IsRefused (counted_hooks hooks) bytes bad.line bad.kind) same bad.refused)
+
+not_refused : (command : Command) (hooks : ℕ) (left now : Option (List ℕ)) (written : List ℕ) → HasInput command hooks left →
+    IsRefusedBy command hooks left now written → ⊥
+not_refused asks.Play hooks left now written has bad = no_bad_script hooks left now written has bad
+not_refused asks.States hooks left now written has bad = no_bad_script hooks left now written has bad
+not_refused asks.Replay hooks left now written has bad = bad
+not_refused (asks.Gen options) hooks left now written has bad = bad
+not_refused (asks.Bench options) hooks left now written has bad = let few = bad.few_hooks in omega (arith, has, few)
+
+-- the command that the words ask for is refused by no script
+pub no_refusal : (words : List (List ℕ)) (command : Command) (hooks : ℕ) (left now : Option (List ℕ)) (written : List ℕ) →
+    Asked words (λ c. HasInput c hooks left) → IsCommand words command → IsRefusedBy command hooks left now written → ⊥
+no_refusal words command hooks left now written has is bad =
+    not_refused has.command hooks left now written has.is
+    (subst (λ (c : Command). IsRefusedBy c hooks left now written) (same_command words command has.command is has.asked) bad)
+
+text_is_short : (bytes : List ℕ) (head : Head) (events : List Event) → IsReplay bytes (accepted head events) → length bytes ≤ MAX_JOURNAL_BYTES
+text_is_short bytes head events (inl h) = let e = h.1 in absurd (cc)
+text_is_short bytes head events (inr h) = h.0
+
+accepted_refused : (head : Head) (events : List Event) (line : ℕ) (kind : ReplayKind) → accepted head events ≡ refused line kind → ⊥
+accepted_refused head events line kind h = cc
+
+no_bad_journal : (left now : Option (List ℕ)) (written : List ℕ) → HoldsJournal left → IsBadJournal left now written → ⊥
+no_bad_journal left now written j bad =
+    let few = text_is_short j.bytes j.head j.events j.is_text in
+    let same = all_read MAX_JOURNAL_BYTES left now bad.bytes j.bytes j.held few bad.read in
+    let is = subst (λ (bytes : List ℕ). IsReplay bytes (refused bad.line bad.kind)) same bad.refused_is in
+    accepted_refused j.head j.events bad.line bad.kind
+    (one_outcome j.bytes (accepted j.head j.events) (refused bad.line bad.kind) j.is_text is)
+
+-- nor by a journal
+pub no_journal_refusal : (words : List (List ℕ)) (command : Command) (hooks : ℕ) (left now : Option (List ℕ)) (written : List ℕ) →
+    Asked words (λ c. HasInput c hooks left) → IsCommand words command → command ≡ asks.Replay → IsBadJournal left now written → ⊥
+no_journal_refusal words command hooks left now written has is replay bad =
+    let same = sym (same_command words command has.command is has.asked) ∙ replay in
+    no_bad_journal left now written (subst (λ (c : Command). HasInput c hooks left) same has.is) bad
