@@ -54,6 +54,25 @@ place_above k (x ∷ xs) (suc j) d o h p =
     let first : is_before x.key k ≡ true = before_after x.key (get_or xs j d).key k (before_all_at x.key xs j d o.0 (omega arith)) p in
     grind arith
 
+before_same : (a b k : Key) → is_before a b ≡ true → is_key b k ≡ true → is_before a k ≡ true
+before_same a b k p q = grind (arith, nat_tests)
+
+same_not_after : (a k : Key) → is_key a k ≡ true → is_before k a ≡ false
+same_not_after a k p = grind (arith, nat_tests)
+
+same_not_before : (a k : Key) → is_key a k ≡ true → is_before a k ≡ false
+same_not_before a k p = grind (arith, nat_tests)
+
+-- a key stands at its place
+pub place_here : (k : Key) (xs : List KeyCount) (j : ℕ) (d : KeyCount) → AreInOrder xs → j < length xs →
+    is_key (get_or xs j d).key k ≡ true → j ≡ place k xs
+place_here k [] j d o h p = absurd (omega arith)
+place_here k (x ∷ xs) zero d o h p = rw (same_not_before x.key k p) refl
+place_here k (x ∷ xs) (suc j) d o h p =
+    let rest : j ≡ place k xs = place_here k xs j d o.1 (omega arith) p in
+    let first : is_before x.key k ≡ true = before_same x.key (get_or xs j d).key k (before_all_at x.key xs j d o.0 (omega arith)) p in
+    rw first (ap suc rest)
+
 -- where the last key is before another, that one's place is the end
 pub place_at_end : (k : Key) (xs : List KeyCount) (d : KeyCount) → AreInOrder xs → 0 < length xs →
     is_before (get_or xs (length xs - 1) d).key k ≡ true → length xs ≡ place k xs
@@ -199,6 +218,14 @@ pub there_at : (k : Key) (xs : List KeyCount) (at : ℕ) (z : KeyCount) → at �
 there_at k xs at z p l e b =
     let here : get_or xs (place k xs) z ≡ z = cc in
     sym (with_there k xs z (rw (← p) l) (rw here b))
+
+pub same_at : (k : Key) (xs : List KeyCount) (at : ℕ) (z : KeyCount) → AreInOrder xs → at < length xs →
+    z ≡ get_or xs at z → is_key z.key k ≡ true → at ≡ place k xs
+same_at k xs at z o l e b = place_here k xs at z o l (rw (← e) b)
+
+pub same_there : (k : Key) (xs : List KeyCount) (at : ℕ) (z : KeyCount) → AreInOrder xs → at < length xs →
+    z ≡ get_or xs at z → is_key z.key k ≡ true → xs ≡ with_count k xs
+same_there k xs at z o l e b = there_at k xs at z (same_at k xs at z o l e b) l e (same_not_after z.key k b)
 
 pub new_between : (k : Key) (xs : List KeyCount) (at : ℕ) (z : KeyCount) → at ≡ place k xs → z ≡ get_or xs at z →
     is_before k z.key ≡ true → with_count k xs ≡ insert xs at (no_count k)

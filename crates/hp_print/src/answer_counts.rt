@@ -1,11 +1,10 @@
 //! How operations were answered.
 
-ghost use Rattle.std.specs.Prelude.{◌≡◌, Option};
-ghost use Rattle.hp_model.specs.Events.{answer_by};
-ghost use Rattle.hp_model.specs.Summary.{ok, refused, fault, stuck, full};
-ghost use Rattle.hp_print.specs.Steps.{answers_after};
+ghost use Rattle.std.specs.Prelude.{◌≡◌, if◌then◌else◌};
+ghost use Rattle.hp_model.specs.Summary.{is_kind, ok, refused, fault, stuck, full};
+ghost use Rattle.hp_print.specs.Counts.{one_more};
 
-use hp_event::{Answer, Event};
+use hp_event::Answer;
 
 /// How many operations were answered in each of the five ways.
 #[derive(Clone, Copy, Debug)]
@@ -15,22 +14,6 @@ pub struct AnswerCounts {
     pub fault: usize,
     pub stuck: usize,
     pub full: usize,
-}
-
-/// The answer of an operation that an event gives, where it gives one.
-fn answer_of(event: &Event) -> Option<Answer>
-    ensures { result ≡ answer_by event.now }
-{
-    match *event {
-        Event::Refused { errno, .. } => Some(Answer::Refused(errno)),
-        Event::OpEnd { answer, .. } | Event::RegEnd { answer, .. } => Some(answer),
-        Event::Shown { value, .. } => Some(Answer::Ok(value)),
-        Event::ReadLock { .. }
-        | Event::ReadUnlock { .. }
-        | Event::Armed { .. }
-        | Event::Wakeup { .. } => Some(Answer::Ok(0)),
-        _ => None,
-    }
 }
 
 impl AnswerCounts {
@@ -47,21 +30,21 @@ impl AnswerCounts {
         }
     }
 
-    /// Counts one event more.
-    pub fn count(&mut self, event: &Event)
-        ensures ok { self.new.ok ≡ answers_after ok self.old.ok event.now }
-        ensures refused { self.new.refused ≡ answers_after refused self.old.refused event.now }
-        ensures fault { self.new.fault ≡ answers_after fault self.old.fault event.now }
-        ensures stuck { self.new.stuck ≡ answers_after stuck self.old.stuck event.now }
-        ensures full { self.new.full ≡ answers_after full self.old.full event.now }
+    /// Counts one answer more.
+    pub fn count(&mut self, answer: Answer)
+        ensures ok { self.new.ok ≡ (if is_kind ok answer then one_more self.old.ok else self.old.ok) }
+        ensures refused { self.new.refused
+            ≡ (if is_kind refused answer then one_more self.old.refused else self.old.refused) }
+        ensures fault { self.new.fault ≡ (if is_kind fault answer then one_more self.old.fault else self.old.fault) }
+        ensures stuck { self.new.stuck ≡ (if is_kind stuck answer then one_more self.old.stuck else self.old.stuck) }
+        ensures full { self.new.full ≡ (if is_kind full answer then one_more self.old.full else self.old.full) }
     {
-        match answer_of(event) {
-            None => {}
-            Some(Answer::Ok(_)) => self.ok = self.ok.saturating_add(1),
-            Some(Answer::Refused(_)) => self.refused = self.refused.saturating_add(1),
-            Some(Answer::Fault(_)) => self.fault = self.fault.saturating_add(1),
-            Some(Answer::Stuck { .. }) => self.stuck = self.stuck.saturating_add(1),
-            Some(Answer::LogFull) => self.full = self.full.saturating_add(1),
+        match answer {
+            Answer::Ok(_) => self.ok = self.ok.saturating_add(1),
+            Answer::Refused(_) => self.refused = self.refused.saturating_add(1),
+            Answer::Fault(_) => self.fault = self.fault.saturating_add(1),
+            Answer::Stuck { .. } => self.stuck = self.stuck.saturating_add(1),
+            Answer::LogFull => self.full = self.full.saturating_add(1),
         }
     }
 }

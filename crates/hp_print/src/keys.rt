@@ -1,4 +1,7 @@
 //! How often the entries of each key are done.
+//!
+//! The counts of a processor stand in the order of their keys, and the same few keys come again and
+//! again, walk after walk. So where a key was found is remembered, and looked at first.
 
 ghost use Rattle.std.specs.Prelude.{◌≡◌, ◌≤◌, ◌<◌, ◌++◌, ◌∷◌, [], List, OnOk, IfOk, length, vec_len, insert, ◌+◌};
 ghost use Rattle.hp_model.specs.Net.{is_before as is_before_of};
@@ -15,6 +18,17 @@ pub struct KeyCount {
     pub key: Key,
     pub ups: usize,
     pub downs: usize,
+}
+
+/// How many places are remembered.
+const REMEMBERED: usize = 256;
+
+/// Under which number the place of a key is remembered. Keys may share one: then the last that came
+/// has it.
+fn slot_of(key: Key) -> usize
+    ensures { result < REMEMBERED }
+{
+    (key.state as usize * 4 + key.inst as usize) % REMEMBERED
 }
 
 /// Whether a key is before another, as keys are ordered.
@@ -43,8 +57,8 @@ fn place_by_halves(counts: &[KeyCount], key: Key) -> usize
     low
 }
 
-/// How many keys of a list that rises are before a key. Most keys are counted in rising order, so
-/// the end is looked at first.
+/// How many keys of a list that rises are before a key. Keys mostly come for the first time in rising
+/// order, so the end is looked at first.
 fn place_of(counts: &[KeyCount], key: Key) -> usize
     requires { AreInOrder counts.now }
     ensures place { result ≡ place key counts.now }
@@ -77,13 +91,17 @@ fn put(counts: &mut Vec<KeyCount>, at: usize, key: Key) -> Result<(), AllocError
     Ok(())
 }
 
-/// Puts a count of a key in its place, unless there is one; answers the place.
-fn admit(counts: &mut Vec<KeyCount>, key: Key) -> Result<usize, AllocError>
+/// Puts a count of a key in its place, unless there is one; answers the place. It is mostly the one
+/// that was remembered.
+fn admit(counts: &mut Vec<KeyCount>, key: Key, remembered: usize) -> Result<usize, AllocError>
     requires { AreInOrder counts.old.items }
     ensures place { IfOk result (λ p. p ≡ place key counts.old.items) }
     ensures counts { OnOk result (counts.new.items ≡ with_count key counts.old.items) }
     ensures within { IfOk result (λ p. p < vec_len counts.new) }
 {
+    if remembered < counts.len() && counts[remembered].key == key {
+        return Ok(remembered);
+    }
     let at = place_of(counts.as_slice(), key);
     if at < counts.len() && !is_before(key, counts[at].key) {
         return Ok(at);
@@ -92,12 +110,18 @@ fn admit(counts: &mut Vec<KeyCount>, key: Key) -> Result<usize, AllocError>
     Ok(at)
 }
 
-/// Counts an entry of a key.
-fn count(counts: &mut Vec<KeyCount>, key: Key, dir: Dir, done: bool) -> Result<(), AllocError>
+/// Counts an entry of a key; answers its place.
+fn count(
+    counts: &mut Vec<KeyCount>,
+    key: Key,
+    remembered: usize,
+    dir: Dir,
+    done: bool,
+) -> Result<usize, AllocError>
     requires { AreInOrder counts.old.items }
     ensures { OnOk result (counts.new.items ≡ counted key dir done counts.old.items) }
 {
-    let at = admit(counts, key)?;
+    let at = admit(counts, key, remembered)?;
     if done {
         let count = &mut counts[at];
         match dir {
@@ -105,13 +129,15 @@ fn count(counts: &mut Vec<KeyCount>, key: Key, dir: Dir, done: bool) -> Result<(
             Dir::Down => count.downs = count.downs.saturating_add(1),
         }
     }
-    Ok(())
+    Ok(at)
 }
 
 /// The counts of a processor's keys, which rise.
 #[derive(Drop)]
 pub struct KeyCounts {
     counts: Vec<KeyCount>,
+    /// Where the key of each slot was when it last came; it may have moved since.
+    places: [usize; REMEMBERED],
 }
 
 impl Model for KeyCounts {
@@ -130,6 +156,7 @@ impl KeyCounts {
     {
         KeyCounts {
             counts: Vec::new(alloc),
+            places: [0; REMEMBERED],
         }
     }
 
@@ -145,6 +172,9 @@ impl KeyCounts {
         requires { AreInOrder self.old }
         ensures { OnOk result (self.new ≡ counted key dir done self.old) }
     {
-        count(&mut self.counts, key, dir, done)
+        let slot = slot_of(key);
+        let at = count(&mut self.counts, key, self.places[slot], dir, done)?;
+        self.places[slot] = at;
+        Ok(())
     }
 }

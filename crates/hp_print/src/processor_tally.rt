@@ -3,12 +3,12 @@
 ghost use Rattle.std.specs.Prelude.{◌≡◌, ℕ, IfOk, OnOk, List, [], slice_set, slice_index_or, replicate};
 ghost use Rattle.hp_states.specs.declared.limits.TheConstants.{ONLINE};
 ghost use Rattle.hp_print.specs.Tallies.{IsProcessorTally};
-ghost use Rattle.hp_print.specs.Counts.{AreInOrder};
-ghost use Rattle.hp_print.specs.Steps.{targets_after, settled_after, keys_after, stands_after};
+ghost use Rattle.hp_print.specs.Counts.{AreInOrder, counted};
+ghost use Rattle.hp_print.specs.Steps.{stands_after};
 
 use crate::keys::KeyCounts;
-use hp_event::{Answer, Event, Key};
-use hp_states::{OFFLINE, first_state};
+use hp_event::{Answer, Key};
+use hp_states::{Dir, OFFLINE, first_state};
 use std::alloc::{AllocError, Global};
 
 /// What is tallied of the processors of a journal, each at its number.
@@ -53,44 +53,8 @@ impl ProcessorTally {
         })
     }
 
-    /// Counts one event more.
-    pub fn count(&mut self, event: &Event) -> Result<(), AllocError>
-        requires order { (c : ℕ) → AreInOrder (slice_index_or self.old.keys.items c []) }
-        ensures targets { OnOk result (self.new.targets.items ≡ targets_after self.old.targets.items event.now) }
-        ensures settled { OnOk result
-            (self.new.settled.items ≡ settled_after self.old.targets.items self.old.settled.items event.now) }
-        ensures keys { OnOk result (self.new.keys.items ≡ keys_after self.old.keys.items event.now) }
-    {
-        match *event {
-            Event::WalkBegin { cpu, to, .. } => {
-                self.begin(cpu, to);
-                Ok(())
-            }
-            Event::Call {
-                cpu,
-                state,
-                inst,
-                dir,
-                how,
-                ..
-            } => {
-                let at = cpu as usize;
-                if at < self.keys.len() {
-                    self.keys[at].count(Key { state, inst }, dir, how.is_done())
-                } else {
-                    Ok(())
-                }
-            }
-            Event::WalkEnd { cpu, answer, .. } => {
-                self.end(cpu, answer);
-                Ok(())
-            }
-            _ => Ok(()),
-        }
-    }
-
     /// A walk begins.
-    fn begin(&mut self, cpu: u32, to: u32)
+    pub fn begin(&mut self, cpu: u32, to: u32)
         ensures targets { self.new.targets.items ≡ slice_set self.old.targets.items cpu (Some to) }
         ensures settled { self.new.settled.items ≡ self.old.settled.items }
         ensures keys { self.new.keys.items ≡ self.old.keys.items }
@@ -101,8 +65,26 @@ impl ProcessorTally {
         }
     }
 
+    /// An entry of a key.
+    pub fn call(&mut self, cpu: u32, key: Key, dir: Dir, done: bool) -> Result<(), AllocError>
+        requires order { (c : ℕ) → AreInOrder (slice_index_or self.old.keys.items c []) }
+        ensures targets { self.new.targets.items ≡ self.old.targets.items }
+        ensures settled { self.new.settled.items ≡ self.old.settled.items }
+        ensures keys { OnOk result
+            (self.new.keys.items
+            ≡ slice_set self.old.keys.items cpu
+            (counted key dir done (slice_index_or self.old.keys.items cpu []))) }
+    {
+        let at = cpu as usize;
+        if at < self.keys.len() {
+            self.keys[at].count(key, dir, done)
+        } else {
+            Ok(())
+        }
+    }
+
     /// A walk ends.
-    fn end(&mut self, cpu: u32, answer: Answer)
+    pub fn end(&mut self, cpu: u32, answer: Answer)
         ensures targets { self.new.targets.items ≡ slice_set self.old.targets.items cpu None }
         ensures settled { self.new.settled.items
             ≡ slice_set self.old.settled.items cpu

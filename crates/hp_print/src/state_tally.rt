@@ -7,10 +7,10 @@ ghost use Rattle.hp_model.specs.Summary.{is_hook_fault};
 ghost use Rattle.hp_event.specs.declared.head.Head.{Head};
 ghost use Rattle.hp_print.specs.Counts.{one_more};
 ghost use Rattle.hp_print.specs.Tallies.{IsStateTally};
-ghost use Rattle.hp_print.specs.Steps.{asked_after, subs_after, subs_applied, sub_after, all_insts_after, all_insts_applied, insts_after, begun_anew, calls_after};
+ghost use Rattle.hp_print.specs.Steps.{subs_applied, sub_after, all_insts_applied, insts_after, begun_anew};
 
 use crate::instance_list::InstanceList;
-use hp_event::{Answer, Event, How, Op};
+use hp_event::{Answer, How, Op};
 use hp_states::ONLINE;
 use std::alloc::{AllocError, Global};
 
@@ -108,32 +108,8 @@ impl StateTally {
         })
     }
 
-    /// Counts one event more.
-    pub fn count(&mut self, event: &Event) -> Result<(), AllocError>
-        ensures asked { OnOk result (self.new.asked ≡ asked_after self.old.asked event.now) }
-        ensures subs { OnOk result (self.new.subs.items ≡ subs_after self.old.asked self.old.subs.items event.now) }
-        ensures insts { OnOk result
-            (self.new.insts.items
-            ≡ all_insts_after self.old.asked self.old.subs.items self.old.insts.items event.now) }
-        ensures made { OnOk result (self.new.made.items ≡ calls_after is_called self.old.made.items event.now) }
-        ensures faults { OnOk result (self.new.faults.items ≡ calls_after is_hook_fault self.old.faults.items event.now) }
-    {
-        match *event {
-            Event::RegBegin { state, op, .. } => {
-                self.begin(state, op);
-                Ok(())
-            }
-            Event::Call { state, how, .. } => {
-                self.call(state, how);
-                Ok(())
-            }
-            Event::RegEnd { answer, .. } => self.end(answer),
-            _ => Ok(()),
-        }
-    }
-
     /// A registration begins.
-    fn begin(&mut self, state: u32, op: Op)
+    pub fn begin(&mut self, state: u32, op: Op)
         ensures asked { self.new.asked ≡ Some (record { state = state; op = op }) }
         ensures subs { self.new.subs.items ≡ self.old.subs.items }
         ensures insts { self.new.insts.items ≡ self.old.insts.items }
@@ -148,7 +124,7 @@ impl StateTally {
     }
 
     /// An entry of a state.
-    fn call(&mut self, state: u32, how: How)
+    pub fn call(&mut self, state: u32, how: How)
         ensures asked { self.new.asked ≡ self.old.asked }
         ensures subs { self.new.subs.items ≡ self.old.subs.items }
         ensures insts { self.new.insts.items ≡ self.old.insts.items }
@@ -170,7 +146,7 @@ impl StateTally {
     }
 
     /// The registration ends.
-    fn end(&mut self, answer: Answer) -> Result<(), AllocError>
+    pub fn end(&mut self, answer: Answer) -> Result<(), AllocError>
         ensures asked { OnOk result (self.new.asked ≡ None) }
         ensures subs { OnOk result
             (self.new.subs.items

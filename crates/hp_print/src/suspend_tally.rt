@@ -3,9 +3,9 @@
 ghost use Rattle.std.specs.Prelude.{◌≡◌, ◌-◌, ◌&&◌, ◌++◌, ◌∷◌, if◌then◌else◌, OnOk, List, []};
 ghost use Rattle.hp_model.specs.Suspend.{is_ok, is_freeze, is_thaw, is_disabling, is_enabling};
 ghost use Rattle.hp_print.specs.Counts.{one_more};
-ghost use Rattle.hp_print.specs.Steps.{op_after, disabled_after, frozen_after, is_held};
+ghost use Rattle.hp_print.specs.Steps.{is_held};
 
-use hp_event::{Answer, Event, Op};
+use hp_event::{Answer, Op};
 use std::alloc::{AllocError, Global};
 
 /// What is tallied of what operations of the map lock left behind.
@@ -33,28 +33,8 @@ impl SuspendTally {
         }
     }
 
-    /// Counts one event more.
-    pub fn count(&mut self, event: &Event) -> Result<(), AllocError>
-        ensures op { OnOk result (self.new.op ≡ op_after self.old.op event.now) }
-        ensures disabled { OnOk result (self.new.disabled ≡ disabled_after self.old.op self.old.disabled event.now) }
-        ensures frozen { OnOk result (self.new.frozen.items ≡ frozen_after self.old.op self.old.frozen.items event.now) }
-    {
-        match *event {
-            Event::Enter { op, .. } => {
-                self.enter(op);
-                Ok(())
-            }
-            Event::WalkEnd { cpu, answer, .. } => self.end_walk(cpu, answer),
-            Event::OpEnd { .. } => {
-                self.end();
-                Ok(())
-            }
-            _ => Ok(()),
-        }
-    }
-
     /// An operation takes the map lock.
-    fn enter(&mut self, op: Op)
+    pub fn enter(&mut self, op: Op)
         ensures op { self.new.op ≡ Some op }
         ensures disabled { self.new.disabled ≡ (if is_thaw op then self.old.disabled - 1 else self.old.disabled) }
         ensures frozen { self.new.frozen.items ≡ (if is_freeze op then [] else self.old.frozen.items) }
@@ -68,7 +48,7 @@ impl SuspendTally {
     }
 
     /// A walk of the operation ends.
-    fn end_walk(&mut self, cpu: u32, answer: Answer) -> Result<(), AllocError>
+    pub fn end_walk(&mut self, cpu: u32, answer: Answer) -> Result<(), AllocError>
         ensures op { self.new.op ≡ self.old.op }
         ensures disabled { self.new.disabled ≡ self.old.disabled }
         ensures frozen { OnOk result
@@ -84,7 +64,7 @@ impl SuspendTally {
     }
 
     /// The operation gives the map lock back.
-    fn end(&mut self)
+    pub fn end(&mut self)
         ensures op { self.new.op ≡ None }
         ensures disabled { self.new.disabled
             ≡ (if is_held is_disabling self.old.op

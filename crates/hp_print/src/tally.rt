@@ -1,13 +1,17 @@
 //! A tally of a journal's events, made in one pass.
 
-ghost use Rattle.std.specs.Prelude.{IfOk};
+ghost use Rattle.std.specs.Prelude.{◌≡◌, ℕ, [], IfOk, OnOk, slice_index_or};
+ghost use Rattle.hp_model.specs.Calls.{is_called};
+ghost use Rattle.hp_model.specs.Summary.{is_hook_fault, ok, refused, fault, stuck, full};
+ghost use Rattle.hp_print.specs.Counts.{AreInOrder};
+ghost use Rattle.hp_print.specs.Steps.{op_after, disabled_after, frozen_after, targets_after, settled_after, keys_after, asked_after, subs_after, all_insts_after, calls_after, answers_after};
 ghost use Rattle.hp_print.specs.Tallies.{IsTally};
 
 use crate::answer_counts::AnswerCounts;
 use crate::processor_tally::ProcessorTally;
 use crate::state_tally::StateTally;
 use crate::suspend_tally::SuspendTally;
-use hp_event::{Event, Head};
+use hp_event::{Answer, Event, Head, Key};
 use std::alloc::{AllocError, Global};
 
 /// What a summary needs of some events.
@@ -19,24 +23,97 @@ pub struct Tally {
     pub answers: AnswerCounts,
 }
 
+impl Tally {
+    /// The tally before any event.
+    fn new(alloc: Global, head: &Head) -> Result<Tally, AllocError>
+        ensures { IfOk result (λ t. IsTally head.now [] t) }
+    {
+        Ok(Tally {
+            suspended: SuspendTally::new(alloc),
+            processors: ProcessorTally::new(alloc, head.possible)?,
+            states: StateTally::new(alloc)?,
+            answers: AnswerCounts::new(),
+        })
+    }
+
+    /// Counts one event more, in the parts that it concerns.
+    fn count(&mut self, event: &Event) -> Result<(), AllocError>
+        requires order { (c : ℕ) → AreInOrder (slice_index_or self.old.processors.keys.items c []) }
+        ensures op { OnOk result (self.new.suspended.op ≡ op_after self.old.suspended.op event.now) }
+        ensures disabled { OnOk result
+            (self.new.suspended.disabled ≡ disabled_after self.old.suspended.op self.old.suspended.disabled event.now) }
+        ensures frozen { OnOk result
+            (self.new.suspended.frozen.items
+            ≡ frozen_after self.old.suspended.op self.old.suspended.frozen.items event.now) }
+        ensures targets { OnOk result
+            (self.new.processors.targets.items ≡ targets_after self.old.processors.targets.items event.now) }
+        ensures settled { OnOk result
+            (self.new.processors.settled.items
+            ≡ settled_after self.old.processors.targets.items self.old.processors.settled.items event.now) }
+        ensures keys { OnOk result
+            (self.new.processors.keys.items ≡ keys_after self.old.processors.keys.items event.now) }
+        ensures asked { OnOk result (self.new.states.asked ≡ asked_after self.old.states.asked event.now) }
+        ensures subs { OnOk result
+            (self.new.states.subs.items ≡ subs_after self.old.states.asked self.old.states.subs.items event.now) }
+        ensures insts { OnOk result
+            (self.new.states.insts.items
+            ≡ all_insts_after self.old.states.asked self.old.states.subs.items self.old.states.insts.items event.now) }
+        ensures made { OnOk result (self.new.states.made.items ≡ calls_after is_called self.old.states.made.items event.now) }
+        ensures faults { OnOk result
+            (self.new.states.faults.items ≡ calls_after is_hook_fault self.old.states.faults.items event.now) }
+        ensures ok { OnOk result (self.new.answers.ok ≡ answers_after ok self.old.answers.ok event.now) }
+        ensures refused { OnOk result (self.new.answers.refused ≡ answers_after refused self.old.answers.refused event.now) }
+        ensures fault { OnOk result (self.new.answers.fault ≡ answers_after fault self.old.answers.fault event.now) }
+        ensures stuck { OnOk result (self.new.answers.stuck ≡ answers_after stuck self.old.answers.stuck event.now) }
+        ensures full { OnOk result (self.new.answers.full ≡ answers_after full self.old.answers.full event.now) }
+    {
+        match *event {
+            Event::Call {
+                cpu,
+                state,
+                inst,
+                dir,
+                how,
+                ..
+            } => {
+                self.states.call(state, how);
+                self.processors
+                    .call(cpu, Key { state, inst }, dir, how.is_done())?;
+            }
+            Event::WalkBegin { cpu, to, .. } => self.processors.begin(cpu, to),
+            Event::WalkEnd { cpu, answer, .. } => {
+                self.processors.end(cpu, answer);
+                self.suspended.end_walk(cpu, answer)?;
+            }
+            Event::Enter { op, .. } => self.suspended.enter(op),
+            Event::OpEnd { answer, .. } => {
+                self.suspended.end();
+                self.answers.count(answer);
+            }
+            Event::RegBegin { state, op, .. } => self.states.begin(state, op),
+            Event::RegEnd { answer, .. } => {
+                self.answers.count(answer);
+                self.states.end(answer)?;
+            }
+            Event::Refused { errno, .. } => self.answers.count(Answer::Refused(errno)),
+            Event::Shown { value, .. } => self.answers.count(Answer::Ok(value)),
+            Event::ReadLock { .. }
+            | Event::ReadUnlock { .. }
+            | Event::Armed { .. }
+            | Event::Wakeup { .. } => self.answers.count(Answer::Ok(0)),
+            Event::Admit { .. } | Event::Leave { .. } => {}
+        }
+        Ok(())
+    }
+}
+
 /// The tally of the events of a journal.
 pub fn tally_of(alloc: Global, head: &Head, events: &[Event]) -> Result<Tally, AllocError>
     ensures { IfOk result (λ t. IsTally head.now events.now t) }
 {
-    let mut suspended = SuspendTally::new(alloc);
-    let mut processors = ProcessorTally::new(alloc, head.possible)?;
-    let mut states = StateTally::new(alloc)?;
-    let mut answers = AnswerCounts::new();
+    let mut tally = Tally::new(alloc, head)?;
     for event in events {
-        suspended.count(event)?;
-        processors.count(event)?;
-        states.count(event)?;
-        answers.count(event);
+        tally.count(event)?;
     }
-    Ok(Tally {
-        suspended,
-        processors,
-        states,
-        answers,
-    })
+    Ok(tally)
 }
