@@ -267,6 +267,10 @@ pub fn event_of_line(line: &Line<'_>) -> Option<Event>
     ensures { result ≡ event_at line.now.bytes.now }
 {
     let mut words = line.words()?;
+    // Most lines are entries'.
+    if words.takes_call() {
+        return call(&mut words);
+    }
     event(&mut words)
 }
 

@@ -1,6 +1,6 @@
 //! The words of a line, one after another.
 
-ghost use Rattle.std.specs.Prelude.{◌≡◌, ◌==◌, ℕ, List, option_map};
+ghost use Rattle.std.specs.Prelude.{◌≡◌, ◌==◌, ◌∷◌, ℕ, List, false, IsTrue, IfSome, codes, option_map};
 ghost use Rattle.std.specs.List.{slice_split};
 ghost use Rattle.hp_model.specs.Lists.{is_empty};
 ghost use Rattle.hp_replay.specs.WordsLeft.{first_of, others_of};
@@ -26,6 +26,17 @@ impl<'a> Model for Words<'a> {
     ghost view = { λ w. words_left w.left };
 }
 
+/// What stands behind the first word of a text and the space that ends it, where that word is `call`.
+fn behind_call(text: &[u8]) -> Option<&[u8]>
+    ensures { IfSome result (λ others.
+        slice_split (λ b. b == 32) text.now ≡ codes "call" ∷ slice_split (λ b. b == 32) others.now) }
+{
+    match text {
+        [b'c', b'a', b'l', b'l', b' ', others @ ..] => Some(others),
+        _ => None,
+    }
+}
+
 impl<'a> Words<'a> {
     /// The pieces between the spaces of a text.
     pub fn of(text: &'a [u8]) -> Words<'a>
@@ -48,6 +59,23 @@ impl<'a> Words<'a> {
         }
         self.left = None;
         Some(bytes)
+    }
+
+    /// Takes the next word where it is `call` and words follow, and answers whether it did.
+    pub fn takes_call(&mut self) -> bool
+        ensures taken { IsTrue result → self.old ≡ codes "call" ∷ self.new }
+        ensures kept { result ≡ false → self.new ≡ self.old }
+    {
+        let Some(text) = self.left else {
+            return false;
+        };
+        match behind_call(text) {
+            Some(others) => {
+                self.left = Some(others);
+                true
+            }
+            None => false,
+        }
     }
 
     /// This value, where no word is left.
