@@ -1,6 +1,7 @@
 -- Lines in the forms that code has them: where the first line ends, and what a line's words are.
 use Rattle.std.proofs.Common.{◌≡◌, ◌≢◌, ℕ, suc, ◌+◌, ◌<◌, length, get_or, take, drop, true, List, [], ◌∷◌, ◌++◌, Some, None, refl, sym, ap, subst, ◌∙◌, length-append, length-take, arith, inl, inr, ◌⊎◌, Bool, false, ltb, cond, eqb}
-use Rattle.std.proofs.lemmas.Bool.{ltb-true, ltb-false}
+use Rattle.std.proofs.lemmas.Bool.{ltb-true, ltb-false, eq-eqb}
+use Rattle.memchr.specs.Find.{Nowhere, Passes, is_byte}
 use Rattle.std.specs.List.{slice_split, onto_first}
 use Rattle.std.proofs.Math.ListN.{get_or-append}
 use Rattle.std.proofs.Math.Seq.{get_or-append_seam}
@@ -14,6 +15,10 @@ use Rattle.hp_replay.proofs.CodeForms.{is_space, words_are_split, no_newline_no_
 -- up to a place there is no newline
 abbrev pub NoNewlineBefore : (i : ℕ) → List ℕ → Type 0
 NoNewlineBefore i bs = (k : ℕ) → k < i → get_or bs k 0 ≢ 10
+
+-- none is where a search for the first has passed
+pub newline_first : (bs : List ℕ) (i : ℕ) → Nowhere (Passes (is_byte 10) bs) 0 i → NoNewlineBefore i bs
+newline_first bs i none = λ k lt e. none k (omega arith) lt (eq-eqb (get_or bs k 0) 10 e)
 
 pub front_is_line : (bs : List ℕ) (i : ℕ) → NoNewlineBefore i bs → IsLine (take (i + 1) bs)
 front_is_line bs i none = λ k lt e.

@@ -10,6 +10,7 @@ ghost use Rattle.hp_states.specs.declared.limits.TheConstants.{MAX_JOURNAL_BYTES
 
 use crate::error::{ReplayError, ReplayKind};
 use crate::words::Words;
+use memchr::memchr;
 use std::marker::Model;
 
 /// A line of the input: its number, counted from 1, and its bytes, with the newline that ends it. A
@@ -73,12 +74,10 @@ pub fn line_end(bytes: &[u8]) -> usize
     ensures line { IsLine (take result bytes.now) }
     ensures lines { lines_of bytes.now ≡ take result bytes.now ∷ lines_of (drop result bytes.now) }
 {
-    for (i, byte) in bytes.iter().enumerate() {
-        if *byte == b'\n' {
-            return i + 1;
-        }
+    match memchr(b'\n', bytes) {
+        Some(at) => at + 1,
+        None => bytes.len(),
     }
-    bytes.len()
 }
 
 impl<'a> Lines<'a> {

@@ -1,19 +1,16 @@
-use Rattle.std.proofs.Common.{length, arith}
-use Rattle.hp_replay.proofs.LineForms.{NoNewlineBefore, front_is_line, front_line, all_is_line, all_line}
+use Rattle.std.proofs.Common.{length}
+use Rattle.std.proofs.lemmas.Bool.{eqb-true}
+use Rattle.hp_replay.proofs.LineForms.{newline_first, front_is_line, front_line, all_is_line, all_line}
 use Rattle.hp_replay.proofs.line.line_end.Goals as goal
 
-pub returns-then-byte-eq10-clause-line : goal.returns-then-byte-eq10-clause-line
-returns-then-byte-eq10-clause-line c = front_is_line c.args.bytes.now c.loop-i.i c.loop-i.invariant
+pub returns-in-Some-clause-line : goal.returns-in-Some-clause-line
+returns-in-Some-clause-line c = front_is_line c.args.bytes.now c.in-Some.at (newline_first c.args.bytes.now c.in-Some.at c.in-Some.ensures.0.before)
 
-pub returns-then-byte-eq10-clause-lines : goal.returns-then-byte-eq10-clause-lines
-returns-then-byte-eq10-clause-lines c = front_line c.args.bytes.now c.loop-i.i c.loop-i-test.true c.if-byte-eq10.true c.loop-i.invariant
+pub returns-in-Some-clause-lines : goal.returns-in-Some-clause-lines
+returns-in-Some-clause-lines c = front_line c.args.bytes.now c.in-Some.at c.in-Some.ensures.0.high (eqb-true _ _ c.in-Some.ensures.1) (newline_first c.args.bytes.now c.in-Some.at c.in-Some.ensures.0.before)
 
-pub returns-clause-line : goal.returns-clause-line
-returns-clause-line c =
-    let none : NoNewlineBefore (length c.args.bytes.now) c.args.bytes.now = λ k lt. c.loop-i.invariant k (omega (arith, lt, c.loop-i-test.false)) in
-    all_is_line c.args.bytes.now none
+pub returns-in-None-clause-line : goal.returns-in-None-clause-line
+returns-in-None-clause-line c = all_is_line c.args.bytes.now (newline_first c.args.bytes.now (length c.args.bytes.now) c.in-None.ensures)
 
-pub returns-clause-lines : goal.returns-clause-lines
-returns-clause-lines c =
-    let none : NoNewlineBefore (length c.args.bytes.now) c.args.bytes.now = λ k lt. c.loop-i.invariant k (omega (arith, lt, c.loop-i-test.false)) in
-    all_line c.args.bytes.now c.requires none
+pub returns-in-None-clause-lines : goal.returns-in-None-clause-lines
+returns-in-None-clause-lines c = all_line c.args.bytes.now c.requires (newline_first c.args.bytes.now (length c.args.bytes.now) c.in-None.ensures)
