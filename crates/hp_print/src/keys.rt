@@ -23,12 +23,12 @@ pub struct KeyCount {
 /// How many places are remembered.
 const REMEMBERED: usize = 256;
 
-/// Under which number the place of a key is remembered. Keys may share one: then the last that came
-/// has it.
+/// Under which number the place of a key is remembered. Keys may share one, and then the last that
+/// came has it; states without instances don't, and the instances of a state lie far apart.
 fn slot_of(key: Key) -> usize
     ensures { result < REMEMBERED }
 {
-    (key.state as usize * 4 + key.inst as usize) % REMEMBERED
+    (key.state as usize + key.inst as usize * 159) % REMEMBERED
 }
 
 /// Whether a key is before another, as keys are ordered.
