@@ -30,6 +30,7 @@ use Rattle.hp_model.specs.NextEvent.{next_event, is_full}
 use Rattle.hp_model.specs.Seats.{is_busy}
 use Rattle.hp_model.proofs.NextGives.{full_only}
 use Rattle.hp_model.proofs.NextStands.{next_stands}
+use Rattle.hp_model.proofs.Owners.{same_some}
 use Rattle.hp_actors.specs.declared.actor.Actor.{Actor}
 use Rattle.hp_actors.specs.Asking.{wants_hook, HasHooks}
 use Rattle.hp_actors.specs.Positions.{op_of}
@@ -177,19 +178,12 @@ still_held {H} old new asks n ask now at same board =
     turn_holds old new asks n ask now (is_some ask.hook) at (ap (λ (x : Ask H). is_some x.hook) same)
     (ap (λ (b : Contents). hook_count b.places + held (is_some ask.hook)) board)
 
--- an actor whose operations are all answered
-pub idle_events : {H : Type 0} (head : Head) (events : List Event) (k : ℕ) (actor : Actor H) →
-    slice_get actor.asks.items actor.answered ≡ None →
-    events ≡ events ++ option_to_list (event_for head events k (asked actor))
-idle_events head events k actor none =
-    sym (ap (λ o. events ++ option_to_list (event_for head events k (option_map op_of o))) none ∙ append-nil events)
-
-pub idle_count : {H : Type 0} (head : Head) (events : List Event) (k : ℕ) (actor : Actor H) →
-    slice_get actor.asks.items actor.answered ≡ None →
-    actor.answered ≡ actor.answered + (cond (answers_for head events k (asked actor)) 1 0)
-idle_count head events k actor none =
-    let e : actor.answered ≡ actor.answered + 0 = omega arith in
-    e ∙ ap (λ o. actor.answered + (cond (answers_for head events k (option_map op_of o)) 1 0)) (sym none)
+-- the turn of an actor's first operation that isn't answered
+pub turn_of : {H : Type 0} (k : ℕ) (asks : List (Ask H)) (n : ℕ) (here : Ask H) (old new : Contents) (t : Turn) →
+    slice_get asks n ≡ Some here → IsTurn k here.op old new t → (ask : Ask H) → slice_get asks n ≡ Some ask →
+    IsTurn k ask.op old new t
+turn_of {H} k asks n here old new t at turn ask found =
+    subst (λ (x : Ask H). IsTurn k x.op old new t) (same_some here ask (sym at ∙ found)) turn
 
 pub not_answered : (t : Turn) → ((at : ℕ) × (t ≡ Made at)) ⊎ ((why : Why) × (t ≡ NotYet why)) → goes_on t ≡ true
 not_answered t (inl m) = ap goes_on m.1

@@ -9,3 +9,5 @@ mod Admissions
 mod Turning
 mod Taking
 mod Opening
+mod Waiting
+mod Knowing

@@ -7,8 +7,9 @@
 //!
 //! Contracts see how far a run has come, as a `Position` (`specs/Positions.antt`); what a turn, a round and
 //! a schedule make of it say hp_model's `ScriptTurns`, `ScriptRun` and `Schedule`. `Racks.antt` says which
-//! hooks setups take, and which come last at the end. `Turned.antt` and `Asking.antt` are for the clauses of
-//! the code: what an actor's turn makes, and what holds of a run between two turns.
+//! hooks setups take, and which come last at the end. `Turned.antt`, `Asking.antt` and `Waiting.antt` are for
+//! the clauses of the code: what an actor's turn makes, what holds of a run between two turns, and which actors
+//! wait, so that their turns are passed over.
 //!
 //! The code goes from one actor to the whole: `actor`, `seating` and `start`, `run` for one turn of any
 //! seat, `rounds`, `schedule`, `finish`.

@@ -44,6 +44,9 @@ impl<H: Hook> Run<H> {
         self.serve_threads();
         let (first, last) = self.actors_seats();
         for seat in first..last {
+            if self.still_waits(seat) {
+                continue;
+            }
             self.turn(seat)?;
         }
         Ok(())

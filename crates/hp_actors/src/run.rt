@@ -1,12 +1,12 @@
 //! The run of a script.
 
-ghost use Rattle.std.specs.Prelude.{◌≡◌, ◌<◌, OnOk, OnErr, length};
+ghost use Rattle.std.specs.Prelude.{◌≡◌, ◌<◌, OnOk, OnErr, length, true};
 ghost use Rattle.hp_model.specs.Processors.{present};
 ghost use Rattle.hp_model.specs.ScriptTurns.{turn};
 ghost use Rattle.hp_actors.specs.Asking.{IsReached};
 ghost use Rattle.hp_model.specs.Scripts.{IsScript};
 
-use crate::actor::Actor;
+use crate::actor::{Actor, Waits};
 use hp_board::Board;
 use hp_hook::Hook;
 use hp_states::NoMemory;
@@ -22,18 +22,25 @@ pub struct Run<H: Hook> {
     pub(crate) board: Board<H>,
     /// How many threads there are: their seats come before those of the actors.
     pub(crate) threads: u32,
+    /// How many events there were with the last end of an operation, a walk or a registration: no wait ends by
+    /// anything else.
+    pub(crate) last_end: u32,
     pub(crate) actors: Vec<Actor<H>>,
 }
 
 impl<H: Hook> Model for Run<H> {
     ghost use Rattle.hp_actors.specs.Asking.{IsPlaying};
     ghost use Rattle.hp_actors.specs.Positions.{Position, position_of};
+    ghost use Rattle.hp_actors.specs.Waiting.{KnowsWaits};
 
     ghost Value = { Position };
 
     ghost view = { λ r. position_of r.board r.actors.items };
 
-    ghost invariant = { λ r. IsPlaying r.board r.threads r.actors.items };
+    ghost invariant = { λ r. record {
+      playing : IsPlaying r.board r.threads r.actors.items;
+      waits : KnowsWaits r.board r.threads r.last_end r.actors.items;
+    } };
 }
 
 impl<H: Hook> Run<H> {
@@ -75,6 +82,27 @@ impl<H: Hook> Run<H> {
         if place >= self.actors.len() {
             return Ok(());
         }
-        self.actors[place].turn(&mut self.board, seat)
+        self.actors[place].turn(&mut self.board, &mut self.last_end, seat)
+    }
+
+    /// Whether a seat is that of an actor that waits as it did at its last turn: one more makes nothing, and is
+    /// passed over. No number that isn't an actor's seat waits.
+    ///
+    /// Takes no memory, and a few steps where a turn takes hundreds.
+    pub(crate) fn still_waits(&self, seat: u32) -> bool
+        ensures { result ≡ true →
+            turn self.now.head self.now.actors self.now.progress seat ≡ self.now.progress }
+    {
+        if seat < self.threads {
+            return false;
+        }
+        match self.actors.get((seat - self.threads) as usize) {
+            Some(actor) => match actor.waits {
+                Waits::Unknown => false,
+                Waits::WhileMapHeld => self.board.holder().is_some(),
+                Waits::UntilEnd(end) => end == self.last_end,
+            },
+            None => false,
+        }
     }
 }

@@ -55,6 +55,9 @@ impl<H: Hook> Run<H> {
         ensures actors { self.new.actors ≡ self.old.actors }
     {
         for seat in seats {
+            if self.still_waits(*seat) {
+                continue;
+            }
             self.turn(*seat)?;
         }
         Ok(())
@@ -75,6 +78,9 @@ impl<H: Hook> Run<H> {
         let mut draws = Draws::new(seed);
         for _ in 0..turns {
             let seat = draws.draw(seats);
+            if self.still_waits(seat) {
+                continue;
+            }
             self.turn(seat)?;
         }
         Ok(())

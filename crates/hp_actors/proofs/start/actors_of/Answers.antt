@@ -1,8 +1,10 @@
 -- Each actor takes the hooks of its setups.
 use Rattle.std.proofs.Common.{◌≡◌, ◌+◌, take, subst, [], ◌∷◌, ◌++◌, map, ap, sym, ◌∙◌, arith}
+use Rattle.std.specs.Prelude.{All}
 use Rattle.std.proofs.lemmas.List.{map-append}
 use Rattle.std.proofs.lemmas.List.Elements.{All-push}
 use Rattle.hp_actors.specs.Positions.{ops_of}
+use Rattle.hp_actors.specs.declared.actor.Waits.TheVariants.{Unknown}
 use Rattle.hp_actors.specs.Racks.{AreLoaded, IsFresh}
 use Rattle.hp_script.specs.Playable.{setups_in}
 use Rattle.std.specs.List.{sum_by}
@@ -30,6 +32,9 @@ loop-number-preserved g c =
           subst IsFresh (sym pushed)
           (All-push (λ actor. (actor.answered ≡ 0) × AreLoaded actor.asks.items) c.loop-number.actors.items c.in_ok-new.field-0 i.fresh
           (e.answered, e.loaded));
+      unmarked =
+          subst (All (λ actor. actor.waits ≡ Unknown)) (sym pushed)
+          (All-push (λ actor. actor.waits ≡ Unknown) c.loop-number.actors.items c.in_ok-new.field-0 i.unmarked e.waits);
       left =
           let left = actors_left c.args.script.now.actors c.loop-number.number c.ops.result.now c.ops.ensures in
           let r = takes_length c.loop-number.rack.hooks.items c.new.new.rack.hooks.items (setups_in c.ops.result.now) e.rack in

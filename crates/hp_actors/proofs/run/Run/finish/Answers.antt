@@ -17,7 +17,7 @@ returns-in-Ok g c =
     (λ h. record { plan = g.H.Hook.plan h; seen = g.H.Hook.seen h; made = g.H.Hook.made h; faults = g.H.Hook.faults h })
     c.give_back.new.rack.hooks.items c.retire.new.rack.hooks.items c.self.inside.board.places c.in-Ok.ensures.hooks in
     let back = c.in_ok-give_back.ensures in
-    let held = c.self.invariant.held in
+    let held = c.self.invariant.playing.held in
     let setups = ap (λ (p : Position). sum_by setups_in p.actors) c.self.view_is in
     record {
       last =

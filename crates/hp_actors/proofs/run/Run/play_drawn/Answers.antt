@@ -2,12 +2,34 @@
 use Rattle.std.proofs.Common.{◌≡◌, ℕ, ◌+◌, ◌-◌, ◌∷◌, ap, sym, subst, ◌∙◌, arith}
 use Rattle.hp_model.specs.Draws.{draws, state_after}
 use Rattle.hp_model.specs.ScriptTurns.{after_turns}
+use Rattle.hp_actors.proofs.Knowing.{passed}
 use Rattle.hp_actors.proofs.Turning.{turn_left, draws_left, no_draws, all_made, stands_at, some_present}
 use Rattle.hp_actors.proofs.run.Run.play_drawn.Goals as goal
 
 pub draw-seat-requires : goal.draw-seat-requires
 draw-seat-requires g c =
     let some = some_present c.args.self.now.head c.sound.ensures.script.head_is in omega (arith, some, c.loop.invariant.seats)
+
+pub loop-preserved-then-still_waits : goal.loop-preserved-then-still_waits
+loop-preserved-then-still_waits g c =
+    let i = c.loop.invariant in
+    let still = passed c.loop.self c.draw-seat.result (c.still_waits.ensures c.if-still_waits.true) in
+    let m : ℕ = c.actors_seats-seats.result.1 in
+    let rest = draws m c.draw-seat.new.self.state (c.args.turns - (c.loop.counter + 1)) in
+    let next : draws m c.loop.draws.state (c.args.turns - c.loop.counter) ≡ c.draw-seat.result ∷ rest =
+    draws_left m c.loop.draws.state c.args.turns c.loop.counter c.loop-test.true
+    ∙ (ap (λ k. k ∷ draws m (state_after c.loop.draws.state) (c.args.turns - (c.loop.counter + 1))) (sym c.draw-seat.ensures.drawn)
+    ∙ ap (λ x. c.draw-seat.result ∷ draws m x (c.args.turns - (c.loop.counter + 1))) (sym c.draw-seat.ensures.state)) in
+    record {
+      head = i.head;
+      actors = i.actors;
+      seats = i.seats;
+      left =
+          turn_left c.args.self.now c.loop.self c.loop.self c.draw-seat.result rest
+          (after_turns c.args.self.now.head c.args.self.now.actors c.args.self.now.progress (draws m c.args.seed c.args.turns))
+          i.head i.actors
+          (ap (after_turns c.args.self.now.head c.args.self.now.actors c.loop.self.progress) (sym next) ∙ i.left) still;
+    }
 
 pub loop-preserved : goal.loop-preserved
 loop-preserved g c =

@@ -1,8 +1,26 @@
 -- The turns that are left make the rest of them all.
 use Rattle.std.proofs.Common.{drop, ap, sym, refl, ◌∙◌, ◌+◌, slice_index_or}
 use Rattle.hp_model.specs.ScriptTurns.{after_turns}
+use Rattle.hp_actors.proofs.Knowing.{passed}
 use Rattle.hp_actors.proofs.Turning.{turn_left, seats_left, none_left, all_made, stands_at}
 use Rattle.hp_actors.proofs.run.Run.play_turns.Goals as goal
+
+pub loop-seat-preserved-then-still_waits : goal.loop-seat-preserved-then-still_waits
+loop-seat-preserved-then-still_waits g c =
+    let i = c.loop-seat.invariant in
+    let seat = slice_index_or c.args.seats.now c.loop-seat.seat-index 0 in
+    let still = passed c.loop-seat.self seat (c.still_waits.ensures c.if-still_waits.true) in
+    let whole = after_turns c.args.self.now.head c.args.self.now.actors c.args.self.now.progress c.args.seats.now in
+    record {
+      head = i.head;
+      actors = i.actors;
+      left =
+          turn_left c.args.self.now c.loop-seat.self c.loop-seat.self seat (drop (c.loop-seat.seat-index + 1) c.args.seats.now) whole
+          i.head i.actors
+          (ap (after_turns c.args.self.now.head c.args.self.now.actors c.loop-seat.self.progress)
+          (sym (seats_left c.args.seats.now c.loop-seat.seat-index seat c.loop-seat-test.true refl))
+          ∙ i.left) still;
+    }
 
 pub loop-seat-preserved : goal.loop-seat-preserved
 loop-seat-preserved g c =

@@ -12,11 +12,11 @@ returns-clause-operation g c =
     let b = c.self.inside.board in
     let actors = c.self.inside.actors.items in
     let over = subst (λ (q : Position). is_over q.actors q.progress ≡ true) (sym c.self.view_is) c.requires in
-    subst (λ (q : Position). operation q.progress.events ≡ None) c.self.view_is (no_operation b c.self.inside.threads actors c.self.invariant over)
+    subst (λ (q : Position). operation q.progress.events ≡ None) c.self.view_is (no_operation b c.self.inside.threads actors c.self.invariant.playing over)
 
 pub returns-clause-registration : goal.returns-clause-registration
 returns-clause-registration g c =
     let b = c.self.inside.board in
     let actors = c.self.inside.actors.items in
     let over = subst (λ (q : Position). is_over q.actors q.progress ≡ true) (sym c.self.view_is) c.requires in
-    subst (λ (q : Position). registration q.progress.events ≡ None) c.self.view_is (no_registration b c.self.inside.threads actors c.self.invariant over)
+    subst (λ (q : Position). registration q.progress.events ≡ None) c.self.view_is (no_registration b c.self.inside.threads actors c.self.invariant.playing over)

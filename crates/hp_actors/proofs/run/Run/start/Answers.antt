@@ -2,6 +2,7 @@
 use Rattle.std.proofs.Common.{[], length, replicate, ap, ◌∙◌}
 use Rattle.hp_model.specs.Processors.{present}
 use Rattle.hp_model.specs.Run.{admissions}
+use Rattle.hp_actors.proofs.Knowing.{none_known}
 use Rattle.hp_actors.proofs.Opening.{Opened, opened_position, opened_playing}
 use Rattle.hp_actors.proofs.run.Run.start.Goals as goal
 
@@ -20,7 +21,13 @@ invariant_of-result g c =
       fresh = c.in_ok-actors.ensures.fresh;
       none_yet = c.in_ok-board.ensures.none;
     } in
-    opened_playing c.in_ok-board.board c.present_count-threads.result c.in_ok-actors.actors.items c.args.script.now.head c.args.script.now.actors o
+    record {
+      playing =
+          opened_playing c.in_ok-board.board c.present_count-threads.result c.in_ok-actors.actors.items c.args.script.now.head
+          c.args.script.now.actors o;
+      waits =
+          none_known c.in_ok-board.board c.present_count-threads.result c.in_ok-actors.actors.items c.in_ok-actors.ensures.unmarked;
+    }
 
 pub returns-clause-started : goal.returns-clause-started
 returns-clause-started g c =

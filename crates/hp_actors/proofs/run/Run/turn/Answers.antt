@@ -2,6 +2,7 @@
 use Rattle.std.proofs.Common.{◌≡◌, ℕ, ◌<◌, ◌≤◌, ◌+◌, ◌-◌, OnOk, OnErr, map, set, refl, ap, sym, subst, arith, length, Some}
 use Rattle.std.specs.Prelude.{slice_get}
 use Rattle.std.proofs.lemmas.Option.{slice_get_read}
+use Rattle.hp_actors.proofs.Knowing.{turn_knows}
 use Rattle.hp_actors.proofs.Playing.{lawful_of, allowed_of, turn_playing_at, turn_position_at, failed_position, no_seat}
 use Rattle.hp_model.specs.Pending.{IsAllowed}
 use Rattle.hp_model.specs.ScriptTurns.{Progress, turn}
@@ -16,7 +17,7 @@ returns-then-place-len-clause-ok g c =
     subst (λ (z : Position). z ≡ record { head = z.head; actors = z.actors; progress = turn z.head z.actors z.progress c.args.seat })
     c.self.view_is
     (ap (λ (q : Progress). record { head = b.head; actors = map ops_of c.self.inside.actors.items; progress = q })
-    (sym (no_seat b c.self.inside.threads c.self.inside.actors.items c.args.seat c.self.invariant past)))
+    (sym (no_seat b c.self.inside.threads c.self.inside.actors.items c.args.seat c.self.invariant.playing past)))
 
 pub turn-requires-clause-allowed : goal.turn-requires-clause-allowed
 turn-requires-clause-allowed g c =
@@ -29,7 +30,7 @@ turn-requires-clause-allowed g c =
     slice_get_read actors (length actors) place c.index_mut.result.now refl below c.index_mut.ensures.value in
     λ ask asks.
     subst (λ (k : ℕ). IsAllowed c.self.inside.board.head c.self.inside.board.events (record { seat = k; op = ask.op })) here
-    (allowed_of c.self.inside.board threads actors place c.index_mut.result.now ask c.self.invariant at asks)
+    (allowed_of c.self.inside.board threads actors place c.index_mut.result.now ask c.self.invariant.playing at asks)
 
 pub turn-requires-clause-hooks : goal.turn-requires-clause-hooks
 turn-requires-clause-hooks g c =
@@ -41,10 +42,10 @@ turn-requires-clause-hooks g c =
     let at : slice_get actors place ≡ Some c.index_mut.result.now =
     slice_get_read actors (length actors) place c.index_mut.result.now refl below c.index_mut.ensures.value in
     subst (λ (k : ℕ). HasHooks c.self.inside.board.events k c.index_mut.result.now) here
-    (c.self.invariant.hooks place c.index_mut.result.now at)
+    (c.self.invariant.playing.hooks place c.index_mut.result.now at)
 
 pub turn-requires-clause-lawful : goal.turn-requires-clause-lawful
-turn-requires-clause-lawful g c = lawful_of c.self.inside.board c.self.inside.threads c.self.inside.actors.items c.self.invariant
+turn-requires-clause-lawful g c = lawful_of c.self.inside.board c.self.inside.threads c.self.inside.actors.items c.self.invariant.playing
 
 pub invariant_of-self : goal.invariant_of-self
 invariant_of-self g c =
@@ -55,9 +56,16 @@ invariant_of-self g c =
     let here : threads + place ≡ c.args.seat = omega arith in
     let at : slice_get actors place ≡ Some c.index_mut.result.now =
     slice_get_read actors (length actors) place c.index_mut.result.now refl below c.index_mut.ensures.value in
-    turn_playing_at c.turn.result c.self.inside.board c.turn.new.board actors threads place c.args.seat c.index_mut.result.now
-    c.turn.new.self here c.self.invariant at c.turn.ensures.head c.turn.ensures.events c.turn.ensures.answered c.turn.ensures.ops
-    c.turn.ensures.hooks c.turn.ensures.kept c.turn.ensures.err
+    record {
+      playing =
+          turn_playing_at c.turn.result c.self.inside.board c.turn.new.board actors threads place c.args.seat c.index_mut.result.now
+          c.turn.new.self here c.self.invariant.playing at c.turn.ensures.head c.turn.ensures.events c.turn.ensures.answered c.turn.ensures.ops
+          c.turn.ensures.hooks c.turn.ensures.kept c.turn.ensures.err;
+      waits =
+          turn_knows c.turn.result c.self.inside.board c.turn.new.board actors threads c.self.inside.last_end c.turn.new.last_end place
+          c.args.seat c.index_mut.result.now c.turn.new.self here c.turn.ensures.head c.turn.ensures.events c.turn.ensures.err
+          c.turn.ensures.last_end c.turn.ensures.ends c.turn.ensures.waits c.self.invariant.waits;
+    }
 
 pub returns-clause-ok : goal.returns-clause-ok
 returns-clause-ok g c =
@@ -75,7 +83,7 @@ returns-clause-ok g c =
     ≡ record { head = z.head; actors = z.actors; progress = turn z.head z.actors z.progress c.args.seat }))
     c.self.view_is
     (turn_position_at c.turn.result b c.turn.new.board actors threads place c.args.seat c.index_mut.result.now
-    c.turn.new.self here c.self.invariant at c.turn.ensures.head c.turn.ensures.events c.turn.ensures.answered c.turn.ensures.ops
+    c.turn.new.self here c.self.invariant.playing at c.turn.ensures.head c.turn.ensures.events c.turn.ensures.answered c.turn.ensures.ops
     c.turn.ensures.hooks c.turn.ensures.kept)
 
 pub returns-clause-err : goal.returns-clause-err

@@ -1,0 +1,346 @@
+-- What a run knows of the actors that wait holds after each turn, and the turn of such an actor makes nothing.
+use Rattle.std.proofs.Common.{◌≡◌, ◌≢◌, ℕ, ◌+◌, ◌<◌, ◌≤◌, Bool, true, false, cond, is_some, OnOk, OnErr, Result, Ok, Err, IfSome, Option, Some, None, List, ◌++◌, length, length-append, map, set, refl, ap, sym, subst, ◌∙◌, inl, inr, ◌⊎◌, arith}
+use Rattle.std.specs.Prelude.{option_to_list, option_map, slice_get}
+use Rattle.std.proofs.lemmas.List.{append-nil}
+use Rattle.std.proofs.lemmas.Option.{slice_get-map, slice_get_within, get_or_from_slice_get}
+use Rattle.std.proofs.lemmas.Bool.{true≢false}
+use Rattle.std.specs.Prelude.{All}
+use Rattle.hp_event.specs.declared.op.Op.{Op}
+use Rattle.hp_event.specs.declared.head.Head.{Head}
+use Rattle.hp_event.specs.declared.event.Event.{Event}
+use Rattle.hp_event.specs.declared.event.Event.TheVariants.{Call}
+use Rattle.hp_board.specs.Contents.{Contents}
+use Rattle.hp_board.specs.Turns.{IsTurn}
+use Rattle.hp_board.specs.declared.turn.Ask.{Ask}
+use Rattle.hp_board.specs.declared.turn.Turn.{Turn}
+use Rattle.hp_board.specs.declared.turn.Turn.TheVariants.{Made, Answered, NotYet}
+use Rattle.hp_ledger.specs.Next.{IsKept, WaitsFor}
+use Rattle.hp_locks.specs.declared.why.Why.{Why}
+use Rattle.hp_locks.specs.declared.why.Why.TheVariants.{MapsHeld, WriterIn, ReadersIn, RegIn, ApTurn, Idle}
+use Rattle.hp_model.specs.ApTurn.{IsEntryOf, IsApTurn}
+use Rattle.hp_model.specs.Events.{seat_of, is_call}
+use Rattle.hp_model.specs.Lawful.{IsLawful}
+use Rattle.hp_model.specs.NextEvent.{next_event, due_entry}
+use Rattle.hp_model.specs.ScriptTurns.{Progress, counted, turn}
+use Rattle.hp_model.specs.Seats.{is_busy}
+use Rattle.hp_model.specs.Waits.{Wait, maps_held, is_waiting}
+use Rattle.hp_model.specs.MapLock.{is_map_held}
+use Rattle.hp_model.proofs.DueGives.{due_stands}
+use Rattle.hp_model.proofs.NextStands.{next_stands}
+use Rattle.hp_model.proofs.OneNext.{owners}
+use Rattle.hp_model.proofs.Owners.{Owners, idle_op, idle_reg, not_self}
+use Rattle.hp_actors.specs.declared.actor.Actor.{Actor}
+use Rattle.hp_actors.specs.Asking.{IsPlaying}
+use Rattle.hp_actors.specs.Positions.{Position, ops_of, op_of, answered_of, progress_of}
+use Rattle.hp_actors.specs.Turned.{asked, event_for, answers_for}
+use Rattle.hp_actors.specs.Waiting.{IsReady, IsWaiting, EndsNothing, MakesNothing, NeedsMap, IsKnown, KnowsWait, KnowsWaits, is_end, noted}
+use Rattle.hp_actors.specs.declared.actor.Waits.{Waits}
+use Rattle.hp_actors.specs.declared.actor.Waits.TheVariants.{Unknown, WhileMapHeld, UntilEnd}
+use Rattle.hp_actors.proofs.Asked.{turned}
+use Rattle.hp_actors.proofs.Playing.{Served, asked_is, set_at}
+use Rattle.hp_actors.proofs.Progressing.{actor_turn}
+use Rattle.hp_actors.proofs.Waiting.{ready_still, waits_still, refused_waiting, held_waits, map_waited, waiting_next, waiting_full}
+
+-- ---- what a turn that makes nothing finds
+
+-- whose next entry is a thread's has an operation in flight
+thread_in_flight : (head : Head) (xs : List Event) (k cpu : ℕ) → Owners xs → IsApTurn head xs k cpu → is_busy k xs ≡ false → ⊥
+thread_in_flight head xs k cpu o t idle = go t.entry
+  where
+    go : IsEntryOf head xs k cpu t.state t.inst t.dir t.how → ⊥
+    go (inl e) =
+        let by = o.walk_op cpu e.0.of e.0.in_flight in
+        not_self by.0.seat k (idle_op xs k by.0 idle by.1) (by.2 ∙ e.1)
+    go (inr e) = not_self e.0.of.seat k (idle_reg xs k e.0.of idle e.0.in_flight) e.1
+
+waits_for : (head : Head) (xs : List Event) (k : ℕ) (op : Op) (w : Wait) → is_busy k xs ≡ false → WaitsFor head xs k op w →
+    IsWaiting head xs k op
+waits_for head xs k op w idle h =
+    let begins = h.wait_is in
+    let waits : is_waiting xs op ≡ true = ap is_some (rw idle at begins) in
+    record {
+      ready = record { idle = idle; not_refused = sym (refused_waiting head xs k op idle waits) ∙ h.not_refused };
+      waits = waits;
+    }
+
+-- it waits to begin, where its seat has nothing in flight
+pub found_waiting : (head : Head) (xs : List Event) (k : ℕ) (op : Op) (why : Why) → IsLawful head xs → IsKept head xs k op why →
+    is_busy k xs ≡ false → IsWaiting head xs k op
+found_waiting head xs k op (MapsHeld seat) lawful h idle = waits_for head xs k op _ idle h.why_is
+found_waiting head xs k op (WriterIn seat) lawful h idle = waits_for head xs k op _ idle h.why_is
+found_waiting head xs k op (ReadersIn count) lawful h idle = waits_for head xs k op _ idle h.why_is
+found_waiting head xs k op (RegIn seat) lawful h idle = waits_for head xs k op _ idle h.why_is
+found_waiting head xs k op (ApTurn cpu) lawful h idle =
+    absurd (thread_in_flight head xs k cpu (owners head xs lawful) h.why_is idle)
+found_waiting head xs k op Idle lawful h idle = absurd h.why_is
+
+-- an actor's operation is the same while no other is answered
+pub asked_same : {H : Type 0} (actor now : Actor H) → ops_of now ≡ ops_of actor → now.answered ≡ actor.answered → asked now ≡ asked actor
+asked_same actor now ops answered =
+    sym (slice_get-map op_of now.asks.items now.answered)
+    ∙ (ap (λ xs. slice_get xs now.answered) ops
+    ∙ (ap (slice_get (ops_of actor)) answered ∙ slice_get-map op_of actor.asks.items actor.answered))
+
+-- what is noted of an operation that waits
+waits_noted : (head : Head) (xs : List Event) (last last_now k : ℕ) (op : Op) (why : Why) → IsLawful head xs → IsKept head xs k op why →
+    is_busy k xs ≡ false → last ≤ last_now → IsKnown head xs last_now k (Some op) (noted (NotYet why) false last)
+waits_noted head xs last last_now k op (MapsHeld seat) lawful h idle up =
+    let begins = h.why_is.wait_is in
+    ((waits_for head xs k op (maps_held seat) idle h.why_is).ready, map_waited xs op seat (rw idle at begins))
+waits_noted head xs last last_now k op (WriterIn seat) lawful h idle up =
+    (up, λ same. found_waiting head xs k op (WriterIn seat) lawful h idle)
+waits_noted head xs last last_now k op (ReadersIn count) lawful h idle up =
+    (up, λ same. found_waiting head xs k op (ReadersIn count) lawful h idle)
+waits_noted head xs last last_now k op (RegIn seat) lawful h idle up =
+    (up, λ same. found_waiting head xs k op (RegIn seat) lawful h idle)
+waits_noted head xs last last_now k op (ApTurn cpu) lawful h idle up =
+    (up, λ same. found_waiting head xs k op (ApTurn cpu) lawful h idle)
+waits_noted head xs last last_now k op Idle lawful h idle up = (up, λ same. found_waiting head xs k op Idle lawful h idle)
+
+none_noted : (head : Head) (xs : List Event) (last last_now k : ℕ) (why : Why) → last ≤ last_now →
+    IsKnown head xs last_now k None (noted (NotYet why) false last)
+none_noted head xs last last_now k (MapsHeld seat) up = tt
+none_noted head xs last last_now k (WriterIn seat) up = (up, λ same. tt)
+none_noted head xs last last_now k (ReadersIn count) up = (up, λ same. tt)
+none_noted head xs last last_now k (RegIn seat) up = (up, λ same. tt)
+none_noted head xs last last_now k (ApTurn cpu) up = (up, λ same. tt)
+none_noted head xs last last_now k Idle up = (up, λ same. tt)
+
+-- what an actor's turn notes
+pub turn_notes : {H : Type 0} (k last last_now : ℕ) (old new : Contents) (actor now : Actor H) (t : Turn) → IsLawful old.head old.events →
+    ((ask : Ask H) → slice_get actor.asks.items actor.answered ≡ Some ask → IsTurn k ask.op old new t) →
+    now.answered ≡ actor.answered + (cond (answers_for old.head old.events k (asked actor)) 1 0) → ops_of now ≡ ops_of actor →
+    last ≤ last_now → IsKnown new.head new.events last_now k (asked now) (noted t (is_busy k new.events) last)
+turn_notes k last last_now old new actor now (Made at) lawful turn answered ops up = tt
+turn_notes k last last_now old new actor now (Answered at answer) lawful turn answered ops up = tt
+turn_notes {H} k last last_now old new actor now (NotYet why) lawful turn answered ops up = go (is_busy k new.events) refl
+  where
+    known : (o : Option (Ask H)) → slice_get actor.asks.items actor.answered ≡ o → is_busy k new.events ≡ false →
+        IsKnown new.head new.events last_now k (asked now) (noted (NotYet why) false last)
+    known None none idle =
+        let no : asked actor ≡ None = ap (option_map op_of) none in
+        let same : now.answered ≡ actor.answered + 0 =
+        answered ∙ ap (λ o. actor.answered + (cond (answers_for old.head old.events k o) 1 0)) no in
+        let asks : asked now ≡ None = asked_same actor now ops (omega (arith, same)) ∙ no in
+        subst (λ o. IsKnown new.head new.events last_now k o (noted (NotYet why) false last)) (sym asks)
+        (none_noted new.head new.events last last_now k why up)
+    known (Some ask) at idle =
+        let there : asked actor ≡ Some ask.op = ap (option_map op_of) at in
+        let kept = turn ask at in
+        let made = turned k ask.op old new (NotYet why) kept in
+        let same : now.answered ≡ actor.answered + 0 =
+        answered
+        ∙ (ap (λ o. actor.answered + (cond (answers_for old.head old.events k o) 1 0)) there
+        ∙ ap (λ b. actor.answered + (cond b 1 0)) made.answers) in
+        let asks : asked now ≡ Some ask.op = asked_same actor now ops (omega (arith, same)) ∙ there in
+        let free : is_busy k old.events ≡ false = ap (λ (b : Contents). is_busy k b.events) (sym kept.1) ∙ idle in
+        subst (λ o. IsKnown new.head new.events last_now k o (noted (NotYet why) false last)) (sym asks)
+        (subst (λ (b : Contents). IsKnown b.head b.events last_now k (Some ask.op) (noted (NotYet why) false last)) (sym kept.1)
+        (waits_noted old.head old.events last last_now k ask.op why lawful kept.0 free up))
+
+    go : (b : Bool) → is_busy k new.events ≡ b → IsKnown new.head new.events last_now k (asked now) (noted (NotYet why) b last)
+    go true f = tt
+    go false f = known (slice_get actor.asks.items actor.answered) refl f
+
+-- ---- what is known after a turn
+
+-- an entry ends nothing
+call_ends_nothing : (e : Event) → is_call e ≡ true → is_end e ≡ false
+call_ends_nothing (Call seat cpu state inst dir how) h = refl
+call_ends_nothing e h = absurd (true≢false (sym h))
+
+-- one event more of another seat, or none
+nothing_on : (head : Head) (before : List Event) (k j : ℕ) (o : Option Event) (op : Option Op) →
+    IfSome o (λ e. seat_of e ≡ k) → k ≢ j → EndsNothing o → MakesNothing head before j op →
+    MakesNothing head (before ++ option_to_list o) j op
+nothing_on head before k j o None by other ends h = tt
+nothing_on head before k j None (Some op) by other ends h = subst (λ es. IsWaiting head es j op) (sym (append-nil before)) h
+nothing_on head before k j (Some e) (Some op) by other ends h = waits_still head before e j op (λ is. other (sym by ∙ is)) ends h
+
+needs_on : (head : Head) (before : List Event) (k j : ℕ) (o : Option Event) (op : Option Op) →
+    IfSome o (λ e. seat_of e ≡ k) → k ≢ j → NeedsMap head before j op → NeedsMap head (before ++ option_to_list o) j op
+needs_on head before k j o None by other h = tt
+needs_on head before k j None (Some op) by other h = (subst (λ es. IsReady head es j op) (sym (append-nil before)) h.0, h.1)
+needs_on head before k j (Some e) (Some op) by other h = (ready_still head before e j op (λ is. other (sym by ∙ is)) h.0, h.1)
+
+known_on : (head : Head) (before : List Event) (last last_now k j : ℕ) (o : Option Event) (op : Option Op) (waits : Waits) →
+    IfSome o (λ e. seat_of e ≡ k) → k ≢ j → last ≤ last_now → (last_now ≡ last → EndsNothing o) →
+    IsKnown head before last j op waits → IsKnown head (before ++ option_to_list o) last_now j op waits
+known_on head before last last_now k j o op Unknown by other up ends h = tt
+known_on head before last last_now k j o op WhileMapHeld by other up ends h = needs_on head before k j o op by other h
+known_on head before last last_now k j o op (UntilEnd since) by other up ends h =
+    let le = h.0 in (
+      omega (arith, le, up),
+      λ is. nothing_on head before k j o op by other (ends (omega (arith, le, up, is))) (h.1 (omega (arith, le, up, is))),
+    )
+
+knows_on : {H : Type 0} (head : Head) (before : List Event) (last last_now k j : ℕ) (o : Option Event) (actor : Actor H) →
+    IfSome o (λ e. seat_of e ≡ k) → k ≢ j → last ≤ last_now → (last_now ≡ last → EndsNothing o) →
+    KnowsWait head before last j actor → KnowsWait head (before ++ option_to_list o) last_now j actor
+knows_on head before last last_now k j o actor by other up ends know =
+    known_on head before last last_now k j o (asked actor) actor.waits by other up ends know
+
+longer : (before : List Event) (o : Option Event) (n : ℕ) → n ≤ length before → n ≤ length (before ++ option_to_list o)
+longer before o n few = let l = length-append before (option_to_list o) in omega (arith, few, l)
+
+due_by : (head : Head) (events : List Event) (k : ℕ) (o : Option Event) → due_entry head events k ≡ o →
+    IfSome o (λ e. seat_of e ≡ k) × EndsNothing o
+due_by head events k None f = (tt, tt)
+due_by head events k (Some e) f = let d = due_stands head events k e f in (d.2, call_ends_nothing e d.1)
+
+-- a thread makes entries alone
+pub thread_knows : {H : Type 0} (old new : Contents) (actors : List (Actor H)) (threads last k : ℕ) → k < threads → Served k old new →
+    KnowsWaits old threads last actors → KnowsWaits new threads last actors
+thread_knows {H} old new actors threads last k below s w = record {
+  made = subst (λ (es : List Event). last ≤ length es) (sym s.events_are) (longer old.events o last w.made);
+  each = λ i actor at.
+      subst (λ h. KnowsWait h new.events last (threads + i) actor) (sym s.head_is)
+      (subst (λ es. KnowsWait old.head es last (threads + i) actor) (sym s.events_are)
+      (knows_on old.head old.events last last k (threads + i) o actor by.0 (λ is. absurd (omega (arith, is, below))) (omega arith)
+      (λ same. by.1) (w.each i actor at)));
+}
+  where
+    o : Option Event
+    o = due_entry old.head old.events k
+
+    by : IfSome o (λ e. seat_of e ≡ k) × EndsNothing o
+    by = due_by old.head old.events k o refl
+
+asked_by : (head : Head) (events : List Event) (k : ℕ) (op : Option Op) → IfSome (event_for head events k op) (λ e. seat_of e ≡ k)
+asked_by head events k None = tt
+asked_by head events k (Some op) = go (next_event head events k op) refl
+  where
+    go : (o : Option Event) → next_event head events k op ≡ o → IfSome o (λ e. seat_of e ≡ k)
+    go None f = tt
+    go (Some e) f = (next_stands head events k op e f).1
+
+-- what an actor's turn made, and what it notes of it
+pub record Noted {H : Type 0} (old new : Contents) (last last_now seat : ℕ) (actor now : Actor H) : Type 0 where
+  pub head_is : new.head ≡ old.head
+  pub event : Option Event
+  pub events_are : new.events ≡ old.events ++ option_to_list event
+  pub by : IfSome event (λ e. seat_of e ≡ seat)
+  pub up : last ≤ last_now
+  pub made : last_now ≤ length new.events
+  pub ends : last_now ≡ last → EndsNothing event
+  pub knows : KnowsWait new.head new.events last_now seat now
+
+actor_knows : {H : Type 0} (old new : Contents) (actors : List (Actor H)) (threads last last_now i : ℕ) (actor now : Actor H) →
+    Noted old new last last_now (threads + i) actor now → KnowsWaits old threads last actors →
+    KnowsWaits new threads last_now (set actors i now)
+actor_knows {H} old new actors threads last last_now i actor now n w = record {
+  made = n.made;
+  each = λ j other found. each j other (set_at actors i j now other found);
+}
+  where
+    each : (j : ℕ) (other : Actor H) → ((j ≡ i) × (other ≡ now)) ⊎ ((j ≡ i → ⊥) × (slice_get actors j ≡ Some other)) →
+        KnowsWait new.head new.events last_now (threads + j) other
+    each j other (inl h) = rw (h.0, h.1) n.knows
+    each j other (inr h) =
+        subst (λ head. KnowsWait head new.events last_now (threads + j) other) (sym n.head_is)
+        (subst (λ es. KnowsWait old.head es last_now (threads + j) other) (sym n.events_are)
+        (knows_on old.head old.events last last_now (threads + i) (threads + j) n.event other n.by
+        (λ is. h.0 (omega (arith, is))) n.up n.ends (w.each j other h.1)))
+
+-- whether memory was wanting or not, where the seat is known by its number
+pub turn_knows : {H E F : Type 0} (r : Result E F) (old new : Contents) (actors : List (Actor H)) (threads last last_now i k : ℕ)
+    (actor now : Actor H) → threads + i ≡ k → new.head ≡ old.head →
+    OnOk r (new.events ≡ old.events ++ option_to_list (event_for old.head old.events k (asked actor))) →
+    OnErr r ((new ≡ old) × (now.answered ≡ actor.answered)) →
+    (last ≤ last_now) × (last_now ≤ length new.events) →
+    OnOk r (last_now ≡ last → EndsNothing (event_for old.head old.events k (asked actor))) →
+    KnowsWait new.head new.events last_now k now → KnowsWaits old threads last actors →
+    KnowsWaits new threads last_now (set actors i now)
+turn_knows (Ok x) old new actors threads last last_now i k actor now e head events err up ends knows w =
+    actor_knows old new actors threads last last_now i actor now
+    (record {
+      head_is = head;
+      event = event_for old.head old.events k (asked actor);
+      events_are = events;
+      by = subst (λ z. IfSome (event_for old.head old.events k (asked actor)) (λ e. seat_of e ≡ z)) (sym e)
+          (asked_by old.head old.events k (asked actor));
+      up = up.0;
+      made = up.1;
+      ends = ends;
+      knows = subst (λ z. KnowsWait new.head new.events last_now z now) (sym e) knows;
+    }) w
+turn_knows (Err x) old new actors threads last last_now i k actor now e head events err up ends knows w =
+    actor_knows old new actors threads last last_now i actor now
+    (record {
+      head_is = head;
+      event = None;
+      events_are = ap (λ (b : Contents). b.events) err.0 ∙ sym (append-nil old.events);
+      by = tt;
+      up = up.0;
+      made = up.1;
+      ends = λ same. tt;
+      knows = subst (λ z. KnowsWait new.head new.events last_now z now) (sym e) knows;
+    }) w
+
+-- nothing is known at the start
+pub none_known : {H : Type 0} (board : Contents) (threads : ℕ) (actors : List (Actor H)) → All (λ actor. actor.waits ≡ Unknown) actors →
+    KnowsWaits board threads 0 actors
+none_known {H} board threads actors unmarked = record {
+  made = omega arith;
+  each = λ i actor at.
+      let there = get_or_from_slice_get actors i actor actor at in
+      let none = subst (λ (a : Actor H). a.waits ≡ Unknown) there (unmarked i actor (slice_get_within actors i actor at)) in
+      subst (IsKnown board.head board.events 0 (threads + i) (asked actor)) (sym none) tt;
+}
+
+-- ---- an actor that is known to wait is passed over
+
+stays : (head : Head) (events : List Event) (answers : List ℕ) (k i : ℕ) (o : Option Op) → MakesNothing head events k o →
+    ◌≡◌ {A = Progress} (record { events = events ++ option_to_list (event_for head events k o); answers = counted i (answers_for head events k o) answers })
+    (record { events = events; answers = answers })
+stays head events answers k i None h = rw append-nil refl
+stays head events answers k i (Some op) h =
+    let next = waiting_next head events k op h in
+    let full = waiting_full head events k op h in
+    rw (next, full, append-nil) refl
+
+pub passed_over : {H : Type 0} (board : Contents) (threads i k : ℕ) (actors : List (Actor H)) (actor : Actor H) →
+    IsPlaying board threads actors → threads + i ≡ k → slice_get actors i ≡ Some actor →
+    MakesNothing board.head board.events (threads + i) (asked actor) →
+    turn board.head (map ops_of actors) (progress_of board.events actors) k ≡ progress_of board.events actors
+passed_over board threads i k actors actor p is at nothing =
+    let made = actor_turn board.head (map ops_of actors) (progress_of board.events actors) k i (sym is ∙ ap (λ z. z + i) p.threads_are) in
+    let asks = asked_is actors i actor at in
+    made
+    ∙ (ap (λ (o : Option Op). done o) asks
+    ∙ stays board.head board.events (map answered_of actors) k i (asked actor)
+    (subst (λ z. MakesNothing board.head board.events z (asked actor)) is nothing))
+  where
+    done : Option Op → Progress
+    done o =
+        record {
+          events = board.events ++ option_to_list (event_for board.head board.events k o);
+          answers = counted i (answers_for board.head board.events k o) (map answered_of actors);
+        }
+
+-- by what is known of it
+pub known_until : {H : Type 0} (board : Contents) (threads last i since : ℕ) (actors : List (Actor H)) (actor : Actor H) →
+    KnowsWaits board threads last actors → slice_get actors i ≡ Some actor → actor.waits ≡ UntilEnd since → since ≡ last →
+    MakesNothing board.head board.events (threads + i) (asked actor)
+known_until board threads last i since actors actor w at noted same =
+    (subst (IsKnown board.head board.events last (threads + i) (asked actor)) noted (w.each i actor at)).1 same
+
+map_nothing : (head : Head) (events : List Event) (k : ℕ) (op : Option Op) → NeedsMap head events k op → is_map_held events ≡ true →
+    MakesNothing head events k op
+map_nothing head events k None h held = tt
+map_nothing head events k (Some op) h held = record { ready = h.0; waits = held_waits events op h.1 held }
+
+pub known_held : {H : Type 0} (board : Contents) (threads last i : ℕ) (actors : List (Actor H)) (actor : Actor H) →
+    KnowsWaits board threads last actors → slice_get actors i ≡ Some actor → actor.waits ≡ WhileMapHeld →
+    is_map_held board.events ≡ true → MakesNothing board.head board.events (threads + i) (asked actor)
+known_held board threads last i actors actor w at noted held =
+    map_nothing board.head board.events (threads + i) (asked actor)
+    (subst (IsKnown board.head board.events last (threads + i) (asked actor)) noted (w.each i actor at)) held
+
+-- the run as it is, as after a turn that makes nothing
+pub passed : (now : Position) (seat : ℕ) → turn now.head now.actors now.progress seat ≡ now.progress →
+    now ≡ record { head = now.head; actors = now.actors; progress = turn now.head now.actors now.progress seat }
+passed now seat still = ap at (sym still)
+  where
+    at : Progress → Position
+    at q = record { head = now.head; actors = now.actors; progress = q }

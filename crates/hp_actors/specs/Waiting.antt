@@ -1,0 +1,68 @@
+-- Where an operation waits to begin, by which events a wait can end, and what a run knows of the actors that wait. This project's own.
+use Rattle.std.specs.Prelude.{◌≡◌, ℕ, ◌+◌, ◌≤◌, Bool, true, false, IfSome, Option, Some, None, List, length, slice_get}
+use Rattle.hp_event.specs.declared.op.Op.{Op}
+use Rattle.hp_event.specs.declared.head.Head.{Head}
+use Rattle.hp_event.specs.declared.event.Event.{Event}
+use Rattle.hp_event.specs.declared.event.Event.TheVariants.{WalkEnd, OpEnd, RegEnd}
+use Rattle.hp_model.specs.MapLock.{is_map_op}
+use Rattle.hp_model.specs.RefusalsAtOnce.{first_that_holds, refusals_at_once}
+use Rattle.hp_model.specs.Seats.{is_busy}
+use Rattle.hp_model.specs.Waits.{is_waiting}
+use Rattle.hp_board.specs.Contents.{Contents}
+use Rattle.hp_board.specs.declared.turn.Turn.{Turn}
+use Rattle.hp_board.specs.declared.turn.Turn.TheVariants.{NotYet}
+use Rattle.hp_locks.specs.declared.why.Why.TheVariants.{MapsHeld}
+use Rattle.hp_actors.specs.declared.actor.Actor.{Actor}
+use Rattle.hp_actors.specs.declared.actor.Waits.{Waits}
+use Rattle.hp_actors.specs.declared.actor.Waits.TheVariants.{Unknown, WhileMapHeld, UntilEnd}
+use Rattle.hp_actors.specs.Turned.{asked}
+
+-- nothing of the seat is in flight, and its operation isn't refused at once
+pub record IsReady (head : Head) (events : List Event) (seat : ℕ) (op : Op) : Type 0 where
+  pub idle : is_busy seat events ≡ false
+  pub not_refused : first_that_holds (refusals_at_once head events seat op) ≡ None
+
+-- but can't begin
+pub record IsWaiting (head : Head) (events : List Event) (seat : ℕ) (op : Op) : Type 0 where
+  pub ready : IsReady head events seat op
+  pub waits : is_waiting events op ≡ true
+
+-- what is waited for is in flight until it ends
+abbrev pub is_end : Event → Bool
+is_end (WalkEnd seat cpu answer) = true
+is_end (OpEnd seat answer) = true
+is_end (RegEnd seat answer) = true
+is_end _ = false
+
+abbrev pub EndsNothing : Option Event → Type 0
+EndsNothing o = IfSome o (λ e. is_end e ≡ false)
+
+-- a turn for this makes nothing: it waits, or there is no operation
+abbrev pub MakesNothing : Head → List Event → (seat : ℕ) → Option Op → Type 0
+MakesNothing head events k None = Unit {0}
+MakesNothing head events k (Some op) = IsWaiting head events k op
+
+-- it waits whenever the map lock is held, or there is no operation
+abbrev pub NeedsMap : Head → List Event → (seat : ℕ) → Option Op → Type 0
+NeedsMap head events k None = Unit {0}
+NeedsMap head events k (Some op) = IsReady head events k op × (is_map_op op ≡ true)
+
+-- what is known of an operation for which a seat has turns
+abbrev pub IsKnown : Head → List Event → (last_end seat : ℕ) → Option Op → Waits → Type 0
+IsKnown head events last k op Unknown = Unit {0}
+IsKnown head events last k op WhileMapHeld = NeedsMap head events k op
+IsKnown head events last k op (UntilEnd since) = (since ≤ last) × (since ≡ last → MakesNothing head events k op)
+
+abbrev pub KnowsWait : {H : Type 0} → Head → List Event → (last_end seat : ℕ) → Actor H → Type 0
+KnowsWait head events last k actor = IsKnown head events last k (asked actor) actor.waits
+
+pub record KnowsWaits {H : Type 0} (board : Contents) (threads last_end : ℕ) (actors : List (Actor H)) : Type 0 where
+  pub made : last_end ≤ length board.events
+  pub each : (i : ℕ) (actor : Actor H) → slice_get actors i ≡ Some actor → KnowsWait board.head board.events last_end (threads + i) actor
+
+-- what is noted after a turn of a seat
+abbrev pub noted : Turn → (busy : Bool) → (last_end : ℕ) → Waits
+noted (NotYet why) true last = Unknown
+noted (NotYet (MapsHeld seat)) false last = WhileMapHeld
+noted (NotYet why) false last = UntilEnd last
+noted turn busy last = Unknown
