@@ -11,7 +11,7 @@ use Rattle.hp_command.proofs.CommandLaws.{same_command}
 use Rattle.hp_script.specs.Judged.{IsRefused}
 use Rattle.hp_script.proofs.PlayableScripts.{short_read}
 use Rattle.hp_replay.specs.declared.error.ReplayKind.{ReplayKind}
-use Rattle.hp_replay.specs.Judged.{Outcome, accepted, refused}
+use Rattle.hp_replay.specs.Judged.{accepted, refused}
 use Rattle.hp_replay.specs.Verdict.{IsReplay}
 use Rattle.hp_replay.proofs.VerdictLaws.{one_outcome}
 use Rattle.hp_play.specs.Main.{WasRead, Asked, HoldsScript, HoldsJournal, HasInput, IsBadScript, IsBadJournal, IsRefusedBy}

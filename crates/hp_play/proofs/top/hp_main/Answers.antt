@@ -2,6 +2,7 @@
 use Rattle.std.proofs.Common.{map, string_bytes, length, ap, subst, refl, arith}
 use Rattle.hp_command.specs.Commands.{IsCommand}
 use Rattle.hp_play.specs.Main.{usage, refusal, bad_journal, usage_line}
+use Rattle.hp_play.proofs.Accepting.{no_refusal, no_journal_refusal}
 use Rattle.hp_play.proofs.Parts.{part_of, no_command}
 use Rattle.hp_play.proofs.top.hp_main.Goals as goal
 
@@ -56,3 +57,28 @@ returns-in-Err-BadJournal-clause-write_fault g c = λ e.
             is = (stop.0, stop.1);
           }) c.deref-in-Err-BadJournal.ensures.value f.0 f.1 f.2,
     )
+
+pub returns-in-Ok-None-clause-accepted : goal.returns-in-Ok-None-clause-accepted
+returns-in-Ok-None-clause-accepted g c = λ has source_faults sink_faults.
+    let none =
+    no_command (map string_bytes c.deref.result.now) (map string_bytes c.args.words.now.items) (g.S.Source.left c.args.source.now)
+    (ap (map string_bytes) c.deref.ensures.value) (rw c.in-Ok-None.field-0-is at c.in-Ok-None.ensures.none) in
+    absurd (none.other_words has.command has.asked)
+
+pub returns-in-Err-BadScript-clause-accepted : goal.returns-in-Err-BadScript-clause-accepted
+returns-in-Err-BadScript-clause-accepted g c = λ has source_faults sink_faults.
+    let stop = rw c.in-Err-BadScript.field-0-is at c.in-Err-BadScript.ensures.stop in
+    let asked = rw c.in-Ok-Some.field-0-is at c.in-Ok-Some.ensures.some in
+    absurd
+    (no_refusal (map string_bytes c.args.words.now.items) c.in-Ok-Some.command (length c.args.rack.now.hooks.items)
+    (g.S.Source.left c.args.source.now) (g.S.Source.left c.output_of.new.source) c.in-Err-BadScript.line.items has
+    (subst (λ z. IsCommand z c.in-Ok-Some.command) (ap (map string_bytes) c.deref.ensures.value) asked) stop.0)
+
+pub returns-in-Err-BadJournal-clause-accepted : goal.returns-in-Err-BadJournal-clause-accepted
+returns-in-Err-BadJournal-clause-accepted g c = λ has source_faults sink_faults.
+    let stop = rw c.in-Err-BadJournal.field-0-is at c.in-Err-BadJournal.ensures.stop in
+    let asked = rw c.in-Ok-Some.field-0-is at c.in-Ok-Some.ensures.some in
+    absurd
+    (no_journal_refusal (map string_bytes c.args.words.now.items) c.in-Ok-Some.command (length c.args.rack.now.hooks.items)
+    (g.S.Source.left c.args.source.now) (g.S.Source.left c.output_of.new.source) c.in-Err-BadJournal.line.items has
+    (subst (λ z. IsCommand z c.in-Ok-Some.command) (ap (map string_bytes) c.deref.ensures.value) asked) stop.0 stop.1)
