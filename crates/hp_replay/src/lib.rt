@@ -43,4 +43,4 @@ pub use laws::{
     judged_is_verdict, line_says_one, read_event_is_spelled, standing_is_spelled, text_is_accepted,
     text_says_one,
 };
-pub use replay::check;
+pub use replay::{check, check_and_summarize};

@@ -1,6 +1,7 @@
 //! The whole of a journal's text.
 
-ghost use Rattle.std.specs.Prelude.{◌≡◌, IfOk, IfErr};
+ghost use Rattle.std.specs.Prelude.{◌≡◌, IfOk, IfSome, IfErr};
+ghost use Rattle.hp_model.specs.Summary.{summary as summary_text};
 ghost use Rattle.hp_replay.specs.Judged.{accepted};
 ghost use Rattle.hp_replay.specs.Verdict.{IsReplay, IsRefusal};
 
@@ -10,6 +11,7 @@ use crate::head::read_head;
 use crate::line::Lines;
 use crate::summary_lines::read_summary;
 use hp_event::Journal;
+use hp_print::summary;
 use hp_states::MAX_JOURNAL_BYTES;
 use std::alloc::Global;
 
@@ -33,6 +35,35 @@ pub fn check(alloc: Global, bytes: &[u8]) -> Result<Journal, ReplayError>
     // They are none, and this is the first line that can't stand, or that is missing.
     ensures refused { IfErr result (IsRefusal bytes.now) }
 {
+    let (journal, _) = read(alloc, bytes)?;
+    Ok(journal)
+}
+
+/// The journal that `check` answers, and its summary.
+///
+/// It refuses what `check` refuses, and as `check` does. The summary is that of the input, where it has
+/// one, and is printed where it has none. Takes memory for it in either case.
+pub fn check_and_summarize(alloc: Global, bytes: &[u8]) -> Result<(Journal, Vec<u8>), ReplayError>
+    ensures journal { IfOk result (λ r. IsReplay bytes.now (accepted r.0.head r.0.events)) }
+    ensures promised { IfOk result (λ r. r.0.promised ≡ 0) }
+    ensures summary { IfOk result (λ r. r.1.items ≡ summary_text r.0.head r.0.events) }
+    ensures refused { IfErr result (IsRefusal bytes.now) }
+{
+    let (journal, text) = read(alloc, bytes)?;
+    let text = match text {
+        Some(text) => text,
+        None => summary(alloc, &journal)?,
+    };
+    Ok((journal, text))
+}
+
+/// The journal whose text an input is, and its summary where the input has one.
+fn read(alloc: Global, bytes: &[u8]) -> Result<(Journal, Option<Vec<u8>>), ReplayError>
+    ensures journal { IfOk result (λ r. IsReplay bytes.now (accepted r.0.head r.0.events)) }
+    ensures promised { IfOk result (λ r. r.0.promised ≡ 0) }
+    ensures text { IfOk result (λ r. IfSome r.1 (λ text. text.items ≡ summary_text r.0.head r.0.events)) }
+    ensures refused { IfErr result (IsRefusal bytes.now) }
+{
     if bytes.len() > MAX_JOURNAL_BYTES as usize {
         return Err(ReplayError::Bad {
             line: 0,
@@ -42,6 +73,6 @@ pub fn check(alloc: Global, bytes: &[u8]) -> Result<Journal, ReplayError>
     let mut lines = Lines::of(bytes);
     let head = read_head(alloc, &mut lines)?;
     let journal = read_events(alloc, &head, &mut lines)?;
-    read_summary(alloc, &journal, &mut lines)?;
-    Ok(journal)
+    let text = read_summary(alloc, &journal, &mut lines)?;
+    Ok((journal, text))
 }

@@ -1,8 +1,9 @@
 //! The lines behind the `end` line: none, or those of the journal's summary.
 
-ghost use Rattle.std.specs.Prelude.{List, OnOk, IfErr};
+ghost use Rattle.std.specs.Prelude.{◌≡◌, List, OnOk, IfOk, IfSome, IfErr};
 ghost use Rattle.hp_event.specs.declared.head.Head.{Head as AHead};
 ghost use Rattle.hp_event.specs.declared.event.Event.{Event as AnEvent};
+ghost use Rattle.hp_model.specs.Summary.{summary as summary_text};
 ghost use Rattle.hp_replay.specs.InputLines.{lines_of};
 ghost use Rattle.hp_replay.specs.Stages.{whole, among_summary};
 ghost use Rattle.hp_replay.specs.Judged.{accepted, Judged};
@@ -37,21 +38,24 @@ fn compare(text: &[u8], lines: &mut Lines<'_>) -> Result<(), ReplayError>
     }
 }
 
-/// Takes the lines that are left behind the `end` line of a journal's text. The summary is printed
-/// only where there is one.
+/// Takes the lines that are left behind the `end` line of a journal's text. The summary is printed only
+/// where there is one, and is then the answer.
 pub fn read_summary(
     alloc: Global,
     journal: &Journal,
     lines: &mut Lines<'_>,
-) -> Result<(), ReplayError>
+) -> Result<Option<Vec<u8>>, ReplayError>
     ensures ok { OnOk result
         (Judged (whole journal.now.head journal.now.events) lines.old.number lines.old.lines
         (accepted journal.now.head journal.now.events)) }
+    ensures text { IfOk result (λ found.
+        IfSome found (λ text. text.items ≡ summary_text journal.now.head journal.now.events)) }
     ensures bad { IfErr result (RefusedFrom (whole journal.now.head journal.now.events) lines.old) }
 {
     if lines.is_done() {
-        return Ok(());
+        return Ok(None);
     }
     let text = summary(alloc, journal)?;
-    compare(text.as_slice(), lines)
+    compare(text.as_slice(), lines)?;
+    Ok(Some(text))
 }
