@@ -26,6 +26,7 @@ mod InputExamples
 pub mod CodeForms
 mod WordForms
 mod DigitLoop
+mod DigitWord
 mod Rows
 mod FirstWordLaws
 mod LineForms

@@ -17,3 +17,8 @@ first_of (w ∷ ws) = Some w
 abbrev pub others_of : List (List ℕ) → List (List ℕ)
 others_of [] = []
 others_of (w ∷ ws) = ws
+
+-- what the first word says
+abbrev pub first_says : {A : Type 0} → (List ℕ → Option A) → List (List ℕ) → Option A
+first_says field [] = None
+first_says field (w ∷ ws) = field w

@@ -6,7 +6,7 @@ ghost use Rattle.hp_event.specs.declared.answer.Answer.TheVariants as answer;
 ghost use Rattle.hp_replay.specs.Tails.{numbered};
 ghost use Rattle.hp_replay.specs.EventAt.{how as how_at, ok_tail, stuck_tail, answer as answer_at, walk_answer as walk_answer_at};
 
-use crate::numbers::{integer, number};
+use crate::numbers::integer;
 use crate::words::Words;
 use hp_event::{Answer, How};
 
@@ -14,7 +14,7 @@ use hp_event::{Answer, How};
 fn ran_fault(words: &mut Words<'_>) -> Option<How>
     ensures { result ≡ numbered (λ code. how.RanFault code) words.old }
 {
-    let code = number(words.next()?)?;
+    let code = words.number()?;
     words.done(How::RanFault(code))
 }
 
@@ -22,7 +22,7 @@ fn ran_fault(words: &mut Words<'_>) -> Option<How>
 fn overruled(words: &mut Words<'_>) -> Option<How>
     ensures { result ≡ numbered (λ code. how.Overruled code) words.old }
 {
-    let code = number(words.next()?)?;
+    let code = words.number()?;
     words.done(How::Overruled(code))
 }
 
@@ -54,7 +54,7 @@ fn ok(words: &mut Words<'_>) -> Option<Answer>
 fn refused(words: &mut Words<'_>) -> Option<Answer>
     ensures { result ≡ numbered (λ errno. answer.Refused errno) words.old }
 {
-    let errno = number(words.next()?)?;
+    let errno = words.number()?;
     words.done(Answer::Refused(errno))
 }
 
@@ -62,7 +62,7 @@ fn refused(words: &mut Words<'_>) -> Option<Answer>
 fn fault(words: &mut Words<'_>) -> Option<Answer>
     ensures { result ≡ numbered (λ code. answer.Fault code) words.old }
 {
-    let code = number(words.next()?)?;
+    let code = words.number()?;
     words.done(Answer::Fault(code))
 }
 
@@ -70,9 +70,9 @@ fn fault(words: &mut Words<'_>) -> Option<Answer>
 fn stuck(words: &mut Words<'_>) -> Option<Answer>
     ensures { result ≡ stuck_tail words.old }
 {
-    let first = number(words.next()?)?;
-    let second = number(words.next()?)?;
-    let at = number(words.next()?)?;
+    let first = words.number()?;
+    let second = words.number()?;
+    let at = words.number()?;
     words.done(Answer::Stuck { first, second, at })
 }
 

@@ -10,7 +10,7 @@ ghost use Rattle.hp_replay.specs.EventAt.{direction as direction_at, role as rol
 use crate::answer::{answer, how, walk_answer};
 use crate::first_word::{EventWord, event_word};
 use crate::line::Line;
-use crate::numbers::{integer, number};
+use crate::numbers::integer;
 use crate::op::op;
 use crate::words::Words;
 use hp_event::{Event, File, Key, Role};
@@ -32,7 +32,7 @@ pub fn direction(word: &[u8]) -> Option<Dir>
 fn ap(words: &mut Words<'_>) -> Option<Role>
     ensures { result ≡ numbered (λ cpu. role.Ap cpu) words.old }
 {
-    let cpu = number(words.next()?)?;
+    let cpu = words.number()?;
     words.done(Role::Ap(cpu))
 }
 
@@ -52,7 +52,7 @@ fn role(words: &mut Words<'_>) -> Option<Role>
 fn admit(words: &mut Words<'_>) -> Option<Event>
     ensures { result ≡ admit_tail words.old }
 {
-    let seat = number(words.next()?)?;
+    let seat = words.number()?;
     let role = role(words)?;
     Some(Event::Admit { seat, role })
 }
@@ -61,7 +61,7 @@ fn admit(words: &mut Words<'_>) -> Option<Event>
 fn leave(words: &mut Words<'_>) -> Option<Event>
     ensures { result ≡ numbered (λ seat. event.Leave seat) words.old }
 {
-    let seat = number(words.next()?)?;
+    let seat = words.number()?;
     words.done(Event::Leave { seat })
 }
 
@@ -69,7 +69,7 @@ fn leave(words: &mut Words<'_>) -> Option<Event>
 fn enter(words: &mut Words<'_>) -> Option<Event>
     ensures { result ≡ enter_tail words.old }
 {
-    let seat = number(words.next()?)?;
+    let seat = words.number()?;
     let op = op(words)?;
     Some(Event::Enter { seat, op })
 }
@@ -78,8 +78,8 @@ fn enter(words: &mut Words<'_>) -> Option<Event>
 fn refused(words: &mut Words<'_>) -> Option<Event>
     ensures { result ≡ refused_tail words.old }
 {
-    let seat = number(words.next()?)?;
-    let errno = number(words.next()?)?;
+    let seat = words.number()?;
+    let errno = words.number()?;
     let op = op(words)?;
     Some(Event::Refused { seat, errno, op })
 }
@@ -88,8 +88,8 @@ fn refused(words: &mut Words<'_>) -> Option<Event>
 fn way(seat: u32, cpu: u32, words: &mut Words<'_>) -> Option<Event>
     ensures { result ≡ way_tail seat cpu words.old }
 {
-    let from = number(words.next()?)?;
-    let to = number(words.next()?)?;
+    let from = words.number()?;
+    let to = words.number()?;
     words.done(Event::WalkBegin {
         seat,
         cpu,
@@ -102,8 +102,8 @@ fn way(seat: u32, cpu: u32, words: &mut Words<'_>) -> Option<Event>
 fn walk(words: &mut Words<'_>) -> Option<Event>
     ensures { result ≡ walk_tail words.old }
 {
-    let seat = number(words.next()?)?;
-    let cpu = number(words.next()?)?;
+    let seat = words.number()?;
+    let cpu = words.number()?;
     way(seat, cpu, words)
 }
 
@@ -127,8 +127,8 @@ fn made(seat: u32, cpu: u32, key: Key, words: &mut Words<'_>) -> Option<Event>
 fn entry(seat: u32, cpu: u32, words: &mut Words<'_>) -> Option<Event>
     ensures { result ≡ entry_tail seat cpu words.old }
 {
-    let state = number(words.next()?)?;
-    let inst = number(words.next()?)?;
+    let state = words.number()?;
+    let inst = words.number()?;
     made(seat, cpu, Key { state, inst }, words)
 }
 
@@ -136,8 +136,8 @@ fn entry(seat: u32, cpu: u32, words: &mut Words<'_>) -> Option<Event>
 fn call(words: &mut Words<'_>) -> Option<Event>
     ensures { result ≡ call_tail words.old }
 {
-    let seat = number(words.next()?)?;
-    let cpu = number(words.next()?)?;
+    let seat = words.number()?;
+    let cpu = words.number()?;
     entry(seat, cpu, words)
 }
 
@@ -145,8 +145,8 @@ fn call(words: &mut Words<'_>) -> Option<Event>
 fn walked(words: &mut Words<'_>) -> Option<Event>
     ensures { result ≡ walked_tail words.old }
 {
-    let seat = number(words.next()?)?;
-    let cpu = number(words.next()?)?;
+    let seat = words.number()?;
+    let cpu = words.number()?;
     let answer = walk_answer(words)?;
     Some(Event::WalkEnd { seat, cpu, answer })
 }
@@ -155,7 +155,7 @@ fn walked(words: &mut Words<'_>) -> Option<Event>
 fn done(words: &mut Words<'_>) -> Option<Event>
     ensures { result ≡ done_tail words.old }
 {
-    let seat = number(words.next()?)?;
+    let seat = words.number()?;
     let answer = answer(words)?;
     Some(Event::OpEnd { seat, answer })
 }
@@ -164,8 +164,8 @@ fn done(words: &mut Words<'_>) -> Option<Event>
 fn reg(words: &mut Words<'_>) -> Option<Event>
     ensures { result ≡ reg_tail words.old }
 {
-    let seat = number(words.next()?)?;
-    let state = number(words.next()?)?;
+    let seat = words.number()?;
+    let state = words.number()?;
     let op = op(words)?;
     Some(Event::RegBegin { seat, state, op })
 }
@@ -174,7 +174,7 @@ fn reg(words: &mut Words<'_>) -> Option<Event>
 fn regged(words: &mut Words<'_>) -> Option<Event>
     ensures { result ≡ regged_tail words.old }
 {
-    let seat = number(words.next()?)?;
+    let seat = words.number()?;
     let answer = answer(words)?;
     Some(Event::RegEnd { seat, answer })
 }
@@ -183,7 +183,7 @@ fn regged(words: &mut Words<'_>) -> Option<Event>
 fn lock(words: &mut Words<'_>) -> Option<Event>
     ensures { result ≡ numbered (λ seat. event.ReadLock seat) words.old }
 {
-    let seat = number(words.next()?)?;
+    let seat = words.number()?;
     words.done(Event::ReadLock { seat })
 }
 
@@ -191,7 +191,7 @@ fn lock(words: &mut Words<'_>) -> Option<Event>
 fn unlock(words: &mut Words<'_>) -> Option<Event>
     ensures { result ≡ numbered (λ seat. event.ReadUnlock seat) words.old }
 {
-    let seat = number(words.next()?)?;
+    let seat = words.number()?;
     words.done(Event::ReadUnlock { seat })
 }
 
@@ -199,8 +199,8 @@ fn unlock(words: &mut Words<'_>) -> Option<Event>
 fn armed(words: &mut Words<'_>) -> Option<Event>
     ensures { result ≡ armed_tail words.old }
 {
-    let seat = number(words.next()?)?;
-    let cpu = number(words.next()?)?;
+    let seat = words.number()?;
+    let cpu = words.number()?;
     let value = integer(words.next()?)?;
     words.done(Event::Armed { seat, cpu, value })
 }
@@ -209,7 +209,7 @@ fn armed(words: &mut Words<'_>) -> Option<Event>
 fn shown_of(seat: u32, file: File, words: &mut Words<'_>) -> Option<Event>
     ensures { result ≡ valued (λ cpu value. event.Shown seat file cpu value) words.old }
 {
-    let cpu = number(words.next()?)?;
+    let cpu = words.number()?;
     let value = integer(words.next()?)?;
     words.done(Event::Shown {
         seat,
@@ -249,7 +249,7 @@ fn shown_file(seat: u32, words: &mut Words<'_>) -> Option<Event>
 fn shown(words: &mut Words<'_>) -> Option<Event>
     ensures { result ≡ shown_tail words.old }
 {
-    let seat = number(words.next()?)?;
+    let seat = words.number()?;
     shown_file(seat, words)
 }
 
@@ -257,7 +257,7 @@ fn shown(words: &mut Words<'_>) -> Option<Event>
 fn wakeup(words: &mut Words<'_>) -> Option<Event>
     ensures { result ≡ numbered (λ seat. event.Wakeup seat) words.old }
 {
-    let seat = number(words.next()?)?;
+    let seat = words.number()?;
     words.done(Event::Wakeup { seat })
 }
 

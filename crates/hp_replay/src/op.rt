@@ -6,7 +6,7 @@ ghost use Rattle.hp_replay.specs.Tails.{numbered, valued};
 ghost use Rattle.hp_replay.specs.OpAt.{flags as flags_at, one_flag as one_flag_at, form as form_at, show_tail, setup_tail, remove_tail, add_tail, del_tail, freeze_tail, op as op_at};
 
 use crate::first_word::{OpWord, op_word};
-use crate::numbers::{integer, number};
+use crate::numbers::integer;
 use crate::words::Words;
 use hp_event::{Form, Op};
 
@@ -48,7 +48,7 @@ fn form(words: &mut Words<'_>) -> Option<Form>
 fn up(words: &mut Words<'_>) -> Option<Op>
     ensures { result ≡ numbered (λ cpu. op.Up cpu) words.old }
 {
-    let cpu = number(words.next()?)?;
+    let cpu = words.number()?;
     words.done(Op::Up(cpu))
 }
 
@@ -56,7 +56,7 @@ fn up(words: &mut Words<'_>) -> Option<Op>
 fn down(words: &mut Words<'_>) -> Option<Op>
     ensures { result ≡ numbered (λ cpu. op.Down cpu) words.old }
 {
-    let cpu = number(words.next()?)?;
+    let cpu = words.number()?;
     words.done(Op::Down(cpu))
 }
 
@@ -64,7 +64,7 @@ fn down(words: &mut Words<'_>) -> Option<Op>
 fn target(words: &mut Words<'_>) -> Option<Op>
     ensures { result ≡ valued (λ cpu value. op.Target cpu value) words.old }
 {
-    let cpu = number(words.next()?)?;
+    let cpu = words.number()?;
     let value = integer(words.next()?)?;
     words.done(Op::Target(cpu, value))
 }
@@ -73,7 +73,7 @@ fn target(words: &mut Words<'_>) -> Option<Op>
 fn fail(words: &mut Words<'_>) -> Option<Op>
     ensures { result ≡ valued (λ cpu value. op.Arm cpu value) words.old }
 {
-    let cpu = number(words.next()?)?;
+    let cpu = words.number()?;
     let value = integer(words.next()?)?;
     words.done(Op::Arm(cpu, value))
 }
@@ -82,7 +82,7 @@ fn fail(words: &mut Words<'_>) -> Option<Op>
 fn show_state(words: &mut Words<'_>) -> Option<Op>
     ensures { result ≡ numbered (λ cpu. op.ShowState cpu) words.old }
 {
-    let cpu = number(words.next()?)?;
+    let cpu = words.number()?;
     words.done(Op::ShowState(cpu))
 }
 
@@ -90,7 +90,7 @@ fn show_state(words: &mut Words<'_>) -> Option<Op>
 fn show_target(words: &mut Words<'_>) -> Option<Op>
     ensures { result ≡ numbered (λ cpu. op.ShowTarget cpu) words.old }
 {
-    let cpu = number(words.next()?)?;
+    let cpu = words.number()?;
     words.done(Op::ShowTarget(cpu))
 }
 
@@ -98,7 +98,7 @@ fn show_target(words: &mut Words<'_>) -> Option<Op>
 fn show_fail(words: &mut Words<'_>) -> Option<Op>
     ensures { result ≡ numbered (λ cpu. op.ShowFail cpu) words.old }
 {
-    let cpu = number(words.next()?)?;
+    let cpu = words.number()?;
     words.done(Op::ShowFail(cpu))
 }
 
@@ -119,8 +119,8 @@ fn show(words: &mut Words<'_>) -> Option<Op>
 fn setup(words: &mut Words<'_>) -> Option<Op>
     ensures { result ≡ setup_tail words.old }
 {
-    let state = number(words.next()?)?;
-    let sub = number(words.next()?)?;
+    let state = words.number()?;
+    let sub = words.number()?;
     let form = form(words)?;
     Some(Op::Setup { state, sub, form })
 }
@@ -129,7 +129,7 @@ fn setup(words: &mut Words<'_>) -> Option<Op>
 fn remove(words: &mut Words<'_>) -> Option<Op>
     ensures { result ≡ remove_tail words.old }
 {
-    let state = number(words.next()?)?;
+    let state = words.number()?;
     let form = form(words)?;
     Some(Op::Remove { state, form })
 }
@@ -138,8 +138,8 @@ fn remove(words: &mut Words<'_>) -> Option<Op>
 fn add(words: &mut Words<'_>) -> Option<Op>
     ensures { result ≡ add_tail words.old }
 {
-    let state = number(words.next()?)?;
-    let inst = number(words.next()?)?;
+    let state = words.number()?;
+    let inst = words.number()?;
     let form = form(words)?;
     Some(Op::Add { state, inst, form })
 }
@@ -148,8 +148,8 @@ fn add(words: &mut Words<'_>) -> Option<Op>
 fn del(words: &mut Words<'_>) -> Option<Op>
     ensures { result ≡ del_tail words.old }
 {
-    let state = number(words.next()?)?;
-    let inst = number(words.next()?)?;
+    let state = words.number()?;
+    let inst = words.number()?;
     let form = form(words)?;
     Some(Op::Del { state, inst, form })
 }
@@ -158,7 +158,7 @@ fn del(words: &mut Words<'_>) -> Option<Op>
 fn boot(words: &mut Words<'_>) -> Option<Op>
     ensures { result ≡ numbered (λ most. op.Boot most) words.old }
 {
-    let most = number(words.next()?)?;
+    let most = words.number()?;
     words.done(Op::Boot(most))
 }
 

@@ -1,11 +1,13 @@
 //! The words of a line, one after another.
 
-ghost use Rattle.std.specs.Prelude.{◌≡◌, ◌==◌, ◌∷◌, ℕ, List, false, IsTrue, IfSome, codes, option_map};
+ghost use Rattle.std.specs.Prelude.{◌≡◌, ◌==◌, ◌∷◌, ℕ, List, false, IsTrue, IsSome, IfSome, Some, codes, option_map};
 ghost use Rattle.std.specs.List.{slice_split};
 ghost use Rattle.hp_model.specs.Lists.{is_empty};
-ghost use Rattle.hp_replay.specs.WordsLeft.{first_of, others_of};
+ghost use Rattle.hp_replay.specs.WordsLeft.{first_of, others_of, first_says};
+ghost use Rattle.hp_replay.specs.Numbers.{number as number_at};
 ghost use Rattle.hp_replay.specs.Readers.{done as done_at};
 
+use crate::numbers::number;
 use std::marker::Model;
 
 /// The words of a line that are left to be read. Contracts see the list of them.
@@ -24,6 +26,21 @@ impl<'a> Model for Words<'a> {
     ghost use Rattle.hp_replay.specs.WordsLeft.{words_left};
 
     ghost view = { λ w. words_left w.left };
+}
+
+/// The number that the first word of a text says, and what stands behind the space that ends it, where
+/// that word is one digit. Most numbers are.
+fn behind_digit(text: &[u8]) -> Option<(u32, &[u8])>
+    ensures said { IfSome result (λ r. Some r.0 ≡ first_says number_at (slice_split (λ b. b == 32) text.now)) }
+    ensures rest { IfSome result (λ r.
+        slice_split (λ b. b == 32) r.1.now ≡ others_of (slice_split (λ b. b == 32) text.now)) }
+{
+    match text {
+        [digit, b' ', others @ ..] if digit.is_ascii_digit() => {
+            Some(((*digit - b'0') as u32, others))
+        }
+        _ => None,
+    }
 }
 
 /// What stands behind the first word of a text and the space that ends it, where that word is `call`.
@@ -59,6 +76,31 @@ impl<'a> Words<'a> {
         }
         self.left = None;
         Some(bytes)
+    }
+
+    /// The number of the type `u32` that the next word says, which is then no longer left. None where it
+    /// says none, or where no word is left.
+    #[inline(always)]
+    pub fn number(&mut self) -> Option<u32>
+        ensures said { result ≡ first_says number_at self.old }
+        ensures rest { IsSome result → self.new ≡ others_of self.old }
+    {
+        match behind_digit(self.left?) {
+            Some((digit, others)) => {
+                self.left = Some(others);
+                Some(digit)
+            }
+            None => self.long_number(),
+        }
+    }
+
+    /// The number that the next word says, however many digits it has.
+    #[inline(never)]
+    fn long_number(&mut self) -> Option<u32>
+        ensures said { result ≡ first_says number_at self.old }
+        ensures rest { IsSome result → self.new ≡ others_of self.old }
+    {
+        number(self.next()?)
     }
 
     /// Takes the next word where it is `call` and words follow, and answers whether it did.
