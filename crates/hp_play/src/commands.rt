@@ -13,7 +13,7 @@ use crate::stop::Stop;
 use hp_command::Command;
 use hp_hook::{Hook, Rack};
 use hp_io::Source;
-use hp_replay::{ReplayError, check};
+use hp_replay::{ReplayError, check_and_summarize};
 use hp_script::{ParseError, generate, parse};
 use hp_states::{MAX_JOURNAL_BYTES, MAX_SCRIPT_BYTES};
 use std::alloc::Global;
@@ -99,8 +99,8 @@ fn replayed<S: Source>(alloc: Global, source: &mut S) -> Result<Vec<u8>, Stop>
         Ok(bytes) => bytes,
         Err(error) => return Err(Stop::of_read(error)),
     };
-    match check(alloc, &bytes) {
-        Ok(journal) => Ok(hp_print::summary(alloc, &journal)?),
+    match check_and_summarize(alloc, &bytes) {
+        Ok((_, summary)) => Ok(summary),
         Err(ReplayError::NoMemory) => Err(Stop::NoMemory),
         Err(error) => Err(Stop::BadJournal(journal_error_line(alloc, error)?)),
     }
