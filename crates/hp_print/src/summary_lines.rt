@@ -13,10 +13,11 @@ use crate::keys::KeyCount;
 use crate::processor_tally::ProcessorTally;
 use crate::state_tally::StateTally;
 use crate::tally::{Tally, tally_of};
-use crate::words::{append, append_count, append_name, append_number, append_numbers, end_line};
+use crate::words::{
+    append, append_behind_dot, append_count, append_name, append_number, append_numbers, end_line,
+};
 use hp_event::{Head, Journal};
 use hp_states::{NoMemory, ONLINE};
-use itoa::Buffer;
 use std::alloc::{AllocError, Global};
 
 /// Appends a word and a count, behind a space.
@@ -47,10 +48,8 @@ fn append_key(out: &mut Vec<u8>, count: &KeyCount) -> Result<(), AllocError>
     if count.downs >= count.ups {
         return Ok(());
     }
-    let mut buffer = Buffer::new();
     append_number(out, count.key.state)?;
-    out.push(b'.')?;
-    append(out, buffer.format(count.key.inst).as_bytes())
+    append_behind_dot(out, count.key.inst)
 }
 
 /// Appends the keys that count as in force.

@@ -79,6 +79,19 @@ pub fn append_number(out: &mut Vec<u8>, number: u32) -> Result<(), AllocError>
     }
 }
 
+/// Appends a number, behind a dot. Most instances are 0.
+#[tactic(auto, using(std::proofs::lemmas::Fmt::decimal_digit))]
+pub fn append_behind_dot(out: &mut Vec<u8>, number: u32) -> Result<(), AllocError>
+    ensures { OnOk result (out.new.items ≡ out.old.items ++ 46 ∷ decimal number) }
+{
+    if number < 10 {
+        return append(out, &[b'.', digit(number)]);
+    }
+    let mut buffer = Buffer::new();
+    out.push(b'.')?;
+    append(out, buffer.format(number).as_bytes())
+}
+
 /// Appends a word and, behind a space, the number that it is of.
 pub fn append_of(out: &mut Vec<u8>, word: &[u8], number: u32) -> Result<(), AllocError>
     ensures { OnOk result (out.new.items ≡ out.old.items ++ (word.now ++ 32 ∷ decimal number)) }
