@@ -127,7 +127,7 @@ pub is_read : (hooks seed size : ℕ) → 12 ≤ hooks → seed < 2 ^ 64 → siz
 unfolding generated Ends
 is_read hooks seed size enough lt few number kind refused =
     let all = whole hooks seed size enough lt few in
-    let are : lines (flat_map line (generated_lines seed size)) ≡ map joined (generated_lines seed size) = lines_are hooks start (among all.0 all.1 12 false) (generated_lines seed size) 1048576 all.2 in
+    let are : lines (flat_map line (generated_lines seed size)) ≡ map joined (generated_lines seed size) = lines_are hooks start (among all.0 all.1 12 false) (generated_lines seed size) MAX_SCRIPT_BYTES all.2 in
     never hooks (flat_map line (generated_lines seed size)) number kind
     (subst (AreFine hooks start) (sym are) all.2.fine)
     (ap (λ (ls : List (List ℕ)). refusal_at_end (before ls)) are ∙ ap refusal_at_end all.2.ends)

@@ -4,7 +4,7 @@ use Rattle.std.specs.Prelude.{codes, decimal}
 use Rattle.std.specs.List.{flat_map, list_all}
 use Rattle.std.proofs.lemmas.Bool.{and_parts, or_right, leb-true, le-leb, cases_lt}
 use Rattle.std.proofs.lemmas.List.{length-append, length-map}
-use Rattle.hp_states.specs.declared.limits.TheConstants.{MAX_OPERATIONS}
+use Rattle.hp_states.specs.declared.limits.TheConstants.{MAX_OPERATIONS, MAX_SCRIPT_BYTES}
 use Rattle.hp_event.specs.declared.op.Op.TheVariants as op
 use Rattle.hp_model.specs.Words.{joined, line}
 use Rattle.hp_script.specs.declared.limits.TheConstants.{MAX_GENERATED_SIZE}
@@ -118,7 +118,7 @@ wants_hooks hooks seed size less lt few =
     let back = setups_of f.back ++ behind_setups size (state_behind 4 seed) in
     let fine = both hooks start (upper group.Schedule 12 1) (among 1 hooks hooks false) (heading seed) (actor_words 1 ∷ setups_of f.front) 1152 (64 + f.most) (heading_fine hooks seed lt)
     (both hooks (upper group.Schedule 12 1) (among 1 0 0 false) (among 1 hooks hooks false) (actor_words 1 ∷ []) (setups_of f.front) 64 f.most (first_actor_fine hooks) f.fine) in
-    let are : lines (flat_map line (generated_lines seed size)) ≡ map joined (generated_lines seed size) = lines_are 12 start (among all.0 all.1 12 false) (generated_lines seed size) 1048576 all.2 in
+    let are : lines (flat_map line (generated_lines seed size)) ≡ map joined (generated_lines seed size) = lines_are 12 start (among all.0 all.1 12 false) (generated_lines seed size) MAX_SCRIPT_BYTES all.2 in
     at_line hooks (flat_map line (generated_lines seed size)) (20 + hooks) TooMany all.2.short (record {
       front = map joined front;
       line = joined (setup_words f.pair.0 f.pair.1);
