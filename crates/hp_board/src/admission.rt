@@ -75,6 +75,7 @@ impl<H: Hook> Board<H> {
     pub fn can_leave(&self, by: u32) -> bool
         ensures { IsTrue result ↔ Stands self.now.head self.now.events (Leave by) }
     {
+        // what is so of every board
         let _ = &self.table;
         self.ledger.can_leave(by)
     }

@@ -49,6 +49,7 @@ impl<H: Hook> Board<H> {
         ensures head { result.now.head ≡ self.now.head }
         ensures events { result.now.events ≡ self.now.events }
     {
+        // what is so of every board
         let _ = &self.table;
         self.ledger.journal()
     }
@@ -80,6 +81,7 @@ impl<H: Hook> Board<H> {
     pub fn due_seat(&self) -> Option<u32>
         ensures { (k : ℕ) → IsSome (due_entry self.now.head self.now.events k) ↔ (result ≡ Some k) }
     {
+        // what is so of every board
         let _ = &self.table;
         self.ledger.due_seat()
     }
@@ -90,6 +92,7 @@ impl<H: Hook> Board<H> {
     pub fn is_busy(&self, seat: u32) -> bool
         ensures { result ≡ is_busy seat self.now.events }
     {
+        // what is so of every board
         let _ = &self.table;
         self.ledger.is_busy(seat)
     }
@@ -100,6 +103,7 @@ impl<H: Hook> Board<H> {
     pub fn holder(&self) -> Option<u32>
         ensures { result ≡ option_map (λ (o : Operation). o.seat) (operation self.now.events) }
     {
+        // what is so of every board
         let _ = &self.table;
         self.ledger.holder()
     }
@@ -110,6 +114,7 @@ impl<H: Hook> Board<H> {
     pub fn registrar(&self) -> Option<u32>
         ensures { result ≡ option_map (λ (r : Registration). r.seat) (registration self.now.events) }
     {
+        // what is so of every board
         let _ = &self.table;
         self.ledger.registrar()
     }
@@ -120,6 +125,7 @@ impl<H: Hook> Board<H> {
     pub fn clients(&self) -> u32
         ensures { result ≡ clients self.now.events }
     {
+        // what is so of every board
         let _ = &self.table;
         self.ledger.clients()
     }
@@ -130,6 +136,7 @@ impl<H: Hook> Board<H> {
     pub fn disabled(&self) -> u32
         ensures { result ≡ disabled self.now.events }
     {
+        // what is so of every board
         let _ = &self.table;
         self.ledger.disabled()
     }

@@ -33,12 +33,12 @@ pub fn serve_keeps_hooks(by: u32, turn: &Turn)
         hook_count new.places ≡ hook_count old.places }
 {}
 
-/// A seat that comes in leaves as many.
+/// A seat that comes in leaves as many hooks as there were.
 pub fn admit_keeps_hooks(seat: u32, role: Role)
     ensures { (old : Contents) → hook_count (with_event old (Admit seat role)).places ≡ hook_count old.places }
 {}
 
-/// So does a seat that leaves.
+/// A seat that goes leaves as many hooks as there were.
 pub fn leave_keeps_hooks(seat: u32)
     ensures { (old : Contents) → hook_count (with_event old (Leave seat)).places ≡ hook_count old.places }
 {}

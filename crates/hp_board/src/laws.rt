@@ -53,12 +53,14 @@ pub fn full_has_no_event(head: &Head, events: &[Event], seat: u32, op: Op)
     ensures { is_full head.now events.now seat op ≡ true → next_event head.now events.now seat op ≡ None }
 {}
 
-/// A turn of a seat leaves every other seat as busy as it was, and it may ask for what it might.
+/// A turn of a seat leaves every other seat as busy as it was, and each of them may ask for what it might
+/// before.
 pub fn turn_keeps_others(seat: u32, by: u32, op: Op, turn: &Turn)
     ensures { (old new : Contents) → IsTurn by op old new turn.now → by ≢ seat → StaysFor old new seat }
 {}
 
-/// So does a turn of a thread's seat.
+/// A turn of a thread's seat leaves every other seat as busy as it was, and each of them may ask for what
+/// it might before.
 pub fn serve_keeps_others(seat: u32, by: u32, turn: &Turn)
     ensures { (old new : Contents) → IsServed by old new turn.now → by ≢ seat → StaysFor old new seat }
 {}

@@ -20,8 +20,8 @@ use hp_table::Table;
 /// Makes an event that stands and is no entry and no admission. `need` is the room that it takes.
 ///
 /// The begin of a setup takes its hook, and where the end of a registration hands a hook out it is in
-/// `hook` then. Takes memory where the journal or the state's instances have no spare place; where that is wanting nothing
-/// has changed: `NoMemory`.
+/// `hook` then. Takes memory where the journal or the state's instances have no spare place; where that
+/// is wanting nothing has changed: `NoMemory`.
 pub(crate) fn make<H: Hook>(
     ledger: &mut Ledger,
     table: &mut Table<H>,
@@ -64,7 +64,7 @@ pub(crate) fn make<H: Hook>(
     }
 }
 
-/// Makes an entry that is due, and answers its event: where its hook decides, it is called once.
+/// Makes an entry that is due: where its hook decides, that is called once.
 ///
 /// Takes no memory. After `cpuhp_invoke_callback` of `kernel/cpu.c`.
 pub(crate) fn make_entry<H: Hook>(ledger: &mut Ledger, table: &mut Table<H>, entry: &Entry)

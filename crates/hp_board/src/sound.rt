@@ -17,6 +17,7 @@ impl<H: Hook> Board<H> {
         ensures table { IsTableOf self.now.head self.now.events self.now.places }
         ensures places { IsSound self.now.places }
     {
+        // what is so of every board
         let _ = &self.ledger;
         self.table.sound();
     }

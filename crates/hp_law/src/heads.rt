@@ -29,7 +29,7 @@ fn is_rule(rule: &Rule) -> bool
         && (0 < rule.code && rule.code <= MAX_CODE)
 }
 
-/// Whether all rules have.
+/// Whether each of some rules has the form of one.
 fn are_rules(rules: &[Rule]) -> bool
     ensures { IsTrue result ↔ All IsRule rules.now }
 {
@@ -47,7 +47,7 @@ fn is_sub(sub: &Sub) -> bool
     is_name(sub.name.as_slice()) && rules.len() <= MAX_RULES as usize && are_rules(rules)
 }
 
-/// Whether all subsystems have.
+/// Whether each of some subsystems has the form of one.
 fn are_subs(subs: &[Sub]) -> bool
     ensures { IsTrue result ↔ All IsSub subs.now }
 {

@@ -111,6 +111,7 @@ impl Law {
     pub fn len(&self) -> u32
         ensures { result ≡ length self.now.events }
     {
+        // what is so of every law
         let _ = &self.table;
         self.ledger.journal().len()
     }
@@ -119,6 +120,7 @@ impl Law {
     pub fn into_journal(self) -> Journal
         ensures { result ≡ record { head = self.head; events = self.events; promised = 0 } }
     {
+        // what is so of every law
         let _ = &self.table;
         let mut journal = self.ledger.into_journal();
         journal.give_back(journal.promised());
@@ -147,6 +149,7 @@ impl Law {
     fn room_of(&self, event: &Event) -> Option<u32>
         ensures { IsRoomOf self.now.head self.now.events event.now result }
     {
+        // what is so of every law
         let _ = &self.table;
         match *event {
             Event::Admit { seat, role } => self.comes_in(seat, role).then_some(2),

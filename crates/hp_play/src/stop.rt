@@ -5,7 +5,7 @@ ghost use Rattle.std.specs.Prelude.{◌≡◌};
 use hp_io::ReadError;
 use hp_states::NoMemory;
 
-/// Why no output is written but perhaps a line.
+/// Why a command has no output: nothing is written, or a line that says why.
 #[derive(Drop)]
 pub enum Stop {
     /// The script is refused, with this line.

@@ -42,7 +42,7 @@ impl ProcessorTally {
         let settled = first_settled(alloc, many)?;
         let mut targets = Vec::new(alloc);
         let mut keys = Vec::new(alloc);
-        for count in 0..many {
+        for _ in 0..many {
             targets.push(None)?;
             keys.push(KeyCounts::new(alloc))?;
         }

@@ -93,7 +93,7 @@ impl StateTally {
         let many = ONLINE as usize + 1;
         let mut subs = Vec::new(alloc);
         let mut insts = Vec::new(alloc);
-        for count in 0..many {
+        for _ in 0..many {
             subs.push(None)?;
             insts.push(InstanceList::new(alloc))?;
         }

@@ -84,7 +84,7 @@ fn refused(words: &mut Words<'_>) -> Option<Event>
     Some(Event::Refused { seat, errno, op })
 }
 
-/// From where a processor's walk goes, and to where.
+/// The words of a walk behind its processor: from where it goes, and to where.
 fn way(seat: u32, cpu: u32, words: &mut Words<'_>) -> Option<Event>
     ensures { result ≡ way_tail seat cpu words.old }
 {
@@ -107,7 +107,7 @@ fn walk(words: &mut Words<'_>) -> Option<Event>
     way(seat, cpu, words)
 }
 
-/// In which direction an entry of this key goes, and how it was made.
+/// The words of an entry behind its key: in which direction it goes, and how it was made.
 fn made(seat: u32, cpu: u32, key: Key, words: &mut Words<'_>) -> Option<Event>
     ensures { result ≡ made_tail seat cpu key.state key.inst words.old }
 {
@@ -123,7 +123,7 @@ fn made(seat: u32, cpu: u32, key: Key, words: &mut Words<'_>) -> Option<Event>
     })
 }
 
-/// The key of an entry, its direction, and how it was made.
+/// The words of an entry behind its processor: its key, its direction, and how it was made.
 fn entry(seat: u32, cpu: u32, words: &mut Words<'_>) -> Option<Event>
     ensures { result ≡ entry_tail seat cpu words.old }
 {
@@ -232,7 +232,7 @@ fn shown_states(seat: u32, words: &mut Words<'_>) -> Option<Event>
     })
 }
 
-/// A file that was shown to this seat.
+/// The words of a file that was shown, behind the seat that asked for it.
 fn shown_file(seat: u32, words: &mut Words<'_>) -> Option<Event>
     ensures { result ≡ file_tail seat words.old }
 {

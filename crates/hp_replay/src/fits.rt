@@ -1,4 +1,4 @@
-//! That the numbers of the code's events are within their fields' types.
+//! The law that the numbers of the code's events are within their fields' types.
 //!
 //! A definition says of an event's numbers only that they are numbers. Of an event that the code
 //! holds more is known, and these functions say it: they look at each number and do nothing.

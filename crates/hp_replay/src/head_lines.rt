@@ -22,7 +22,7 @@ pub enum HeadLine {
     Sub(Sub),
     /// A rule of the subsystem above it.
     Rule(Rule),
-    /// That the events follow.
+    /// The events follow.
     Events,
 }
 
@@ -140,7 +140,7 @@ fn sub(alloc: Global, words: &mut Words<'_>) -> Result<Option<HeadLine>, NoMemor
     })))
 }
 
-/// Of which call a rule speaks, and with which code it is answered.
+/// The words of a rule behind its instance: of which call it speaks, and with which code that is answered.
 fn code(dir: Dir, cpu: Option<u32>, inst: Option<u32>, words: &mut Words<'_>) -> Option<HeadLine>
     ensures { result ≡ code_tail dir cpu inst words.old }
 {

@@ -16,7 +16,7 @@ fn flags(nocalls: bool, locked: bool) -> Form
     Form { nocalls, locked }
 }
 
-/// One flag alone.
+/// The form that one flag alone says.
 fn one_flag(word: &[u8]) -> Option<Form>
     ensures { result ≡ one_flag_at word.now }
 {

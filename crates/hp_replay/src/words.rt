@@ -120,7 +120,7 @@ impl<'a> Words<'a> {
         }
     }
 
-    /// This value, where no word is left.
+    /// The value that is given, where no word is left.
     pub fn done<T: Copy>(&self, value: T) -> Option<T>
         ensures { result ≡ done_at value self.now }
     {

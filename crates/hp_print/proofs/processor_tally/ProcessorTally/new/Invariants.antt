@@ -6,5 +6,5 @@ pub record Nothing (n : ℕ) (targets : List (Option ℕ)) (keys : List (List Ke
   pub targets_are : targets ≡ replicate n None
   pub keys_are : keys ≡ replicate n []
 
-abbrev pub invariant-loop-count : goal.invariant-loop-count
-invariant-loop-count l = Nothing l.count l.targets.items l.keys.items
+abbrev pub invariant-loop : goal.invariant-loop
+invariant-loop l = Nothing l.counter l.targets.items l.keys.items

@@ -4,6 +4,6 @@ use Rattle.hp_print.proofs.state_tally.StateTally.new.Goals as goal
 
 pub returns : goal.returns
 returns c = λ head.
-    let all : c.loop-count.count ≡ 201 = omega arith in
-    first.first_states head 201 _ refl (rw all at c.loop-count.invariant.subs_are)
-    (rw all at c.loop-count.invariant.insts_are) (search rules) (search rules)
+    let all : c.loop.counter ≡ 201 = omega arith in
+    first.first_states head 201 _ refl (rw all at c.loop.invariant.subs_are)
+    (rw all at c.loop.invariant.insts_are) (search rules) (search rules)

@@ -5,5 +5,5 @@ pub record Nothing (n : ℕ) (subs : List (Option ℕ)) (insts : List (List ℕ)
   pub subs_are : subs ≡ replicate n None
   pub insts_are : insts ≡ replicate n []
 
-abbrev pub invariant-loop-count : goal.invariant-loop-count
-invariant-loop-count l = Nothing l.count l.subs.items l.insts.items
+abbrev pub invariant-loop : goal.invariant-loop
+invariant-loop l = Nothing l.counter l.subs.items l.insts.items
