@@ -1,8 +1,7 @@
 //! The start of a board.
 
 ghost use Rattle.std.specs.Prelude.{◌≡◌, ◌+◌, ◌<◌, ◌↔◌, [], None, All, IsTrue, IfOk, IfErr, OnOk, replicate};
-ghost use Rattle.std.specs.List.Sorted.{IsStrictlyIncreasing};
-ghost use Rattle.hp_board.specs.Starts.{AreAbsent, IsStartRefusal};
+ghost use Rattle.hp_board.specs.Starts.{IsStartRefusal};
 ghost use Rattle.hp_event.specs.declared.head.Head.{Head as AHead};
 ghost use Rattle.hp_model.specs.Heads.{IsHead, IsSub};
 ghost use Rattle.hp_states.specs.declared.limits.TheConstants.{ONLINE};
@@ -10,7 +9,7 @@ ghost use Rattle.hp_states.specs.declared.limits.TheConstants.{ONLINE};
 use crate::board::Board;
 use hp_event::{Head, Numbers, Subs};
 use hp_hook::Hook;
-use hp_ledger::Ledger;
+use hp_ledger::{Ledger, are_absent};
 use hp_states::{MAX_CPUS, MAX_SUBS, NoMemory};
 use hp_table::Table;
 use std::alloc::Global;
@@ -103,31 +102,4 @@ fn begin<H: Hook>(alloc: Global, head: Head) -> Result<Board<H>, NoMemory>
     let table = Table::new(alloc)?;
     let ledger = Ledger::new(alloc, head)?;
     Ok(Board { ledger, table })
-}
-
-/// Whether the absent processors of a head strictly rise, and are possible ones.
-fn are_absent(head: &Head) -> bool
-    ensures { IsTrue result ↔ AreAbsent head.now }
-{
-    let absent = head.absent.as_slice();
-    is_rising(absent) && are_below(absent, head.possible)
-}
-
-/// Whether some numbers strictly rise.
-fn is_rising(numbers: &[u32]) -> bool
-    ensures { IsTrue result ↔ IsStrictlyIncreasing numbers.now }
-{
-    for at in 1..numbers.len() {
-        if numbers[at - 1] >= numbers[at] {
-            return false;
-        }
-    }
-    true
-}
-
-/// Whether some numbers are all below another.
-fn are_below(numbers: &[u32], end: u32) -> bool
-    ensures { IsTrue result ↔ All (λ n. n < end) numbers.now }
-{
-    numbers.iter().all(|number| *number < end)
 }

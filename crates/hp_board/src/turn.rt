@@ -8,7 +8,6 @@ ghost use Rattle.hp_model.specs.Events.{answer_by};
 ghost use Rattle.hp_model.specs.NextEvent.{next_event};
 ghost use Rattle.hp_model.specs.Pending.{IsAllowed, IsInFlight};
 ghost use Rattle.hp_model.specs.Seats.{role_of};
-ghost use Rattle.hp_model.specs.Subsystems.{names_sub};
 ghost use Rattle.hp_event.specs.declared.event.Role.TheVariants.{Client};
 ghost use Rattle.hp_event.specs.declared.op.Op.{Op as AnOp};
 ghost use Rattle.hp_model.specs.Registrations.{registration};
@@ -17,7 +16,7 @@ use crate::board::Board;
 use crate::making::{make, make_entry};
 use hp_event::{Answer, Event, Op, Role};
 use hp_hook::Hook;
-use hp_ledger::Next;
+use hp_ledger::{Next, names_sub};
 use hp_locks::Why;
 use hp_states::NoMemory;
 
@@ -113,7 +112,10 @@ impl<H: Hook> Board<H> {
         ensures always { IsAllowed self.now.head self.now.events (record { seat = by; op = ask.now.op }) →
             is_some ask.now.hook ≡ has_hook self.now.events by ask.now.op → result ≡ true }
     {
-        if !self.is_client(by) || !self.names_sub(ask.op) || !self.is_of(by, ask.op) {
+        if !self.is_client(by)
+            || !names_sub(self.ledger.journal().head(), ask.op)
+            || !self.is_of(by, ask.op)
+        {
             return false;
         }
         ask.hook.is_some() == (is_setup(ask.op) && !self.ledger.is_busy(by))
@@ -124,16 +126,6 @@ impl<H: Hook> Board<H> {
         ensures { IsTrue result ↔ (role_of seat self.now.events ≡ Some Client) }
     {
         matches!(self.ledger.role(seat), Some(Role::Client))
-    }
-
-    /// Whether an operation speaks of subsystems of the head alone.
-    fn names_sub(&self, op: Op) -> bool
-        ensures { result ≡ names_sub self.now.head op }
-    {
-        match op {
-            Op::Setup { sub, .. } => self.ledger.journal().head().sub(sub).is_some(),
-            _ => true,
-        }
     }
 
     /// Whether a seat has no other operation than this in flight.

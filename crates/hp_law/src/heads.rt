@@ -1,10 +1,10 @@
 //! Which heads a machine can be started with.
 
-ghost use Rattle.std.specs.Prelude.{◌≡◌, ◌↔◌, ◌<◌, ◌≤◌, IsTrue, All, IfSome};
-ghost use Rattle.std.specs.List.Sorted.{IsStrictlyIncreasing};
+ghost use Rattle.std.specs.Prelude.{◌≡◌, ◌↔◌, ◌≤◌, IsTrue, All, IfSome};
 ghost use Rattle.hp_model.specs.Heads.{IsRule, IsSub, IsHead};
 
 use hp_event::{Head, Sub};
+use hp_ledger::are_absent;
 use hp_states::{
     MAX_CODE, MAX_CPUS, MAX_EVENTS, MAX_INSTANCE, MAX_RULE_CPU, MAX_RULES, MAX_SUBS, Rule, is_name,
 };
@@ -33,10 +33,7 @@ fn is_rule(rule: &Rule) -> bool
 fn are_rules(rules: &[Rule]) -> bool
     ensures { IsTrue result ↔ All IsRule rules.now }
 {
-    match rules.split_first() {
-        None => true,
-        Some((rule, rest)) => is_rule(rule) && are_rules(rest),
-    }
+    rules.iter().all(|rule| is_rule(rule))
 }
 
 /// Whether a subsystem has the form of one.
@@ -51,33 +48,7 @@ fn is_sub(sub: &Sub) -> bool
 fn are_subs(subs: &[Sub]) -> bool
     ensures { IsTrue result ↔ All IsSub subs.now }
 {
-    match subs.split_first() {
-        None => true,
-        Some((sub, rest)) => is_sub(sub) && are_subs(rest),
-    }
-}
-
-/// Whether some numbers rise.
-fn is_rising(numbers: &[u32]) -> bool
-    ensures { IsTrue result ↔ IsStrictlyIncreasing numbers.now }
-{
-    match numbers.split_first() {
-        None => true,
-        Some((first, rest)) => match rest.split_first() {
-            None => true,
-            Some((second, _)) => *first < *second && is_rising(rest),
-        },
-    }
-}
-
-/// Whether some numbers are all below another.
-fn are_below(numbers: &[u32], end: u32) -> bool
-    ensures { IsTrue result ↔ All (λ c. c < end) numbers.now }
-{
-    match numbers.split_first() {
-        None => true,
-        Some((first, rest)) => *first < end && are_below(rest, end),
-    }
+    subs.iter().all(|sub| is_sub(sub))
 }
 
 /// Whether a machine can be started with a head.
@@ -97,11 +68,10 @@ fn are_below(numbers: &[u32], end: u32) -> bool
 pub fn is_head(head: &Head) -> bool
     ensures { IsTrue result ↔ IsHead head.now }
 {
-    let absent = head.absent.as_slice();
     let subs = head.subs.as_slice();
     0 < head.possible
         && head.possible <= MAX_CPUS
-        && (is_rising(absent) && are_below(absent, head.possible))
+        && are_absent(head)
         && head.is_present(0)
         && (subs.len() <= MAX_SUBS as usize && are_subs(subs))
 }

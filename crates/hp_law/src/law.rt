@@ -8,16 +8,15 @@ ghost use Rattle.hp_model.specs.Lawful.{Stands};
 ghost use Rattle.hp_model.specs.Needs.{need as room_need, taken};
 ghost use Rattle.hp_model.specs.NextEvent.{due_entry};
 ghost use Rattle.hp_model.specs.FirstEvent.{is_client};
-ghost use Rattle.hp_model.specs.Subsystems.{names_sub};
 ghost use Rattle.hp_law.specs.Asked.{IsOfOperation};
 ghost use Rattle.hp_law.specs.RoomOf.{IsRoomOf};
 
 use crate::asked::asked_by;
 use crate::same::same;
 use crate::taking::{add, make_room};
-use hp_event::{Event, Head, Journal, Op, Role};
+use hp_event::{Event, Head, Journal, Role};
 use hp_hook::ScriptHook;
-use hp_ledger::{Entry, Ledger, Next};
+use hp_ledger::{Entry, Ledger, Next, names_sub};
 use hp_states::{MAX_SEATS, NoMemory};
 use hp_table::Table;
 use std::alloc::Global;
@@ -225,14 +224,4 @@ fn is_client(role: Option<Role>) -> bool
     ensures { result ≡ is_client role }
 {
     matches!(role, Some(Role::Client))
-}
-
-/// Whether an operation speaks of subsystems of the head alone.
-fn names_sub(head: &Head, op: Op) -> bool
-    ensures { result ≡ names_sub head.now op }
-{
-    match op {
-        Op::Setup { sub, .. } => head.sub(sub).is_some(),
-        _ => true,
-    }
 }

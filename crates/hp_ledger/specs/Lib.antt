@@ -30,3 +30,4 @@ pub mod Between
 pub mod Machine
 pub mod Leaving
 pub mod Clients
+pub mod Heads

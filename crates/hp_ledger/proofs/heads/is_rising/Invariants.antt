@@ -1,5 +1,5 @@
 use Rattle.std.proofs.Common.{◌+◌, ◌<◌, ◌≤◌, ℕ, slice_index}
-use Rattle.hp_board.proofs.start.is_rising.Given as goal
+use Rattle.hp_ledger.proofs.heads.is_rising.Given as goal
 
 -- those so far rise
 abbrev pub invariant-loop-at : goal.invariant-loop-at
