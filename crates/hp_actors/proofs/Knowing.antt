@@ -20,7 +20,7 @@ use Rattle.hp_locks.specs.declared.why.Why.TheVariants.{MapsHeld, WriterIn, Read
 use Rattle.hp_model.specs.ApTurn.{IsEntryOf, IsApTurn}
 use Rattle.hp_model.specs.Events.{seat_of, is_call}
 use Rattle.hp_model.specs.Lawful.{IsLawful}
-use Rattle.hp_model.specs.NextEvent.{next_event, due_entry}
+use Rattle.hp_model.specs.NextEvent.{next_event, due_entry, is_full}
 use Rattle.hp_model.specs.ScriptTurns.{Progress, counted, turn}
 use Rattle.hp_model.specs.Seats.{is_busy}
 use Rattle.hp_model.specs.Waits.{Wait, maps_held, is_waiting}
@@ -32,8 +32,8 @@ use Rattle.hp_model.proofs.Owners.{Owners, idle_op, idle_reg, not_self}
 use Rattle.hp_actors.specs.declared.actor.Actor.{Actor}
 use Rattle.hp_actors.specs.Asking.{IsPlaying}
 use Rattle.hp_actors.specs.Positions.{Position, ops_of, op_of, answered_of, progress_of}
-use Rattle.hp_actors.specs.Turned.{asked, event_for, answers_for}
-use Rattle.hp_actors.specs.Waiting.{IsReady, IsWaiting, EndsNothing, MakesNothing, NeedsMap, IsKnown, KnowsWait, KnowsWaits, is_end, noted}
+use Rattle.hp_actors.specs.Turned.{asked, event_for, answers_for, is_answered}
+use Rattle.hp_actors.specs.Waiting.{IsReady, IsWaiting, EndsNothing, MakesNoEvent, MakesNothing, NeedsMap, IsKnown, KnowsWait, KnowsWaits, is_end, noted}
 use Rattle.hp_actors.specs.declared.actor.Waits.{Waits}
 use Rattle.hp_actors.specs.declared.actor.Waits.TheVariants.{Unknown, WhileMapHeld, UntilEnd}
 use Rattle.hp_actors.proofs.Asked.{turned}
@@ -290,26 +290,23 @@ none_known {H} board threads actors unmarked = record {
 
 -- ---- an actor that is known to wait is passed over
 
-stays : (head : Head) (events : List Event) (answers : List ℕ) (k i : ℕ) (o : Option Op) → MakesNothing head events k o →
+stays : (head : Head) (events : List Event) (answers : List ℕ) (k i : ℕ) (o : Option Op) → event_for head events k o ≡ None →
+    answers_for head events k o ≡ false →
     ◌≡◌ {A = Progress} (record { events = events ++ option_to_list (event_for head events k o); answers = counted i (answers_for head events k o) answers })
     (record { events = events; answers = answers })
-stays head events answers k i None h = rw append-nil refl
-stays head events answers k i (Some op) h =
-    let next = waiting_next head events k op h in
-    let full = waiting_full head events k op h in
-    rw (next, full, append-nil) refl
+stays head events answers k i o none unanswered = rw (none, unanswered, append-nil) refl
 
-pub passed_over : {H : Type 0} (board : Contents) (threads i k : ℕ) (actors : List (Actor H)) (actor : Actor H) →
+-- where a turn for its operation makes nothing
+nothing_made : {H : Type 0} (board : Contents) (threads i k : ℕ) (actors : List (Actor H)) (actor : Actor H) →
     IsPlaying board threads actors → threads + i ≡ k → slice_get actors i ≡ Some actor →
-    MakesNothing board.head board.events (threads + i) (asked actor) →
+    event_for board.head board.events k (asked actor) ≡ None → answers_for board.head board.events k (asked actor) ≡ false →
     turn board.head (map ops_of actors) (progress_of board.events actors) k ≡ progress_of board.events actors
-passed_over board threads i k actors actor p is at nothing =
+nothing_made board threads i k actors actor p is at none unanswered =
     let made = actor_turn board.head (map ops_of actors) (progress_of board.events actors) k i (sym is ∙ ap (λ z. z + i) p.threads_are) in
     let asks = asked_is actors i actor at in
     made
     ∙ (ap (λ (o : Option Op). done o) asks
-    ∙ stays board.head board.events (map answered_of actors) k i (asked actor)
-    (subst (λ z. MakesNothing board.head board.events z (asked actor)) is nothing))
+    ∙ stays board.head board.events (map answered_of actors) k i (asked actor) none unanswered)
   where
     done : Option Op → Progress
     done o =
@@ -317,6 +314,46 @@ passed_over board threads i k actors actor p is at nothing =
           events = board.events ++ option_to_list (event_for board.head board.events k o);
           answers = counted i (answers_for board.head board.events k o) (map answered_of actors);
         }
+
+-- where it waits to begin
+pub passed_over : {H : Type 0} (board : Contents) (threads i k : ℕ) (actors : List (Actor H)) (actor : Actor H) →
+    IsPlaying board threads actors → threads + i ≡ k → slice_get actors i ≡ Some actor →
+    MakesNothing board.head board.events (threads + i) (asked actor) →
+    turn board.head (map ops_of actors) (progress_of board.events actors) k ≡ progress_of board.events actors
+passed_over board threads i k actors actor p is at nothing = go (asked actor) refl
+  where
+    known : MakesNothing board.head board.events k (asked actor)
+    known = subst (λ z. MakesNothing board.head board.events z (asked actor)) is nothing
+
+    go : (o : Option Op) → asked actor ≡ o →
+        turn board.head (map ops_of actors) (progress_of board.events actors) k ≡ progress_of board.events actors
+    go None none =
+        nothing_made board threads i k actors actor p is at (ap (event_for board.head board.events k) none)
+        (ap (answers_for board.head board.events k) none)
+    go (Some op) some =
+        let w = subst (MakesNothing board.head board.events k) some known in
+        let next = waiting_next board.head board.events k op w in
+        nothing_made board threads i k actors actor p is at (ap (event_for board.head board.events k) some ∙ next)
+        (ap (answers_for board.head board.events k) some
+        ∙ (ap (λ o. is_answered o (is_full board.head board.events k op)) next ∙ waiting_full board.head board.events k op w))
+
+-- where it is a thread's turn in what it has in flight
+pub passed_by : {H : Type 0} (board : Contents) (threads i k : ℕ) (actors : List (Actor H)) (actor : Actor H) →
+    IsPlaying board threads actors → threads + i ≡ k → slice_get actors i ≡ Some actor →
+    ((op : Op) → MakesNoEvent board.head board.events k op) →
+    turn board.head (map ops_of actors) (progress_of board.events actors) k ≡ progress_of board.events actors
+passed_by board threads i k actors actor p is at nothing = go (asked actor) refl
+  where
+    go : (o : Option Op) → asked actor ≡ o →
+        turn board.head (map ops_of actors) (progress_of board.events actors) k ≡ progress_of board.events actors
+    go None none =
+        nothing_made board threads i k actors actor p is at (ap (event_for board.head board.events k) none)
+        (ap (answers_for board.head board.events k) none)
+    go (Some op) some =
+        let m = nothing op in
+        nothing_made board threads i k actors actor p is at (ap (event_for board.head board.events k) some ∙ m.no_event)
+        (ap (answers_for board.head board.events k) some
+        ∙ (ap (λ o. is_answered o (is_full board.head board.events k op)) m.no_event ∙ m.not_full))
 
 -- by what is known of it
 pub known_until : {H : Type 0} (board : Contents) (threads last i since : ℕ) (actors : List (Actor H)) (actor : Actor H) →

@@ -11,3 +11,4 @@ mod Taking
 mod Opening
 mod Waiting
 mod Knowing
+mod ThreadsTurn

@@ -5,6 +5,7 @@ use Rattle.hp_event.specs.declared.head.Head.{Head}
 use Rattle.hp_event.specs.declared.event.Event.{Event}
 use Rattle.hp_event.specs.declared.event.Event.TheVariants.{WalkEnd, OpEnd, RegEnd}
 use Rattle.hp_model.specs.MapLock.{is_map_op}
+use Rattle.hp_model.specs.NextEvent.{next_event, is_full}
 use Rattle.hp_model.specs.RefusalsAtOnce.{first_that_holds, refusals_at_once}
 use Rattle.hp_model.specs.Seats.{is_busy}
 use Rattle.hp_model.specs.Waits.{is_waiting}
@@ -16,6 +17,11 @@ use Rattle.hp_actors.specs.declared.actor.Actor.{Actor}
 use Rattle.hp_actors.specs.declared.actor.Waits.{Waits}
 use Rattle.hp_actors.specs.declared.actor.Waits.TheVariants.{Unknown, WhileMapHeld, UntilEnd}
 use Rattle.hp_actors.specs.Turned.{asked}
+
+-- a turn for the operation makes no event, and doesn't answer it
+pub record MakesNoEvent (head : Head) (events : List Event) (seat : ℕ) (op : Op) : Type 0 where
+  pub no_event : next_event head events seat op ≡ None
+  pub not_full : is_full head events seat op ≡ false
 
 -- nothing of the seat is in flight, and its operation isn't refused at once
 pub record IsReady (head : Head) (events : List Event) (seat : ℕ) (op : Op) : Type 0 where

@@ -3,7 +3,9 @@
 ghost use Rattle.std.specs.Prelude.{◌≡◌, ◌<◌, OnOk, OnErr, length, true};
 ghost use Rattle.hp_model.specs.Processors.{present};
 ghost use Rattle.hp_model.specs.ScriptTurns.{turn};
+ghost use Rattle.hp_event.specs.declared.op.Op.{Op as AnOp};
 ghost use Rattle.hp_actors.specs.Asking.{IsReached};
+ghost use Rattle.hp_actors.specs.Waiting.{MakesNoEvent};
 ghost use Rattle.hp_model.specs.Scripts.{IsScript};
 
 use crate::actor::{Actor, Waits};
@@ -49,6 +51,7 @@ impl<H: Hook> Run<H> {
         ensures script { IsScript self.now.head self.now.actors }
         ensures reached { IsReached self.now.head self.now.actors self.now.progress }
     {
+        // What is so of every run is known once a field is read.
         let _ = &self.threads;
     }
 
@@ -85,8 +88,8 @@ impl<H: Hook> Run<H> {
         self.actors[place].turn(&mut self.board, &mut self.last_end, seat)
     }
 
-    /// Whether a seat is that of an actor that waits as it did at its last turn: one more makes nothing, and is
-    /// passed over. No number that isn't an actor's seat waits.
+    /// Whether a seat is that of an actor whose next turn makes nothing: it waits as it did at its last turn, or
+    /// for the thread of a processor. It is passed over. No number that isn't an actor's seat waits.
     ///
     /// Takes no memory, and a few steps where a turn takes hundreds.
     pub(crate) fn still_waits(&self, seat: u32) -> bool
@@ -98,11 +101,26 @@ impl<H: Hook> Run<H> {
         }
         match self.actors.get((seat - self.threads) as usize) {
             Some(actor) => match actor.waits {
-                Waits::Unknown => false,
+                Waits::Unknown => waits_for_thread(&self.board, seat),
                 Waits::WhileMapHeld => self.board.holder().is_some(),
                 Waits::UntilEnd(end) => end == self.last_end,
             },
             None => false,
         }
+    }
+}
+
+/// Whether what comes next of a seat's walk or registration in flight is another seat's entry: until that is
+/// made, a turn of the seat makes nothing. Takes no memory.
+fn waits_for_thread<H: Hook>(board: &Board<H>, seat: u32) -> bool
+    ensures { result ≡ true → (op : AnOp) → MakesNoEvent board.now.head board.now.events seat op }
+{
+    board.sound();
+    match board.due_seat() {
+        Some(due) if due != seat => match board.registrar() {
+            Some(registrar) => registrar == seat,
+            None => board.holder() == Some(seat),
+        },
+        _ => false,
     }
 }

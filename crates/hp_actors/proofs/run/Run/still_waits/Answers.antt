@@ -6,7 +6,7 @@ use Rattle.std.proofs.lemmas.Option.{slice_get_read}
 use Rattle.hp_model.specs.MapLock.{Operation, operation, is_map_held}
 use Rattle.hp_model.specs.ScriptTurns.{turn}
 use Rattle.hp_actors.specs.Positions.{Position}
-use Rattle.hp_actors.proofs.Knowing.{passed_over, known_held, known_until}
+use Rattle.hp_actors.proofs.Knowing.{passed_over, passed_by, known_held, known_until}
 use Rattle.hp_actors.proofs.run.Run.still_waits.Goals as goal
 
 some_held : (o : Option Operation) → is_some (option_map (λ (o : Operation). o.seat) o) ≡ true → is_some o ≡ true
@@ -45,3 +45,17 @@ returns-in-UntilEnd g c = λ yes.
     (passed_over b threads place c.args.seat actors c.in-Some.actor.now c.self.invariant.playing here at
     (known_until b threads c.self.inside.last_end place c.in-UntilEnd.end actors c.in-Some.actor.now c.self.invariant.waits at
     c.in-UntilEnd.is (eqb-true c.in-UntilEnd.end c.self.inside.last_end yes)))
+
+pub returns-in-Unknown : goal.returns-in-Unknown
+returns-in-Unknown g c = λ yes.
+    let threads : ℕ = c.self.inside.threads in
+    let place : ℕ = c.args.seat - threads in
+    let actors = c.self.inside.actors.items in
+    let b = c.self.inside.board in
+    let here : threads + place ≡ c.args.seat = omega arith in
+    let h = c.in-Some.ensures.lookup in
+    let read : slice_get c.deref.result.now place ≡ Some c.in-Some.actor.now =
+    slice_get_read c.deref.result.now (length c.deref.result.now) place c.in-Some.actor.now refl h.3.0 h.1 in
+    let at : slice_get actors place ≡ Some c.in-Some.actor.now = ap (λ xs. slice_get xs place) (sym c.deref.ensures.value) ∙ read in
+    subst (λ (p : Position). turn p.head p.actors p.progress c.args.seat ≡ p.progress) c.self.view_is
+    (passed_by b threads place c.args.seat actors c.in-Some.actor.now c.self.invariant.playing here at (c.waits_for_thread.ensures yes))
