@@ -5,7 +5,6 @@ ghost use Rattle.hp_model.specs.Registrations.{registration};
 ghost use Rattle.hp_play.specs.Outputs.{output};
 
 use hp_board::Board;
-use hp_event::Journal;
 use hp_hook::Hook;
 use hp_states::NoMemory;
 use std::alloc::Global;
@@ -29,18 +28,8 @@ pub fn text_of<H: Hook>(alloc: Global, of: Output, board: &Board<H>) -> Result<V
     ensures { IfOk result (λ text. text.items ≡ output of board.now.head board.now.events) }
 {
     match of {
-        Output::Journal => journal_and_summary(alloc, board.journal()),
+        Output::Journal => hp_print::journal_and_summary(alloc, board.journal()),
         Output::Summary => hp_print::summary(alloc, board.journal()),
         Output::States => board.states_text(alloc),
     }
-}
-
-/// The text of a journal, and then its summary.
-fn journal_and_summary(alloc: Global, journal: &Journal) -> Result<Vec<u8>, NoMemory>
-    ensures { IfOk result (λ text. text.items ≡ output Output.Journal journal.now.head journal.now.events) }
-{
-    let mut text = hp_print::journal_text(alloc, journal)?;
-    let summary = hp_print::summary(alloc, journal)?;
-    text.extend_from_slice(&summary)?;
-    Ok(text)
 }

@@ -2,7 +2,7 @@
 
 ghost use Rattle.std.specs.Prelude.{◌≡◌, ◌++◌, ◌∷◌, [], OnOk, IfOk, decimal};
 ghost use Rattle.hp_event.specs.declared.event.Event.TheVariants as event;
-ghost use Rattle.hp_model.specs.Words.{spaced, joined};
+ghost use Rattle.hp_model.specs.Words.{spaced, joined, dir_word};
 ghost use Rattle.hp_model.specs.EventLine.{event_line as line_of, event_words, how_words, answer_words, walk_answer_words, role_words, file_words};
 
 use crate::op::append_op;
@@ -156,8 +156,21 @@ fn append_call(
     append_number(out, cpu)?;
     append_number(out, key.state)?;
     append_number(out, key.inst)?;
-    append_dir(out, dir)?;
-    append_how(out, how)
+    append_made(out, dir, how)
+}
+
+/// Appends the direction of an entry, and how it was made. Most ran and were ok, and those go in one piece.
+fn append_made(out: &mut Vec<u8>, dir: Dir, how: How) -> Result<(), AllocError>
+    ensures { OnOk result (out.new.items ≡ out.old.items ++ 32 ∷ dir_word dir ++ spaced (how_words how)) }
+{
+    match (dir, how) {
+        (Dir::Up, How::RanOk) => append(out, b" up ok"),
+        (Dir::Down, How::RanOk) => append(out, b" down ok"),
+        _ => {
+            append_dir(out, dir)?;
+            append_how(out, how)
+        }
+    }
 }
 
 /// Appends the words of a walk that ends.

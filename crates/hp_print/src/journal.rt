@@ -124,11 +124,15 @@ fn append_events(out: &mut Vec<u8>, events: &[Event]) -> Result<(), AllocError>
     Ok(())
 }
 
+/// For how many bytes a line memory is taken at once: most lines of events have fewer.
+const LINE: usize = 32;
+
 /// Appends the text of the journal of a head and its events.
 #[tactic(auto, unfolding(hp_model::specs::JournalText::journal_text))]
 pub fn append_journal(out: &mut Vec<u8>, head: &Head, events: &[Event]) -> Result<(), AllocError>
     ensures { OnOk result (out.new.items ≡ out.old.items ++ text_of head.now events.now) }
 {
+    out.reserve(events.len().saturating_mul(LINE))?;
     append_head(out, head)?;
     append_events(out, events)?;
     append(out, b"end")?;

@@ -8,7 +8,7 @@ ghost use Rattle.hp_model.specs.Net.{is_before as is_before_of};
 ghost use Rattle.hp_print.specs.Counts.{AreInOrder, place, with_count, counted, no_count, is_key};
 
 use hp_event::Key;
-use hp_states::Dir;
+use hp_states::{Dir, ONLINE};
 use std::alloc::{AllocError, Global};
 use std::marker::Model;
 
@@ -71,6 +71,9 @@ fn place_of(counts: &[KeyCount], key: Key) -> usize
     place_by_halves(counts, key)
 }
 
+/// For how many keys a list takes memory at once: one of each state.
+const FIRST_KEYS: usize = ONLINE as usize + 1;
+
 /// Puts a count of no entries at a place, which mostly is the end.
 #[tactic(auto, using(std::proofs::lemmas::List::Edits::insert_end))]
 fn put(counts: &mut Vec<KeyCount>, at: usize, key: Key) -> Result<(), AllocError>
@@ -83,6 +86,9 @@ fn put(counts: &mut Vec<KeyCount>, at: usize, key: Key) -> Result<(), AllocError
         ups: 0,
         downs: 0,
     };
+    if counts.is_empty() {
+        counts.reserve(FIRST_KEYS)?;
+    }
     if at == counts.len() {
         counts.push(none)?;
     } else {
@@ -150,7 +156,7 @@ impl Model for KeyCounts {
 }
 
 impl KeyCounts {
-    /// Of no entries.
+    /// The counts before any entry. Takes no memory.
     pub fn new(alloc: Global) -> KeyCounts
         ensures { result ≡ [] }
     {

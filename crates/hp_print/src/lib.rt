@@ -24,4 +24,4 @@ mod words;
 
 pub use event::event_line;
 pub use journal::journal_text;
-pub use summary_lines::summary;
+pub use summary_lines::{journal_and_summary, summary};

@@ -4,11 +4,13 @@ ghost use Rattle.std.specs.Prelude.{◌≡◌, ℕ, ◌+◌, ◌<◌, ◌++◌, 
 ghost use Rattle.std.specs.List.{flat_map};
 ghost use Rattle.hp_model.specs.Lists.{among, numbers};
 ghost use Rattle.hp_model.specs.Words.{line, spaced, list_words};
+ghost use Rattle.hp_model.specs.JournalText.{journal_text as text_of};
 ghost use Rattle.hp_model.specs.Summary.{key_word, presence_word, name_of as name_of_sub, summary as summary_of};
 ghost use Rattle.hp_print.specs.Tallies.{IsTally};
 ghost use Rattle.hp_print.specs.TallyText.{keys_of, key_text, cpu_words, cpu_text, cpus_text, disabled_text, frozen_word, frozen_text, sub_words, registered_text, sub_text, subs_text, ops_text, events_text, tally_text};
 
 use crate::answer_counts::AnswerCounts;
+use crate::journal::append_journal;
 use crate::keys::KeyCount;
 use crate::processor_tally::ProcessorTally;
 use crate::state_tally::StateTally;
@@ -300,7 +302,7 @@ fn append_event_count(out: &mut Vec<u8>, count: usize) -> Result<(), AllocError>
 
 /// Appends the summary that a tally makes.
 #[tactic(auto, unfolding(crate::specs::TallyText::tally_text))]
-fn append_summary(
+fn append_tally(
     out: &mut Vec<u8>,
     head: &Head,
     tally: &Tally,
@@ -322,6 +324,14 @@ fn append_summary(
     append_event_count(out, count)
 }
 
+/// Appends the summary of a journal.
+fn append_summary(alloc: Global, out: &mut Vec<u8>, journal: &Journal) -> Result<(), AllocError>
+    ensures { OnOk result (out.new.items ≡ out.old.items ++ summary_of journal.now.head journal.now.events) }
+{
+    let tally = tally_of(alloc, journal.head(), journal.events())?;
+    append_tally(out, journal.head(), &tally, journal.events().len())
+}
+
 /// The summary of a journal: where its processors stand and which callbacks are in force there, what
 /// is registered, and how the operations were answered.
 ///
@@ -332,8 +342,22 @@ fn append_summary(
 pub fn summary(alloc: Global, journal: &Journal) -> Result<Vec<u8>, NoMemory>
     ensures { IfOk result (λ v. v.items ≡ summary_of journal.now.head journal.now.events) }
 {
-    let tally = tally_of(alloc, journal.head(), journal.events())?;
     let mut out = Vec::new(alloc);
-    append_summary(&mut out, journal.head(), &tally, journal.events().len())?;
+    append_summary(alloc, &mut out, journal)?;
+    Ok(out)
+}
+
+/// The text of a journal, and behind it its summary.
+///
+/// Takes memory as `journal_text` and `summary` do, but in one buffer; where it is wanting the answer is
+/// `NoMemory`, and the journal is as before.
+pub fn journal_and_summary(alloc: Global, journal: &Journal) -> Result<Vec<u8>, NoMemory>
+    ensures { IfOk result (λ v.
+        v.items
+        ≡ text_of journal.now.head journal.now.events ++ summary_of journal.now.head journal.now.events) }
+{
+    let mut out = Vec::new(alloc);
+    append_journal(&mut out, journal.head(), journal.events())?;
+    append_summary(alloc, &mut out, journal)?;
     Ok(out)
 }

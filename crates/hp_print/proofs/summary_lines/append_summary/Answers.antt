@@ -1,6 +1,6 @@
 use Rattle.hp_print.specs.Tallies.{IsTally}
 use Rattle.hp_print.proofs.SummaryText.{tally_same}
-use Rattle.hp_print.proofs.summary_lines.summary.Goals as goal
+use Rattle.hp_print.proofs.summary_lines.append_summary.Goals as goal
 
 pub returns : goal.returns
 returns c =
@@ -8,4 +8,5 @@ returns c =
     rw (← c.head.ensures, ← c.events.ensures) c.in_ok-tally.ensures
     in
     let same = tally_same c.args.journal.now.head c.args.journal.now.events c.in_ok-tally.tally tallied in
-    rw (c.in_ok-append_summary.ensures, c.new-out.ensures.items, c.head-2.ensures, c.events-2.ensures) same
+    let written = c.append_tally.ensures in
+    rw (c.head-2.ensures, c.events-2.ensures, same) at written
