@@ -32,8 +32,6 @@ mod numbers;
 mod op;
 mod replay;
 mod summary_lines;
-#[cfg(test)]
-mod tests;
 mod words;
 
 pub use error::{ReplayError, ReplayKind};

@@ -1,6 +1,6 @@
 //! Journals of refusals, and lines that can't stand in them.
 
-use crate::tests::changes::{Change, assert_refusals};
+use crate::changes::{Change, assert_refusals};
 use std::test::*;
 
 /// Each error number of a setup, a remove, an add and a del, among registrations that pass: first a

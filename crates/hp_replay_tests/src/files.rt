@@ -1,6 +1,6 @@
 //! Journals of armed faults, files and wakeups, and lines that can't stand in them.
 
-use crate::tests::changes::{Change, assert_refusals};
+use crate::changes::{Change, assert_refusals};
 use std::test::*;
 
 /// A fault that is armed in mid-walk, while two instances are crossed on the way up. It is taken on the

@@ -1,8 +1,8 @@
 //! Whole texts.
 
-use crate::tests::changes::{Change, assert_refusals};
-use crate::{ReplayError, ReplayKind, check, events_fit, text_is_accepted};
+use crate::changes::{Change, assert_refusals};
 use hp_print::{journal_text, summary};
+use hp_replay::{ReplayError, ReplayKind, check, events_fit, text_is_accepted};
 use std::alloc::Global;
 use std::test::*;
 

@@ -1,16 +1,14 @@
 //! What `hp_model` computes of a journal: where each processor stands, the keys in force there, and
 //! the registered keys. Written by hand, as the lines `cpu` and `sub` of the journal's summary.
 
-use crate::check;
-use crate::tests::registrations::{
-    DYNAMIC_SETUPS, FAILED_SETUP, OVERRULED_FAULT, SETUP_WITHOUT_CALLS,
-};
-use crate::tests::suspends::FREEZE_WITH_SETUP_BETWEEN;
-use crate::tests::walks::{
+use crate::registrations::{DYNAMIC_SETUPS, FAILED_SETUP, OVERRULED_FAULT, SETUP_WITHOUT_CALLS};
+use crate::suspends::FREEZE_WITH_SETUP_BETWEEN;
+use crate::walks::{
     FAULT_OF_AN_INSTANCE, FAULT_ON_THE_WAY_DOWN, FAULT_ON_THE_WAY_UP, STUCK_ON_THE_WAY_BACK,
 };
 use hp_event::Key;
 use hp_model::{net_of, registered_of, settled_of};
+use hp_replay::check;
 use std::alloc::Global;
 use std::process::Abort;
 use std::test::*;

@@ -1,10 +1,10 @@
 //! Journals with two neighbouring events swapped: events of one seat keep their order, and those of two
 //! seats can pass each other where neither waits for the other.
 
-use crate::check;
-use crate::tests::changes::{line_refused, with_swap};
-use crate::tests::clients::TURNS_OF_CLIENTS;
-use crate::tests::seats::THREADS_IN_AND_OUT;
+use crate::changes::{line_refused, with_swap};
+use crate::clients::TURNS_OF_CLIENTS;
+use crate::seats::THREADS_IN_AND_OUT;
+use hp_replay::check;
 use std::alloc::Global;
 use std::process::Abort;
 use std::test::*;

@@ -1,6 +1,6 @@
 //! Journals of several clients that wait for one another, and lines that can't stand in them.
 
-use crate::tests::changes::{Change, assert_refusals};
+use crate::changes::{Change, assert_refusals};
 use std::test::*;
 
 /// Two clients bring a processor up each. Of the first one a registration stands between its `enter`

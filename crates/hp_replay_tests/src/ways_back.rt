@@ -1,6 +1,6 @@
 //! A journal of a stuck walk and what follows it, and lines that can't stand in it.
 
-use crate::tests::changes::{Change, assert_refusals};
+use crate::changes::{Change, assert_refusals};
 use std::test::*;
 
 /// Two clients set up a state each, and processor 1 comes up. A way down is stuck on its way back, as

@@ -1,7 +1,7 @@
 //! Journals of registrations and refusals, and lines that can't stand in them.
 
-use crate::check;
-use crate::tests::changes::{Change, assert_refusals};
+use crate::changes::{Change, assert_refusals};
+use hp_replay::check;
 use std::test::*;
 
 /// A setup that fails on one processor.

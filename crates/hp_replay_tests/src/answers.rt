@@ -1,6 +1,6 @@
 //! A journal of counted answers, and entries made in another way than they are counted.
 
-use crate::tests::changes::{Change, assert_refusals};
+use crate::changes::{Change, assert_refusals};
 use std::test::*;
 
 /// A subsystem whose third startup and whose first teardown on processor 1 fail, and one without a

@@ -1,6 +1,6 @@
 //! Journals of seats that come and go, and lines that can't stand in them.
 
-use crate::tests::changes::{Change, assert_refusals};
+use crate::changes::{Change, assert_refusals};
 use std::test::*;
 
 /// A client reads, and sets a state up meanwhile, while the other's walk waits for it. Then all leave.

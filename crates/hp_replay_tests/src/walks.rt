@@ -1,6 +1,6 @@
 //! Journals of walks, and lines that can't stand in them.
 
-use crate::tests::changes::{Change, assert_refusals};
+use crate::changes::{Change, assert_refusals};
 use std::test::*;
 
 /// Two setups and a way up.

@@ -2,9 +2,9 @@
 //! place of one, a space at an end, and a line without words. The verdicts come from the rules of the text
 //! alone, and not from this reader.
 
-use crate::ReplayKind::{Count, Header, Syntax, Trailing, Unlawful};
-use crate::tests::changes::{Verdict, verdict_of, with_line};
-use crate::tests::one_journal::ONE_JOURNAL;
+use crate::changes::{Verdict, verdict_of, with_line};
+use crate::one_journal::ONE_JOURNAL;
+use hp_replay::ReplayKind::{Count, Header, Syntax, Trailing, Unlawful};
 use std::alloc::Global;
 use std::test::*;
 

@@ -1,6 +1,6 @@
 //! Journals of suspends, and lines that can't stand in them.
 
-use crate::tests::changes::{Change, assert_refusals};
+use crate::changes::{Change, assert_refusals};
 use std::test::*;
 
 /// A boot, a freeze that a fault of processor 2 ends, a setup of the other client between its walks, and

@@ -1,6 +1,6 @@
 //! A journal of instances, and lines that can't stand in it.
 
-use crate::tests::changes::{Change, assert_refusals};
+use crate::changes::{Change, assert_refusals};
 use std::test::*;
 
 /// Instances of one state that two clients add and delete, with calls and without, while one of them has

@@ -1,6 +1,6 @@
 //! Texts that are refused before their first event.
 
-use crate::{ReplayError, ReplayKind, check};
+use hp_replay::{ReplayError, ReplayKind, check};
 use std::alloc::Global;
 use std::test::*;
 

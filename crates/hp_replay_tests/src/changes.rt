@@ -1,7 +1,7 @@
 //! What the tests ask of a journal's text: whether it is accepted, whether it is refused with one line
 //! changed, and what is said of it.
 
-use crate::{ReplayError, ReplayKind, check};
+use hp_replay::{ReplayError, ReplayKind, check};
 use std::alloc::Global;
 use std::process::Abort;
 use std::test::*;

@@ -2,8 +2,8 @@
 //! a line is left out or stands twice, and where two lines are swapped. The verdicts come from the rules of
 //! the text alone, and not from this reader.
 
-use crate::ReplayKind::{Count, Header, Missing, Syntax, Trailing, Unlawful};
-use crate::tests::changes::{Verdict, line_at, verdict_of, with_line, with_swap};
+use crate::changes::{Verdict, line_at, verdict_of, with_line, with_swap};
+use hp_replay::ReplayKind::{Count, Header, Missing, Syntax, Trailing, Unlawful};
 use std::test::*;
 
 /// A client reads, sets up a subsystem whose second startup on processor 1 would fail, brings that
