@@ -48,12 +48,6 @@ mod schedule;
 mod script;
 mod statement;
 mod stop;
-#[cfg(test)]
-mod tests;
-#[cfg(test)]
-mod tests_generator;
-#[cfg(test)]
-mod tests_refusals;
 mod verb;
 mod words;
 

@@ -1,6 +1,6 @@
 //! Scripts that are refused, each with its line and kind, worked out by hand from the rules.
 
-use crate::{ParseError, ScriptKind, parse};
+use hp_script::{ParseError, ScriptKind, parse};
 use hp_states::MAX_SCRIPT_BYTES;
 use std::alloc::{AllocError, Global};
 use std::test::*;
@@ -281,11 +281,11 @@ fn too_many(rt: HostRuntime) -> Result<(), Fail> {
     let ops = repeated(alloc, b"cpus 1\nactor a\n", b"unlock\n", 4097)?;
     assert!(rt; refuses(alloc, &ops, 0, 4099, ScriptKind::TooMany)?);
     let ops = repeated(alloc, b"cpus 1\nactor a\n", b"unlock\n", 4096)?;
-    assert!(rt; parse(alloc, &ops, 0)?.actors.len() == 1);
+    assert!(rt; parse(alloc, &ops, 0)?.actors() == 1);
     let actors = repeated(alloc, b"cpus 1\n", b"actor a\n", 33)?;
     assert!(rt; refuses(alloc, &actors, 0, 34, ScriptKind::TooMany)?);
     let actors = repeated(alloc, b"cpus 1\n", b"actor a\n", 32)?;
-    assert!(rt; parse(alloc, &actors, 0)?.actors.len() == 32);
+    assert!(rt; parse(alloc, &actors, 0)?.actors() == 32);
     Ok(())
 }
 
@@ -294,7 +294,7 @@ fn too_long(rt: HostRuntime) -> Result<(), Fail> {
     let alloc = rt.alloc();
     let script = b"cpus 1\nactor a\n";
     let bytes = repeated(alloc, script, b" ", MAX_SCRIPT_BYTES - 15)?;
-    assert!(rt; parse(alloc, &bytes, 0)?.actors.len() == 1);
+    assert!(rt; parse(alloc, &bytes, 0)?.actors() == 1);
     let bytes = repeated(alloc, script, b" ", MAX_SCRIPT_BYTES - 14)?;
     assert!(rt; refuses(alloc, &bytes, 0, 0, ScriptKind::TooLong)?);
     let bytes = repeated(alloc, b"", b"\x00", MAX_SCRIPT_BYTES + 1)?;

@@ -1,6 +1,6 @@
 //! Generated scripts, compared with texts that were worked out apart from the program.
 
-use crate::generate;
+use hp_script::generate;
 use std::test::*;
 
 /// What is generated of seed 0 and size 1.

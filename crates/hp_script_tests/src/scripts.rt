@@ -1,0 +1,179 @@
+//! Scripts that are read, with what they say.
+
+use hp_event::{Form, Op};
+use hp_script::{ParseError, Schedule, Script, ScriptKind, parse};
+use hp_states::{Dir, MAX_EVENTS, Rule};
+use std::alloc::Global;
+use std::test::*;
+
+/// The operations of an actor of a script, counted from 0; none where it has no such actor.
+fn ops(script: &Script, actor: u32) -> &[Op] {
+    if actor < script.actors() {
+        script.ops(actor)
+    } else {
+        &[]
+    }
+}
+
+/// Whether the script is read and its first actor has these operations.
+fn does(alloc: Global, bytes: &[u8], wanted: &[Op]) -> Result<bool, ParseError> {
+    let script = parse(alloc, bytes, 128)?;
+    Ok(ops(&script, 0) == wanted)
+}
+
+const PLAIN: Form = Form {
+    nocalls: false,
+    locked: false,
+};
+
+const BOTH: Form = Form {
+    nocalls: true,
+    locked: true,
+};
+
+#[test]
+fn operations(rt: HostRuntime) -> Result<(), Fail> {
+    let bytes = b"cpus 2\nsub - none multi\nactor a\nup 0\n down  4095 \n#x\n\nlock\nunlock";
+    let ops = [Op::Up(0), Op::Down(4095), Op::Lock, Op::Unlock];
+    assert!(rt; does(rt.alloc(), bytes, &ops)?);
+    let bytes =
+        b"cpus 2\nsub a both single\nsub b both multi\nactor a\nsetup 65535 2 nocalls locked\nsetup 0 1\nremove 3 nocalls locked\nadd 4 0\ndel 65535 65535 nocalls locked\n";
+    let ops = [
+        Op::Setup {
+            state: 65535,
+            sub: 2,
+            form: BOTH,
+        },
+        Op::Setup {
+            state: 0,
+            sub: 1,
+            form: PLAIN,
+        },
+        Op::Remove {
+            state: 3,
+            form: BOTH,
+        },
+        Op::Add {
+            state: 4,
+            inst: 0,
+            form: PLAIN,
+        },
+        Op::Del {
+            state: 65535,
+            inst: 65535,
+            form: BOTH,
+        },
+    ];
+    assert!(rt; does(rt.alloc(), bytes, &ops)?);
+    Ok(())
+}
+
+/// Lines of operations, and what they say.
+const LINES: [(&'static [u8], Result<Op, ScriptKind>); 18] = [
+    (b"target 1 -2147483648", Ok(Op::Target(1, -2147483648))),
+    (b"target 4095 -2147483649", Err(ScriptKind::BadNumber)),
+    (b"target 4095 2147483648", Err(ScriptKind::BadNumber)),
+    (b"target 4096 -0", Err(ScriptKind::BadForm)),
+    (b"fail 2 2147483647", Ok(Op::Arm(2, 2147483647))),
+    (b"fail 0 +1", Err(ScriptKind::BadForm)),
+    (b"show state 3", Ok(Op::ShowState(3))),
+    (b"show target 4", Ok(Op::ShowTarget(4))),
+    (b"show fail 5", Ok(Op::ShowFail(5))),
+    (b"show states", Ok(Op::ShowStates)),
+    (b"show states 1", Err(ScriptKind::BadForm)),
+    (b"show other 1", Err(ScriptKind::BadForm)),
+    (b"boot 4095", Ok(Op::Boot(4095))),
+    (b"freeze -1", Ok(Op::Freeze(-1))),
+    (b"freeze -2", Err(ScriptKind::BadNumber)),
+    (b"freeze -0", Err(ScriptKind::BadForm)),
+    (b"thaw", Ok(Op::Thaw)),
+    (b"wakeup 1", Err(ScriptKind::BadForm)),
+];
+
+/// What the one operation of a script says, in its third line, or why it is refused.
+fn said(alloc: Global, line: &[u8]) -> Result<Result<Op, ScriptKind>, Fail> {
+    let mut bytes = Vec::from_slice(alloc, b"cpus 2\nactor a\n")?;
+    bytes.extend_from_slice(line)?;
+    match parse(alloc, bytes.as_slice(), 0) {
+        Ok(script) => match ops(&script, 0) {
+            [op] => Ok(Ok(*op)),
+            _ => Err(Fail::from("one operation is read")),
+        },
+        Err(ParseError::Bad { line: 3, kind }) => Ok(Err(kind)),
+        Err(other) => Err(other.into()),
+    }
+}
+
+#[test]
+fn lines_of_operations(rt: HostRuntime) -> Result<(), Fail> {
+    for (line, wanted) in LINES {
+        assert!(rt; said(rt.alloc(), line)? == wanted);
+    }
+    Ok(())
+}
+
+/// A script with a line of each kind.
+const WHOLE: &'static [u8] =
+    b"# all\n\ncpus 8\nabsent 2 7\nsub - up multi\nrule down 255 * 1048576 4095\nrule up * 65535 * 1\nsub -b down single\nschedule mix 18446744073709551615 1000000\nactor a\nlock\nlock\nunlock\nactor b\nactor c\nup 1\n";
+
+/// The rules of its first subsystem.
+const RULES: [Rule; 2] = [
+    Rule {
+        dir: Dir::Down,
+        cpu: Some(255),
+        inst: None,
+        nth: Some(MAX_EVENTS),
+        code: 4095,
+    },
+    Rule {
+        dir: Dir::Up,
+        cpu: None,
+        inst: Some(65535),
+        nth: None,
+        code: 1,
+    },
+];
+
+/// The operations of its actors.
+const ACTORS: [&'static [Op]; 3] = [&[Op::Lock, Op::Lock, Op::Unlock], &[], &[Op::Up(1)]];
+
+#[test]
+fn whole(rt: HostRuntime) -> Result<(), Fail> {
+    let script = parse(rt.alloc(), WHOLE, 0)?;
+    assert!(rt; script.head().possible == 8);
+    assert!(rt; script.head().absent.as_slice() == [2, 7].as_slice());
+    match script.head().subs.as_slice() {
+        [a, b] => {
+            assert!(rt; a.name.as_slice().is_empty() && a.up && !a.down && a.multi);
+            assert!(rt; a.plan.rules() == RULES.as_slice());
+            assert!(rt; b.name.as_slice() == b"-b".as_slice() && !b.up && b.down && !b.multi);
+            assert!(rt; b.plan.rules().is_empty());
+        }
+        _ => assert!(rt; false),
+    }
+    assert!(rt; script.actors() == 3);
+    for (actor, wanted) in ACTORS.iter().enumerate() {
+        assert!(rt; ops(&script, actor as u32) == *wanted);
+    }
+    Ok(())
+}
+
+/// A schedule as numbers: the seats of its turns, or the seed and how many are drawn.
+fn numbers(script: &Script) -> Option<(&[u32], Option<(u64, u32)>)> {
+    match script.schedule() {
+        Schedule::Rounds => None,
+        Schedule::Turns(seats) => Some((seats.as_slice(), None)),
+        Schedule::Mix { seed, turns } => Some((&[], Some((*seed, *turns)))),
+    }
+}
+
+#[test]
+fn schedules(rt: HostRuntime) -> Result<(), Fail> {
+    let script = parse(rt.alloc(), WHOLE, 0)?;
+    assert!(rt; numbers(&script) == Some((&[], Some((u64::MAX, 1_000_000)))));
+    let script = parse(rt.alloc(), b"cpus 1\nschedule turns 95 0 95\nactor a", 0)?;
+    assert!(rt; numbers(&script) == Some((&[95, 0, 95], None)));
+    let script = parse(rt.alloc(), b"cpus 1\nactor a", 0)?;
+    assert!(rt; numbers(&script).is_none());
+    Ok(())
+}
