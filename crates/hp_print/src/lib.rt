@@ -18,8 +18,6 @@ mod state_tally;
 mod summary_lines;
 mod suspend_tally;
 mod tally;
-#[cfg(test)]
-mod tests;
 mod words;
 
 pub use event::event_line;

@@ -1,9 +1,7 @@
-//! Texts written by hand, from the form of a journal's text.
+//! Whole texts and summaries.
 
-mod lines;
-
-use super::*;
 use hp_event::{Answer, Event, Form, Head, How, Journal, Name, Numbers, Op, Role, Sub, Subs};
+use hp_print::{journal_text, summary};
 use hp_states::{Dir, HookPlan, Rule};
 use std::alloc::Global;
 use std::process::Abort;

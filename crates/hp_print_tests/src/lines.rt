@@ -1,8 +1,8 @@
 //! A line of each kind of event, each operation, each way an entry is made, each answer and each file
 //! shown.
 
-use crate::event_line;
 use hp_event::{Answer, Event, File, Form, How, Op, Role};
+use hp_print::event_line;
 use hp_states::Dir;
 use std::alloc::Global;
 use std::process::Abort;
