@@ -15,8 +15,6 @@ mod output;
 mod play;
 mod read;
 mod stop;
-#[cfg(test)]
-mod tests;
 mod top;
 
 pub use top::{NO_MEMORY, hp_main};

@@ -1,6 +1,6 @@
 //! Freezes and thaws, as whole outputs.
 
-use crate::tests::{Row, check};
+use crate::caller::{Row, check};
 use std::test::*;
 
 const FREEZES: &[Row] = &[

@@ -1,6 +1,6 @@
 //! Inputs and words that are refused.
 
-use crate::tests::{Row, check};
+use crate::caller::{Row, check};
 use std::test::*;
 
 const INPUTS: &[Row] = &[

@@ -1,6 +1,6 @@
 //! Printed journals that are checked.
 
-use crate::tests::{Row, check};
+use crate::caller::{Row, check};
 use std::test::*;
 
 const REPLAYS: &[Row] = &[

@@ -1,6 +1,6 @@
 //! Walks and ways back, as whole outputs.
 
-use crate::tests::{Row, check};
+use crate::caller::{Row, check};
 use std::test::*;
 
 const WAYS_BACK: &[Row] = &[

@@ -1,7 +1,7 @@
 //! Eight processors, twelve subsystems and six actors: whatever the schedule, the summary is the same, and
 //! the printed journal is accepted.
 
-use crate::tests::{run, some_hooks};
+use crate::caller::{run, some_hooks};
 use std::test::*;
 
 const HEAD: &[u8] = b"\

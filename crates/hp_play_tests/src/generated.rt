@@ -1,6 +1,6 @@
 //! Generated scripts, and the options of the words.
 
-use crate::tests::{Row, check};
+use crate::caller::{Row, check};
 use std::test::*;
 
 const GENERATED: &[Row] = &[

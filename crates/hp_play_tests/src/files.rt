@@ -1,6 +1,6 @@
 //! The files of hotplug, and faults that are armed.
 
-use crate::tests::{Row, check};
+use crate::caller::{Row, check};
 use std::test::*;
 
 const ARMED: &[Row] = &[

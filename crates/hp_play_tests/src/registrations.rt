@@ -1,6 +1,6 @@
 //! Registrations and instances, as whole outputs.
 
-use crate::tests::{Row, check};
+use crate::caller::{Row, check};
 use std::test::*;
 
 const REGISTRATIONS: &[Row] = &[
