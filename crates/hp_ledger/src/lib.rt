@@ -35,10 +35,6 @@ mod registering;
 mod seats;
 mod suspended;
 mod table_changes;
-#[cfg(test)]
-mod tests;
-#[cfg(test)]
-mod tests_flights;
 mod under_way;
 mod waits;
 

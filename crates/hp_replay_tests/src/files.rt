@@ -63,6 +63,62 @@ fn an_armed_fault_is_taken_once(rt: HostRuntime) -> Result<(), Fail> {
     assert_refusals(&rt, rt.alloc(), ARMED_FAULT, &ARMED_FAULT_CHANGES)
 }
 
+/// A fault that is armed at a state without a teardown. The way down passes it by and leaves it armed,
+/// and the way up takes it.
+const FAULT_WITHOUT_CALLBACK: &'static [u8] = b"\
+cpuhp journal 1
+cpus 2
+absent -
+sub net:a up single
+events
+admit 0 ap 0
+admit 1 ap 1
+admit 2 client
+reg 2 150 setup 150 1
+call 0 0 150 0 up ok
+regged 2 ok 0
+enter 2 up 1
+walk 2 1 0 200
+call 1 1 150 0 up ok
+walked 2 1 ok
+done 2 ok 0
+armed 2 1 150
+enter 2 down 1
+walk 2 1 200 0
+call 1 1 150 0 down empty
+walked 2 1 ok
+done 2 ok 0
+shown 2 fail 1 150
+enter 2 up 1
+walk 2 1 0 200
+call 1 1 150 0 up injected
+walked 2 1 fault 11
+done 2 fault 11
+shown 2 fail 1 -1
+end 24
+";
+
+/// Lines that can't stand in it, with their numbers.
+const FAULT_WITHOUT_CALLBACK_CHANGES: [Change; 6] = [
+    (20, b"call 1 1 150 0 down injected\n"),
+    (20, b"call 1 1 150 0 down ok\n"),
+    (23, b"shown 2 fail 1 -1\n"),
+    (26, b"call 1 1 150 0 up ok\n"),
+    (27, b"walked 2 1 ok\n"),
+    (29, b"shown 2 fail 1 150\n"),
+];
+
+/// A fault that is armed where one way has no callback.
+#[test]
+fn an_armed_fault_waits_for_a_callback(rt: HostRuntime) -> Result<(), Fail> {
+    assert_refusals(
+        &rt,
+        rt.alloc(),
+        FAULT_WITHOUT_CALLBACK,
+        &FAULT_WITHOUT_CALLBACK_CHANGES,
+    )
+}
+
 /// What a client sees of the state and the target of a processor on its way up, and on a way down that
 /// a fault turns back.
 const SHOWN_IN_MID_WALK: &'static [u8] = b"\

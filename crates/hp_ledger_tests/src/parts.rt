@@ -1,8 +1,7 @@
-//! What no clause says: that seats come and go with ample memory, and that a suspend and a resume leave
-//! what is written by hand.
+//! Two parts of a ledger alone: its seats, and what suspends it.
 
-use crate::{Seats, Suspended};
 use hp_event::{Answer, Op, Role};
+use hp_ledger::{Seats, Suspended};
 use std::test::Fail;
 
 #[test]
