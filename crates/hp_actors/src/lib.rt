@@ -22,7 +22,5 @@ mod run;
 mod schedule;
 mod seating;
 mod start;
-#[cfg(test)]
-mod tests;
 
 pub use run::Run;

@@ -1,7 +1,7 @@
 -- A script that was read can be played with the hooks of the rack.
 use Rattle.std.proofs.Common.{arith}
 use Rattle.hp_script.proofs.PlayableScripts.{read_scripts_play}
-use Rattle.hp_actors.proofs.tests.played.Goals as goal
+use Rattle.hp_actors_tests.proofs.runs.played.Goals as goal
 
 pub start-requires-clause-script : goal.start-requires-clause-script
 start-requires-clause-script c = (read_scripts_play _ _ _ c.in-Ok.ensures.found).plays

@@ -1,7 +1,6 @@
-//! What no clause says: that runs can be played, that they come out as written by hand, and that the very hooks that
-//! went in come back.
+//! Two actors, by three schedules.
 
-use crate::Run;
+use hp_actors::Run;
 use hp_event::{Answer, Event};
 use hp_hook::{Hook, Rack, ScriptHook};
 use hp_script::parse;
