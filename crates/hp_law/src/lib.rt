@@ -8,7 +8,7 @@
 //! registered state, which answers by its subsystem's rules. So each event takes a time that doesn't
 //! grow with the journal. No hook of anybody else's is called.
 //!
-//! Journals that are lawful, and refused with one line changed, are texts in the tests of `hp_replay`.
+//! Journals that are lawful, and refused with one line changed, are texts in `hp_replay_tests`.
 //! Here stand tests of heads, of full journals, and of what no text can say.
 #![tactic(auto)]
 
