@@ -7,11 +7,32 @@ use Rattle.hp_model.specs.MapLock.{Operation, operation, is_map_held}
 use Rattle.hp_model.specs.ScriptTurns.{turn}
 use Rattle.hp_actors.specs.Positions.{Position}
 use Rattle.hp_actors.proofs.Knowing.{passed_over, passed_by, known_held, known_until}
+use Rattle.hp_actors.proofs.run.Run.still_waits.Given as given
 use Rattle.hp_actors.proofs.run.Run.still_waits.Goals as goal
+use Rattle.hp_actors.proofs.run.Run.still_waits.Goals.{In-Some}
 
 some_held : (o : Option Operation) → is_some (option_map (λ (o : Operation). o.seat) o) ≡ true → is_some o ≡ true
 some_held None h = h
 some_held (Some o) h = refl
+
+-- the actor that was looked up, at its place
+looked_up : (g : given.Over) (c : In-Some g) →
+    slice_get c.self.inside.actors.items (c.args.seat - c.self.inside.threads) ≡ Some c.in-Some.actor.now
+looked_up g c =
+    let place : ℕ = c.args.seat - c.self.inside.threads in
+    let h = c.in-Some.ensures.lookup in
+    ap (λ xs. slice_get xs place) (sym c.deref.ensures.value)
+    ∙ slice_get_read c.deref.result.now (length c.deref.result.now) place c.in-Some.actor.now refl h.3.0 h.1
+
+pub returns-in-Unknown : goal.returns-in-Unknown
+returns-in-Unknown g c = λ yes.
+    let threads : ℕ = c.self.inside.threads in
+    let place : ℕ = c.args.seat - threads in
+    let here : threads + place ≡ c.args.seat = omega arith in
+    let at = looked_up g (goal.at.returns-in-Unknown g c).In-Some in
+    subst (λ (p : Position). turn p.head p.actors p.progress c.args.seat ≡ p.progress) c.self.view_is
+    (passed_by c.self.inside.board threads place c.args.seat c.self.inside.actors.items c.in-Some.actor.now c.self.invariant.playing here at
+    (c.waits_for_thread.ensures yes))
 
 pub returns-in-WhileMapHeld : goal.returns-in-WhileMapHeld
 returns-in-WhileMapHeld g c = λ yes.
@@ -20,10 +41,7 @@ returns-in-WhileMapHeld g c = λ yes.
     let actors = c.self.inside.actors.items in
     let b = c.self.inside.board in
     let here : threads + place ≡ c.args.seat = omega arith in
-    let h = c.in-Some.ensures.lookup in
-    let read : slice_get c.deref.result.now place ≡ Some c.in-Some.actor.now =
-    slice_get_read c.deref.result.now (length c.deref.result.now) place c.in-Some.actor.now refl h.3.0 h.1 in
-    let at : slice_get actors place ≡ Some c.in-Some.actor.now = ap (λ xs. slice_get xs place) (sym c.deref.ensures.value) ∙ read in
+    let at = looked_up g (goal.at.returns-in-WhileMapHeld g c).In-Some in
     let held : is_map_held b.events ≡ true =
     some_held (operation b.events) (ap is_some (sym c.holder.ensures) ∙ (sym c.is_some.ensures ∙ yes)) in
     subst (λ (p : Position). turn p.head p.actors p.progress c.args.seat ≡ p.progress) c.self.view_is
@@ -37,25 +55,8 @@ returns-in-UntilEnd g c = λ yes.
     let actors = c.self.inside.actors.items in
     let b = c.self.inside.board in
     let here : threads + place ≡ c.args.seat = omega arith in
-    let h = c.in-Some.ensures.lookup in
-    let read : slice_get c.deref.result.now place ≡ Some c.in-Some.actor.now =
-    slice_get_read c.deref.result.now (length c.deref.result.now) place c.in-Some.actor.now refl h.3.0 h.1 in
-    let at : slice_get actors place ≡ Some c.in-Some.actor.now = ap (λ xs. slice_get xs place) (sym c.deref.ensures.value) ∙ read in
+    let at = looked_up g (goal.at.returns-in-UntilEnd g c).In-Some in
     subst (λ (p : Position). turn p.head p.actors p.progress c.args.seat ≡ p.progress) c.self.view_is
     (passed_over b threads place c.args.seat actors c.in-Some.actor.now c.self.invariant.playing here at
     (known_until b threads c.self.inside.last_end place c.in-UntilEnd.end actors c.in-Some.actor.now c.self.invariant.waits at
     c.in-UntilEnd.is (eqb-true c.in-UntilEnd.end c.self.inside.last_end yes)))
-
-pub returns-in-Unknown : goal.returns-in-Unknown
-returns-in-Unknown g c = λ yes.
-    let threads : ℕ = c.self.inside.threads in
-    let place : ℕ = c.args.seat - threads in
-    let actors = c.self.inside.actors.items in
-    let b = c.self.inside.board in
-    let here : threads + place ≡ c.args.seat = omega arith in
-    let h = c.in-Some.ensures.lookup in
-    let read : slice_get c.deref.result.now place ≡ Some c.in-Some.actor.now =
-    slice_get_read c.deref.result.now (length c.deref.result.now) place c.in-Some.actor.now refl h.3.0 h.1 in
-    let at : slice_get actors place ≡ Some c.in-Some.actor.now = ap (λ xs. slice_get xs place) (sym c.deref.ensures.value) ∙ read in
-    subst (λ (p : Position). turn p.head p.actors p.progress c.args.seat ≡ p.progress) c.self.view_is
-    (passed_by b threads place c.args.seat actors c.in-Some.actor.now c.self.invariant.playing here at (c.waits_for_thread.ensures yes))
