@@ -17,6 +17,8 @@ mod changes;
 #[cfg(test)]
 mod clients;
 #[cfg(test)]
+mod events;
+#[cfg(test)]
 mod files;
 #[cfg(test)]
 mod head;
