@@ -143,7 +143,7 @@ fn count(
 pub struct KeyCounts {
     counts: Vec<KeyCount>,
     /// Where the key of each slot was when it last came; it may have moved since.
-    places: [usize; REMEMBERED],
+    places: [u32; REMEMBERED],
 }
 
 impl Model for KeyCounts {
@@ -179,8 +179,9 @@ impl KeyCounts {
         ensures { OnOk result (self.new ≡ counted key dir done self.old) }
     {
         let slot = slot_of(key);
-        let at = count(&mut self.counts, key, self.places[slot], dir, done)?;
-        self.places[slot] = at;
+        let remembered = self.places[slot] as usize;
+        let at = count(&mut self.counts, key, remembered, dir, done)?;
+        self.places[slot] = u32::try_from(at).unwrap_or(0);
         Ok(())
     }
 }
