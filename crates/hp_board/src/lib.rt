@@ -23,10 +23,6 @@ mod retiring;
 mod sound;
 mod start;
 mod states;
-#[cfg(test)]
-mod tests;
-#[cfg(test)]
-mod tests_end;
 mod turn;
 
 pub use admission::AdmitError;

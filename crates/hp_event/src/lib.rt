@@ -14,8 +14,6 @@ mod journal;
 mod key;
 mod lists;
 mod op;
-#[cfg(test)]
-mod tests;
 
 pub use answer::Answer;
 pub use event::{Event, File, Role};

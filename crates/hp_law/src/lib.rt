@@ -8,8 +8,8 @@
 //! registered state, which answers by its subsystem's rules. So each event takes a time that doesn't
 //! grow with the journal. No hook of anybody else's is called.
 //!
-//! Journals that are lawful, and refused with one line changed, are texts in `hp_replay_tests`.
-//! Here stand tests of heads, of full journals, and of what no text can say.
+//! Journals that are lawful, and refused with one line changed, are texts in `hp_replay_tests`; heads, full
+//! journals, and what no text can say are tested in `hp_law_tests`.
 #![tactic(auto)]
 
 mod asked;
@@ -17,12 +17,6 @@ mod heads;
 mod law;
 mod same;
 mod taking;
-#[cfg(test)]
-mod test_heads;
-#[cfg(test)]
-mod test_law;
-#[cfg(test)]
-mod test_room;
 
 pub use heads::is_head;
 pub use law::Law;

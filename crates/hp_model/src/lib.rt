@@ -67,8 +67,6 @@ mod net;
 mod registered;
 mod settled;
 mod subsystems;
-#[cfg(test)]
-mod tests;
 
 use hp_event::{Event, Head, Op};
 use hp_states::{MAX_EVENTS, MAX_SEATS};

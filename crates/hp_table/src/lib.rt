@@ -16,8 +16,6 @@ mod error;
 mod record;
 mod registered;
 mod table;
-#[cfg(test)]
-mod tests;
 
 pub use error::TableError;
 pub use record::Record;

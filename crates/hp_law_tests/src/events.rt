@@ -1,8 +1,8 @@
 //! What a law lets stand after two setups.
 
-use crate::test_heads::{head, sub};
-use crate::{Law, is_head};
+use crate::heads::{head, sub};
 use hp_event::{Answer, Event, File, Form, Head, How, Op, Role};
+use hp_law::{Law, is_head};
 use hp_states::{Dir, HookPlan};
 use std::alloc::Global;
 use std::test::Fail;

@@ -5,7 +5,7 @@ ghost use Rattle.std.specs.Prelude.{◌<◌, ◌≤◌, IfOk, IfSome};
 ghost use Rattle.hp_model.specs.Heads.{IsSub};
 ghost use Rattle.hp_states.specs.declared.limits.TheConstants.{MAX_CODE};
 
-use crate::{AdmitError, Ask, Board, CpuPlan, StartError, Turn};
+use hp_board::{AdmitError, Ask, Board, CpuPlan, StartError, Turn};
 use hp_event::{Answer, Form, Name, Numbers, Op, Role, Sub, Subs};
 use hp_hook::{Hook, ScriptHook};
 use hp_locks::Why;

@@ -1,6 +1,6 @@
 //! What no clause says: that memory suffices where it is ample, how a journal grows, and the texts.
 
-use crate::{
+use hp_event::{
     Answer, Event, Form, Head, How, Journal, JournalError, Key, Keys, Name, Numbers, Op, Role, Sub,
     Subs,
 };

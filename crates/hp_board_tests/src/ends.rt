@@ -1,8 +1,8 @@
 //! How a board ends, where no clause says it: the very hooks come back, in rising state and behind those of
 //! the rack, and the states file comes out as written by hand.
 
-use crate::tests::{FORM, Marked, OK, Step, ask, board, play, subsystem, turn};
-use crate::{Ask, Board, Turn};
+use crate::turns::{FORM, Marked, OK, Step, ask, board, play, subsystem, turn};
+use hp_board::{Ask, Board, Turn};
 use hp_event::Op;
 use hp_hook::{Rack, ScriptHook};
 use std::alloc::Global;

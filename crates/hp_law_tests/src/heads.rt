@@ -1,8 +1,8 @@
 //! Heads that a machine can be started with, each at its limits, and heads one step beyond them.
 
-use crate::is_head;
-use crate::test_law::first_unlawful;
+use crate::events::first_unlawful;
 use hp_event::{Head, Name, Numbers, Sub, Subs};
+use hp_law::is_head;
 use hp_states::{
     Dir, HookPlan, MAX_CODE, MAX_CPUS, MAX_EVENTS, MAX_INSTANCE, MAX_RULE_CPU, MAX_SUBS, Rule,
 };

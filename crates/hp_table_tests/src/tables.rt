@@ -1,9 +1,9 @@
 //! What no clause says: that memory suffices where it is ample, that the rules come out as written
 //! by hand, at hooks of two types, and the texts of the errors.
 
-use crate::{Record, Table, TableError};
 use hp_hook::{Hook, ScriptHook};
 use hp_states::{Dir, HookPlan, MAX_EVENTS, Range, Rule};
+use hp_table::{Record, Table, TableError};
 use std::alloc::Global;
 use std::process::Abort;
 use std::test::Fail;

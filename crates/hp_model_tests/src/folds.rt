@@ -1,7 +1,7 @@
 //! What no clause says: that memory suffices where it is ample, and what comes out of one journal.
 
-use crate::{net_of, registered_of, settled_of};
 use hp_event::{Answer, Event, Form, Head, How, Journal, Key, Name, Numbers, Op, Sub, Subs};
+use hp_model::{net_of, registered_of, settled_of};
 use hp_states::{Dir, HookPlan};
 use std::alloc::Global;
 use std::test::Fail;

@@ -1,8 +1,8 @@
 //! Journals that are full: what was promised always fits, and nothing else.
 
-use crate::test_heads::head;
-use crate::{Law, is_head};
+use crate::heads::head;
 use hp_event::{Answer, Event, Op, Role};
+use hp_law::{Law, is_head};
 use hp_states::{MAX_EVENTS, ONLINE};
 use std::alloc::Global;
 use std::test::Fail;
