@@ -1,8 +1,8 @@
 -- While what comes next of a seat's walk or registration is another seat's entry, a turn of the seat makes nothing.
-use Rattle.std.proofs.Common.{◌≡◌, ℕ, Bool, true, false, ◌&&◌, ◌||◌, ◌==◌, eqb, is_some, Option, Some, None, List, refl, ap, sym, subst, ◌∙◌, inl, inr, ◌⊎◌}
-use Rattle.std.specs.Prelude.{find, filter_map, option_map, option_to_list}
-use Rattle.std.specs.Option.{option_eq}
+use Rattle.std.proofs.Common.{◌≡◌, ℕ, Bool, true, false, ◌&&◌, ◌||◌, ◌==◌, eqb, Option, Some, None, List, refl, ap, sym, subst, ◌∙◌, inl, inr, ◌⊎◌, ◌↔◌}
+use Rattle.std.specs.Prelude.{IsSome, find, filter_map, option_map, option_to_list}
 use Rattle.std.proofs.lemmas.Bool.{true≢false, eqb-true, eq-eqb, ne_eqb, and_parts}
+use Rattle.std.specs.Option.{option_eq}
 use Rattle.hp_event.specs.declared.op.Op.{Op}
 use Rattle.hp_event.specs.declared.head.Head.{Head}
 use Rattle.hp_event.specs.declared.event.Event.{Event}
@@ -14,7 +14,7 @@ use Rattle.hp_model.specs.Registrations.{Registration, registration}
 use Rattle.hp_model.specs.Seats.{is_busy, holds_map}
 use Rattle.hp_model.specs.UnderWay.{next_of_walk, next_of_registration, under_way}
 use Rattle.hp_model.specs.Walks.{Walk, walk, walking, is_walking}
-use Rattle.hp_actors.specs.Waiting.{MakesNoEvent}
+use Rattle.hp_actors.specs.Waiting.{MakesNoEvent, HasInFlight, by_registration, by_map_lock, WaitsForThread}
 use Rattle.hp_model.proofs.InFlight.{walk_none}
 use Rattle.hp_model.proofs.Kept.{WalkKept}
 use Rattle.hp_model.proofs.Members.{Has, has_either, of_map, of_listed, found}
@@ -102,49 +102,75 @@ or_true : (b : Bool) → (b || true) ≡ true
 or_true true = refl
 or_true false = refl
 
--- the walk or the registration that is in flight is this seat's
-pub data HasInFlight (xs : List Event) (seat : ℕ) : Type 0 where
-  by_registration : (r : Registration) → registration xs ≡ Some r → r.seat ≡ seat → HasInFlight xs seat
-  by_walk : (o : Operation) → registration xs ≡ None → operation xs ≡ Some o → o.seat ≡ seat → HasInFlight xs seat
+-- whose registration is in flight
+abbrev registrar : List Event → Option ℕ
+registrar xs = option_map (λ (r : Registration). r.seat) (registration xs)
 
-pub registrar_is : (xs : List Event) (j k : ℕ) → option_map (λ (r : Registration). r.seat) (registration xs) ≡ Some j → j ≡ k →
-    HasInFlight xs k
-registrar_is xs j k is same = go (registration xs) refl is
+-- who holds the map lock
+abbrev holder : List Event → Option ℕ
+holder xs = option_map (λ (o : Operation). o.seat) (operation xs)
+
+registrar_some : (xs : List Event) (j : ℕ) → registrar xs ≡ Some j → (r : Registration) × (registration xs ≡ Some r) × (r.seat ≡ j)
+registrar_some xs j is = go (registration xs) refl is
   where
-    go : (o : Option Registration) → registration xs ≡ o → option_map (λ (r : Registration). r.seat) o ≡ Some j → HasInFlight xs k
+    go : (o : Option Registration) → registration xs ≡ o → option_map (λ (r : Registration). r.seat) o ≡ Some j →
+        (r : Registration) × (registration xs ≡ Some r) × (r.seat ≡ j)
     go None f h = absurd (none_some j h)
-    go (Some r) f h = by_registration r f (same_some r.seat j h ∙ same)
+    go (Some r) f h = (r, f, same_some r.seat j h)
 
-pub registrar_none : (xs : List Event) → option_map (λ (r : Registration). r.seat) (registration xs) ≡ None → registration xs ≡ None
+registrar_none : (xs : List Event) → registrar xs ≡ None → registration xs ≡ None
 registrar_none xs is = go (registration xs) refl is
   where
     go : (o : Option Registration) → registration xs ≡ o → option_map (λ (r : Registration). r.seat) o ≡ None → registration xs ≡ None
     go None f h = f
     go (Some r) f h = absurd (none_some r.seat (sym h))
 
-pub holder_is : (xs : List Event) (k : ℕ) → registration xs ≡ None → option_map (λ (o : Operation). o.seat) (operation xs) ≡ Some k →
-    HasInFlight xs k
-holder_is xs k none is = go (operation xs) refl is
+pub registrar_means : (xs : List Event) (j k : ℕ) → registrar xs ≡ Some j → (j ≡ k) ↔ HasInFlight xs k
+registrar_means xs j k is = (to, from)
   where
-    go : (o : Option Operation) → operation xs ≡ o → option_map (λ (o : Operation). o.seat) o ≡ Some k → HasInFlight xs k
-    go None f h = absurd (none_some k h)
-    go (Some o) f h = by_walk o none f (same_some o.seat k h)
+    s : (r : Registration) × (registration xs ≡ Some r) × (r.seat ≡ j)
+    s = registrar_some xs j is
 
-pub equals_some : (o : Option ℕ) (k : ℕ) → option_eq eqb o (Some k) ≡ true → o ≡ Some k
-equals_some None k h = absurd (true≢false (sym h))
-equals_some (Some j) k h = ap Some (eqb-true j k h)
+    to : j ≡ k → HasInFlight xs k
+    to same = by_registration s.0 s.1 (s.2 ∙ same)
 
-pub some_due : (head : Head) (xs : List Event) (j : ℕ) → is_some (due_entry head xs j) ≡ true →
-    (e : Event) × (due_entry head xs j ≡ Some e)
-some_due head xs j is = go (due_entry head xs j) refl is
+    from : HasInFlight xs k → j ≡ k
+    from (by_registration r at by) = same_some j k (sym is ∙ rw (at, by) refl)
+    from (by_map_lock o none at by) = absurd (none_some s.0 (sym none ∙ s.1))
+
+pub holder_means : (xs : List Event) (k : ℕ) → registrar xs ≡ None → (holder xs ≡ Some k) ↔ HasInFlight xs k
+holder_means xs k none = (to (operation xs) refl, from)
   where
-    go : (o : Option Event) → due_entry head xs j ≡ o → is_some o ≡ true → (e : Event) × (due_entry head xs j ≡ Some e)
-    go None f h = absurd (true≢false (sym h))
-    go (Some e) f h = (e, f)
+    to : (o : Option Operation) → operation xs ≡ o → holder xs ≡ Some k → HasInFlight xs k
+    to None f h = absurd (none_some k (sym (ap (option_map (λ (o : Operation). o.seat)) f) ∙ h))
+    to (Some o) f h = by_map_lock o (registrar_none xs none) f
+        (same_some o.seat k (sym (ap (option_map (λ (o : Operation). o.seat)) f) ∙ h))
+
+    from : HasInFlight xs k → holder xs ≡ Some k
+    from (by_registration r at by) = absurd (none_some r (sym (registrar_none xs none) ∙ at))
+    from (by_map_lock o none at by) = rw (at, by) refl
+
+pub equals_some : (o : Option ℕ) (k : ℕ) → (option_eq eqb o (Some k) ≡ true) ↔ (o ≡ Some k)
+equals_some None k = (λ h. absurd (true≢false (sym h)), λ h. absurd (none_some k h))
+equals_some (Some j) k = (λ h. ap Some (eqb-true j k h), λ h. eq-eqb j k (same_some j k h))
+
+-- the seat of which an entry is due
+abbrev IsDueSeat : Head → List Event → Option ℕ → Type 0
+IsDueSeat head xs found = (k : ℕ) → IsSome (due_entry head xs k) ↔ (found ≡ Some k)
+
+pub waits_exactly : {A : Type 0} (head : Head) (xs : List Event) (found : Option ℕ) (j k : ℕ) → IsDueSeat head xs found → found ≡ Some j →
+    (j ≡ k → ⊥) → A ↔ HasInFlight xs k → A ↔ WaitsForThread head xs k
+waits_exactly {A} head xs found j k due is other has = (to, from)
+  where
+    to : A → WaitsForThread head xs k
+    to a = record { has = has.0 a; other = j; due = (due j).1 is; is_other = other }
+
+    from : WaitsForThread head xs k → A
+    from w = has.1 w.has
 
 is_its_own : (xs : List Event) (k : ℕ) → HasInFlight xs k → is_busy k xs ≡ true
 is_its_own xs k (by_registration r at by) = rw (at, eq-eqb r.seat k by) (or_true (holds_map k (operation xs)))
-is_its_own xs k (by_walk o none at by) = rw (at, eq-eqb o.seat k by) refl
+is_its_own xs k (by_map_lock o none at by) = rw (at, eq-eqb o.seat k by) refl
 
 holder_none : (head : Head) (xs : List Event) (j k : ℕ) (e : Event) → Facts head xs → IsDueBy head xs j e → HasInFlight xs k →
     next_of_holder head xs k (operation xs) ≡ None
@@ -153,7 +179,7 @@ holder_none head xs j k e s d (by_registration r at by) = go (operation xs) refl
     go : (o : Option Operation) → operation xs ≡ o → next_of_holder head xs k o ≡ None
     go None h = refl
     go (Some o) h = rw (ne_eqb o.seat k (λ same. s.owners.apart o r h at (same ∙ sym by))) refl
-holder_none head xs j k e s d (by_walk o none at by) = walks d.of
+holder_none head xs j k e s d (by_map_lock o none at by) = walks d.of
   where
     still : (c : ℕ) (w : Walk) → walk c xs ≡ Some w → (b : Bool) → is_walking xs ≡ b → next_of_holder head xs k (operation xs) ≡ None
     still c w f true h = rw (at, h, and_false (o.seat == k)) refl
@@ -163,14 +189,17 @@ holder_none head xs j k e s d (by_walk o none at by) = walks d.of
     walks (inl w) = still w.0 w.1 w.2 (is_walking xs) refl
     walks (inr r) = absurd (none_some r.0 (sym none ∙ r.1))
 
-pub thread_due : (head : Head) (xs : List Event) (j k : ℕ) (e : Event) (op : Op) → IsLawful head xs → due_entry head xs j ≡ Some e →
-    (j ≡ k → ⊥) → HasInFlight xs k → MakesNoEvent head xs k op
+pub makes_nothing : (head : Head) (xs : List Event) (k : ℕ) (op : Op) → IsLawful head xs → WaitsForThread head xs k → MakesNoEvent head xs k op
 unfolding next_event is_full
-thread_due head xs j k e op lawful due other has =
-    let s = facts head xs lawful in
-    let d = due_by head xs j e due in
-    let busy = is_its_own xs k has in
-    record {
-      no_event = rw (busy, others_none head xs j k e s d other, holder_none head xs j k e s d has) refl;
-      not_full = rw busy refl;
-    }
+makes_nothing head xs k op lawful w = go (due_entry head xs w.other) refl w.due
+  where
+    go : (o : Option Event) → due_entry head xs w.other ≡ o → IsSome o → MakesNoEvent head xs k op
+    go None f h = absurd (true≢false (sym h))
+    go (Some e) f h =
+        let s = facts head xs lawful in
+        let d = due_by head xs w.other e f in
+        let busy = is_its_own xs k w.has in
+        record {
+          no_event = rw (busy, others_none head xs w.other k e s d w.is_other, holder_none head xs w.other k e s d w.has) refl;
+          not_full = rw busy refl;
+        }

@@ -1,11 +1,11 @@
 //! The run of a script.
 
-ghost use Rattle.std.specs.Prelude.{◌≡◌, ◌<◌, OnOk, OnErr, length, true};
+ghost use Rattle.std.specs.Prelude.{◌≡◌, ◌↔◌, ◌<◌, OnOk, OnErr, length, true};
 ghost use Rattle.hp_model.specs.Processors.{present};
 ghost use Rattle.hp_model.specs.ScriptTurns.{turn};
 ghost use Rattle.hp_event.specs.declared.op.Op.{Op as AnOp};
 ghost use Rattle.hp_actors.specs.Asking.{IsReached};
-ghost use Rattle.hp_actors.specs.Waiting.{MakesNoEvent};
+ghost use Rattle.hp_actors.specs.Waiting.{MakesNoEvent, WaitsForThread};
 ghost use Rattle.hp_model.specs.Scripts.{IsScript};
 
 use crate::actor::{Actor, Waits};
@@ -113,7 +113,8 @@ impl<H: Hook> Run<H> {
 /// Whether what comes next of a seat's walk or registration in flight is another seat's entry: until that is
 /// made, a turn of the seat makes nothing. Takes no memory.
 fn waits_for_thread<H: Hook>(board: &Board<H>, seat: u32) -> bool
-    ensures { result ≡ true → (op : AnOp) → MakesNoEvent board.now.head board.now.events seat op }
+    ensures exactly { (result ≡ true) ↔ WaitsForThread board.now.head board.now.events seat }
+    ensures nothing { result ≡ true → (op : AnOp) → MakesNoEvent board.now.head board.now.events seat op }
 {
     board.sound();
     match board.due_seat() {

@@ -32,7 +32,7 @@ returns-in-Unknown g c = λ yes.
     let at = looked_up g (goal.at.returns-in-Unknown g c).In-Some in
     subst (λ (p : Position). turn p.head p.actors p.progress c.args.seat ≡ p.progress) c.self.view_is
     (passed_by c.self.inside.board threads place c.args.seat c.self.inside.actors.items c.in-Some.actor.now c.self.invariant.playing here at
-    (c.waits_for_thread.ensures yes))
+    (c.waits_for_thread.ensures.nothing yes))
 
 pub returns-in-WhileMapHeld : goal.returns-in-WhileMapHeld
 returns-in-WhileMapHeld g c = λ yes.
