@@ -165,9 +165,9 @@ fn schedules_interleave_two_actors(rt: HostRuntime) -> Result<(), Fail> {
     for (schedule, seats, marks) in ROWS {
         let mut rack = rack(rt.alloc())?;
         let (made_by, last) = played(rt.alloc(), schedule, &mut rack)?;
-        assert_eq!(rt; made_by.as_slice(), seats.as_slice());
-        assert_eq!(rt; last, Some(LAST));
-        assert_eq!(rt; seen(&rack), Some((marks, MADE)));
+        assert!(rt; made_by.as_slice() == seats.as_slice());
+        assert!(rt; last == Some(LAST));
+        assert!(rt; seen(&rack) == Some((marks, MADE)));
     }
     Ok(())
 }

@@ -68,14 +68,14 @@ fn the_hooks_go_behind_those_of_the_rack(rt: HostRuntime) -> Result<(), Fail> {
         hook: ScriptHook::new(),
     })?;
     match board.retire(&mut rack) {
-        Ok(journal) => assert_eq!(rt; journal.len(), 9),
+        Ok(journal) => assert!(rt; journal.len() == 9),
         Err((error, _)) => return Err(Fail::from(error)),
     }
     let mut marks = Vec::new(rt.alloc());
     for marked in rack.hooks.iter() {
         marks.push(marked.mark)?;
     }
-    assert_eq!(rt; marks.as_slice(), [200u32, 120, 150].as_slice());
+    assert!(rt; marks.as_slice() == [200u32, 120, 150].as_slice());
     Ok(())
 }
 
@@ -83,7 +83,7 @@ fn the_hooks_go_behind_those_of_the_rack(rt: HostRuntime) -> Result<(), Fail> {
 fn the_states_file_names_what_is_registered(rt: HostRuntime) -> Result<(), Fail> {
     let board = played(rt.alloc(), TWO_SETUPS.as_slice())?;
     let text = board.states_text(rt.alloc())?;
-    assert_eq!(rt; text.as_slice(), STATES);
+    assert!(rt; text.as_slice() == STATES);
     Ok(())
 }
 
@@ -136,6 +136,6 @@ fn a_board_says_how_it_stands(rt: HostRuntime) -> Result<(), Fail> {
     let mut board = board(rt.alloc(), subsystem(rt.alloc(), None)?, 1)?;
     assert!(rt; stands(&mut board, ask(HIGHER), SETTING_UP.as_slice())?);
     assert!(rt; stands(&mut board, ask(Op::Up(1)), BRINGING_UP.as_slice())?);
-    assert_eq!(rt; (board.clients(), board.disabled()), (1, 0));
+    assert!(rt; (board.clients(), board.disabled()) == (1, 0));
     Ok(())
 }

@@ -269,7 +269,7 @@ fn two_readers_and_a_registration_keep_a_walk_out(rt: HostRuntime) -> Result<(),
     let mut board = board(rt.alloc(), subsystem(rt.alloc(), None)?, 4)?;
     let played = play(rt.alloc(), &mut board, READERS.as_slice())?;
     assert!(rt; played == (None, None));
-    assert_eq!(rt; board.journal().len(), 20);
+    assert!(rt; board.journal().len() == 20);
     Ok(())
 }
 

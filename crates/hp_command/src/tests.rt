@@ -16,7 +16,7 @@ fn assert_commands(
         for word in *row {
             words.push(String::from_str(alloc, word)?)?;
         }
-        assert_eq!(rt; command_of(alloc, &words)?, *wanted);
+        assert!(rt; command_of(alloc, &words)? == *wanted);
     }
     Ok(())
 }

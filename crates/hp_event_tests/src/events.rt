@@ -54,12 +54,12 @@ fn a_name_keeps_its_bytes(rt: HostRuntime) -> Result<(), Fail> {
     for byte in b"net:a" {
         name.push(*byte)?;
     }
-    assert_eq!(rt; name.as_slice(), b"net:a".as_slice());
+    assert!(rt; name.as_slice() == b"net:a".as_slice());
     let copy = name.copy()?;
-    assert_eq!(rt; copy.as_slice(), b"net:a".as_slice());
-    assert_eq!(rt; copy.into_vec().as_slice(), b"net:a".as_slice());
+    assert!(rt; copy.as_slice() == b"net:a".as_slice());
+    assert!(rt; copy.into_vec().as_slice() == b"net:a".as_slice());
     let made = Name::from(name.into_vec());
-    assert_eq!(rt; made.as_slice(), b"net:a".as_slice());
+    assert!(rt; made.as_slice() == b"net:a".as_slice());
     Ok(())
 }
 
@@ -68,10 +68,10 @@ fn numbers_and_keys_keep_their_order(rt: HostRuntime) -> Result<(), Fail> {
     let mut numbers = Numbers::new(rt.alloc());
     numbers.push(5)?;
     numbers.push(3)?;
-    assert_eq!(rt; numbers.as_slice(), [5, 3].as_slice());
-    assert_eq!(rt; numbers.copy()?.as_slice(), [5, 3].as_slice());
+    assert!(rt; numbers.as_slice() == [5, 3].as_slice());
+    assert!(rt; numbers.copy()?.as_slice() == [5, 3].as_slice());
     let made = Numbers::from(numbers.into_vec());
-    assert_eq!(rt; made.as_slice(), [5, 3].as_slice());
+    assert!(rt; made.as_slice() == [5, 3].as_slice());
 
     let first = Key {
         state: 120,
@@ -84,10 +84,10 @@ fn numbers_and_keys_keep_their_order(rt: HostRuntime) -> Result<(), Fail> {
     let mut keys = Keys::new(rt.alloc());
     keys.push(first)?;
     keys.push(second)?;
-    assert_eq!(rt; keys.as_slice(), [first, second].as_slice());
-    assert_eq!(rt; keys.copy()?.as_slice(), [first, second].as_slice());
+    assert!(rt; keys.as_slice() == [first, second].as_slice());
+    assert!(rt; keys.copy()?.as_slice() == [first, second].as_slice());
     let made = Keys::from(keys.into_vec());
-    assert_eq!(rt; made.as_slice(), [first, second].as_slice());
+    assert!(rt; made.as_slice() == [first, second].as_slice());
     Ok(())
 }
 
@@ -102,17 +102,17 @@ fn a_copied_head_is_equal(rt: HostRuntime) -> Result<(), Fail> {
         subs: Subs::from(subs.into_vec()),
     };
     let copy = head.copy()?;
-    assert_eq!(rt; copy.possible, 4);
-    assert_eq!(rt; copy.absent.as_slice(), [2, 3].as_slice());
+    assert!(rt; copy.possible == 4);
+    assert!(rt; copy.absent.as_slice() == [2, 3].as_slice());
     let copies = copy.subs.copy()?;
     let copied = copies.as_slice();
-    assert_eq!(rt; copied.len(), 2);
-    assert_eq!(rt; copied[0].name.as_slice(), b"net:a".as_slice());
+    assert!(rt; copied.len() == 2);
+    assert!(rt; copied[0].name.as_slice() == b"net:a".as_slice());
     let second = copied[1].copy()?;
-    assert_eq!(rt; second.name.as_slice(), b"net:b".as_slice());
-    assert_eq!(rt; (second.up, second.down, second.multi), (true, false, true));
-    assert_eq!(rt; second.plan.rules().len(), 1);
-    assert_eq!(rt; head.subs.as_slice()[1].plan.rules(), second.plan.rules());
+    assert!(rt; second.name.as_slice() == b"net:b".as_slice());
+    assert!(rt; (second.up, second.down, second.multi) == (true, false, true));
+    assert!(rt; second.plan.rules().len() == 1);
+    assert!(rt; head.subs.as_slice()[1].plan.rules() == second.plan.rules());
     Ok(())
 }
 
@@ -126,10 +126,10 @@ fn a_head_knows_its_processors_and_subsystems(rt: HostRuntime) -> Result<(), Fai
         subs,
     };
     for (cpu, present) in [(0, true), (1, false), (2, true), (3, false), (4, false)] {
-        assert_eq!(rt; head.is_present(cpu), present, "at {cpu}");
+        assert!(rt; head.is_present(cpu) == present, "at {cpu}");
     }
     for (number, there) in [(0, false), (1, true), (2, false), (u32::MAX, false)] {
-        assert_eq!(rt; head.sub(number).is_some(), there, "at {number}");
+        assert!(rt; head.sub(number).is_some() == there, "at {number}");
     }
     Ok(())
 }
@@ -144,10 +144,7 @@ fn entries_are_done_or_faults(rt: HostRuntime) {
         (How::Presumed, true, false, None),
         (How::Overruled(5), true, true, None),
     ] {
-        assert_eq!(rt;
-            (how.is_done(), how.is_called(), how.fault()),
-            (done, called, fault)
-        );
+        assert!(rt; (how.is_done(), how.is_called(), how.fault()) == (done, called, fault));
     }
     let forward = Place::Forward;
     for (code, dir, state, how) in [
@@ -156,9 +153,8 @@ fn entries_are_done_or_faults(rt: HostRuntime) {
         (5, Dir::Up, 80, How::Overruled(5)),
         (5, Dir::Down, 30, How::Overruled(5)),
     ] {
-        assert_eq!(rt;
-            How::of_answer(code, dir, state, forward),
-            how,
+        assert!(rt;
+            How::of_answer(code, dir, state, forward) == how,
             "at {state}"
         );
     }
@@ -176,18 +172,14 @@ fn operations_say_what_they_take(rt: HostRuntime) {
         form,
     };
     let remove = Op::Remove { state: 41, form };
-    assert_eq!(rt;
-        (setup.form(), remove.form(), Op::Thaw.form()),
-        (Some(form), Some(form), None)
-    );
-    assert_eq!(rt; (setup.is_adding(), remove.is_adding()), (true, false));
-    assert_eq!(rt;
+    assert!(rt; (setup.form(), remove.form(), Op::Thaw.form()) == (Some(form), Some(form), None));
+    assert!(rt; (setup.is_adding(), remove.is_adding()) == (true, false));
+    assert!(rt;
         (
             setup.takes_map(),
             Op::Thaw.takes_map(),
             Op::Lock.takes_map()
-        ),
-        (false, true, false)
+        ) == (false, true, false)
     );
 }
 
@@ -205,7 +197,7 @@ fn answers_leave_processors_where_they_say(rt: HostRuntime) {
         (stuck, 119),
         (Answer::LogFull, 7),
     ] {
-        assert_eq!(rt; answer.leaves_at(200, 7), at);
+        assert!(rt; answer.leaves_at(200, 7) == at);
     }
 }
 
@@ -220,12 +212,12 @@ fn keys_are_ordered_by_state_and_then_instance(rt: HostRuntime) {
 #[test]
 fn a_journal_appends_what_was_promised(rt: HostRuntime) -> Result<(), Fail> {
     let mut journal = Journal::new(rt.alloc(), empty_head(rt.alloc()));
-    assert_eq!(rt; journal.head().possible, 2);
-    assert_eq!(rt; (journal.len(), journal.promised()), (0, 0));
+    assert!(rt; journal.head().possible == 2);
+    assert!(rt; (journal.len(), journal.promised()) == (0, 0));
     assert!(rt; journal.is_empty());
     journal.reserve(3)?;
-    assert_eq!(rt; journal.promised(), 3);
-    assert_eq!(rt; journal.spare(), 3);
+    assert!(rt; journal.promised() == 3);
+    assert!(rt; journal.spare() == 3);
     let admit = Event::Admit {
         seat: 0,
         role: Role::Ap(1),
@@ -233,12 +225,12 @@ fn a_journal_appends_what_was_promised(rt: HostRuntime) -> Result<(), Fail> {
     let leave = Event::Leave { seat: 0 };
     journal.push(admit);
     journal.push(leave);
-    assert_eq!(rt; (journal.len(), journal.promised()), (2, 1));
+    assert!(rt; (journal.len(), journal.promised()) == (2, 1));
     journal.give_back(1);
-    assert_eq!(rt; (journal.len(), journal.promised()), (2, 0));
-    assert_eq!(rt; *journal.get(0), admit);
-    assert_eq!(rt; *journal.get(1), leave);
-    assert_eq!(rt; journal.events(), [admit, leave].as_slice());
+    assert!(rt; (journal.len(), journal.promised()) == (2, 0));
+    assert!(rt; *journal.get(0) == admit);
+    assert!(rt; *journal.get(1) == leave);
+    assert!(rt; journal.events() == [admit, leave].as_slice());
     assert!(rt; !journal.is_empty());
     Ok(())
 }
@@ -248,14 +240,14 @@ fn the_last_places_are_promised_and_no_more(rt: HostRuntime) -> Result<(), Fail>
     let mut journal = Journal::new(rt.alloc(), empty_head(rt.alloc()));
     journal.reserve(MAX_EVENTS - 3)?;
     push_all(&mut journal);
-    assert_eq!(rt; journal.len(), 1_048_573);
-    assert_eq!(rt; journal.reserve(4), Err(JournalError::Full));
-    assert_eq!(rt; journal.reserve(u32::MAX), Err(JournalError::Full));
-    assert_eq!(rt; journal.promised(), 0);
-    assert_eq!(rt; journal.reserve(3), Ok(()));
-    assert_eq!(rt; journal.reserve(1), Err(JournalError::Full));
-    assert_eq!(rt; journal.reserve(0), Ok(()));
-    assert_eq!(rt; (journal.promised(), journal.spare()), (3, 3));
+    assert!(rt; journal.len() == MAX_EVENTS - 3);
+    assert!(rt; journal.reserve(4) == Err(JournalError::Full));
+    assert!(rt; journal.reserve(u32::MAX) == Err(JournalError::Full));
+    assert!(rt; journal.promised() == 0);
+    assert!(rt; journal.reserve(3) == Ok(()));
+    assert!(rt; journal.reserve(1) == Err(JournalError::Full));
+    assert!(rt; journal.reserve(0) == Ok(()));
+    assert!(rt; (journal.promised(), journal.spare()) == (3, 3));
     Ok(())
 }
 
@@ -271,25 +263,19 @@ fn a_million_single_promises_are_cheap(rt: HostRuntime) -> Result<(), Fail> {
         }
         spare = journal.spare();
     }
-    assert_eq!(rt; growths, 21);
+    assert!(rt; growths == 21);
     push_all(&mut journal);
-    assert_eq!(rt; journal.len(), 1_000_000);
+    assert!(rt; journal.len() == 1_000_000);
     Ok(())
 }
 
 #[test]
 fn events_are_small_and_errors_have_texts(rt: HostRuntime) -> Result<(), Fail> {
-    assert_eq!(rt; size_of::<Event>(), 32);
-    assert_eq!(rt;
-        (JournalError::Full as u32, JournalError::NoMemory as u32),
-        (1, 2)
-    );
+    assert!(rt; size_of::<Event>() == 32);
+    assert!(rt; (JournalError::Full as u32, JournalError::NoMemory as u32) == (1, 2));
     let full = JournalError::Full;
     let none = JournalError::NoMemory;
     let texts = format!(in rt.alloc(); "{full} {none} {NoMemory}")?;
-    assert_eq!(rt;
-        texts.as_str(),
-        "the journal is full out of memory out of memory"
-    );
+    assert!(rt; texts.as_str() == "the journal is full out of memory out of memory");
     Ok(())
 }

@@ -50,7 +50,7 @@ fn check<H: Hook>(
     wanted: &[u8],
 ) -> Result<(), Fail> {
     let text = show_states(alloc, head, table)?;
-    assert_eq!(rt; text.as_slice(), wanted);
+    assert!(rt; text.as_slice() == wanted);
     Ok(())
 }
 

@@ -25,7 +25,7 @@ fn numbers_are_read(rt: HostRuntime) -> Result<(), Fail> {
         (b"-0000000200\n", -200),
     ];
     for (bytes, number) in rows {
-        assert_eq!(rt; read_i32(bytes), Ok(number));
+        assert!(rt; read_i32(bytes) == Ok(number));
     }
     Ok(())
 }
@@ -61,7 +61,7 @@ fn other_bytes_say_no_number(rt: HostRuntime) -> Result<(), Fail> {
         b"-21474836480\n",
     ];
     for bytes in rows {
-        assert_eq!(rt; read_i32(bytes), Err(BadNumber));
+        assert!(rt; read_i32(bytes) == Err(BadNumber));
     }
     Ok(())
 }
@@ -79,8 +79,8 @@ fn numbers_are_shown(rt: HostRuntime) -> Result<(), Fail> {
     for (number, bytes) in rows {
         let mut buf = [b'.'; 12];
         let count = show_number(number, &mut buf);
-        assert_eq!(rt; buf.as_slice(), &bytes[..12]);
-        assert_eq!(rt; read_i32(&buf[..count]), Ok(number));
+        assert!(rt; buf.as_slice() == &bytes[..12]);
+        assert!(rt; read_i32(&buf[..count]) == Ok(number));
     }
     Ok(())
 }
@@ -120,7 +120,7 @@ fn table_of(alloc: Global) -> Result<Table<ScriptHook>, Fail> {
 fn targets(rt: HostRuntime) -> Result<(), Fail> {
     let table = table_of(rt.alloc())?;
     for state in [0, 10, 20, 120, 130, 150, 199, 200] {
-        assert_eq!(rt; check_target(&table, state as i32), Ok(state));
+        assert!(rt; check_target(&table, state as i32) == Ok(state));
     }
     let refused = [
         i32::MIN,
@@ -139,7 +139,7 @@ fn targets(rt: HostRuntime) -> Result<(), Fail> {
         i32::MAX,
     ];
     for value in refused {
-        assert_eq!(rt; check_target(&table, value), Err(22));
+        assert!(rt; check_target(&table, value) == Err(22));
     }
     Ok(())
 }
@@ -159,7 +159,7 @@ fn armed_states(rt: HostRuntime) -> Result<(), Fail> {
         (150, 150),
     ];
     for (value, shown) in rows {
-        assert_eq!(rt; check_fail(&table, value, shown), Ok(value));
+        assert!(rt; check_fail(&table, value, shown) == Ok(value));
     }
     let refused = [
         (i32::MIN, 0),
@@ -180,7 +180,7 @@ fn armed_states(rt: HostRuntime) -> Result<(), Fail> {
         (i32::MAX, 0),
     ];
     for (value, shown) in refused {
-        assert_eq!(rt; check_fail(&table, value, shown), Err(22));
+        assert!(rt; check_fail(&table, value, shown) == Err(22));
     }
     Ok(())
 }

@@ -78,10 +78,10 @@ fn answers<H: Hook>(rt: &impl std::process::Abort, hook: &mut H) {
         (0, 0, Dir::Up, 11),
     ] {
         assert!(rt; hook.made() < u64::from(MAX_EVENTS));
-        assert_eq!(rt; hook.call(cpu, inst, dir), want);
+        assert!(rt; hook.call(cpu, inst, dir) == want);
     }
-    assert_eq!(rt; hook.made(), 6);
-    assert_eq!(rt; hook.faults(), 4);
+    assert!(rt; hook.made() == 6);
+    assert!(rt; hook.faults() == 4);
 }
 
 #[test]
@@ -109,7 +109,7 @@ fn hooks_of_three_types_answer(rt: HostRuntime) -> Result<(), AllocError> {
     if let Some(mut hook) = rack.hooks.pop() {
         answers(&rt, &mut hook);
     }
-    assert_eq!(rt; calls.load(Ordering::SeqCst), 12);
+    assert!(rt; calls.load(Ordering::SeqCst) == 12);
     Ok(())
 }
 
@@ -117,13 +117,13 @@ fn hooks_of_three_types_answer(rt: HostRuntime) -> Result<(), AllocError> {
 fn what_comes_next_is_answered_without_a_count(rt: HostRuntime) {
     let mut hook = ScriptHook::new();
     hook.load(three_rules());
-    assert_eq!(&rt; hook.answer_to(0, 3, Dir::Up), 11);
-    assert_eq!(&rt; hook.call(0, 3, Dir::Up), 11);
-    assert_eq!(&rt; hook.answer_to(0, 3, Dir::Up), 5);
-    assert_eq!(&rt; hook.answer_to(0, 3, Dir::Up), 5);
-    assert_eq!(&rt; hook.made(), 1);
-    assert_eq!(&rt; hook.answer_to(0, 2, Dir::Down), 16);
-    assert_eq!(&rt; hook.answer_to(1, 3, Dir::Up), 0);
+    assert!(&rt; hook.answer_to(0, 3, Dir::Up) == 11);
+    assert!(&rt; hook.call(0, 3, Dir::Up) == 11);
+    assert!(&rt; hook.answer_to(0, 3, Dir::Up) == 5);
+    assert!(&rt; hook.answer_to(0, 3, Dir::Up) == 5);
+    assert!(&rt; hook.made() == 1);
+    assert!(&rt; hook.answer_to(0, 2, Dir::Down) == 16);
+    assert!(&rt; hook.answer_to(1, 3, Dir::Up) == 0);
 }
 
 #[test]
@@ -132,10 +132,10 @@ fn a_plan_is_counted_as_data(rt: HostRuntime) -> Result<(), AllocError> {
     let mut counted = CountedPlan::new(three_rules());
     let mut other = counted.clone()?;
     counted.count(0, 0, Dir::Up);
-    assert_eq!(&rt; counted.answer_to(0, 1, Dir::Up), 5);
-    assert_eq!(&rt; other.answer_to(0, 1, Dir::Up), 11);
-    assert_eq!(&rt; other.count_and_answer(0, 1, Dir::Up), 11);
-    assert_eq!(&rt; other.answer_to(0, 1, Dir::Up), 5);
+    assert!(&rt; counted.answer_to(0, 1, Dir::Up) == 5);
+    assert!(&rt; other.answer_to(0, 1, Dir::Up) == 11);
+    assert!(&rt; other.count_and_answer(0, 1, Dir::Up) == 11);
+    assert!(&rt; other.answer_to(0, 1, Dir::Up) == 5);
     assert!(&rt; counted.plan() == &three_rules());
     Ok(())
 }
@@ -143,13 +143,13 @@ fn a_plan_is_counted_as_data(rt: HostRuntime) -> Result<(), AllocError> {
 #[test]
 fn a_plan_begins_again(rt: HostRuntime) {
     let mut hook = ScriptHook::new();
-    assert_eq!(&rt; hook.call(0, 0, Dir::Up), 0);
+    assert!(&rt; hook.call(0, 0, Dir::Up) == 0);
     hook.load(three_rules());
-    assert_eq!(&rt; hook.call(0, 0, Dir::Up), 11);
+    assert!(&rt; hook.call(0, 0, Dir::Up) == 11);
     hook.load(three_rules());
-    assert_eq!(&rt; hook.call(0, 0, Dir::Up), 11);
-    assert_eq!(&rt; hook.made(), 1);
+    assert!(&rt; hook.call(0, 0, Dir::Up) == 11);
+    assert!(&rt; hook.made() == 1);
     hook.load(HookPlan::none());
-    assert_eq!(&rt; hook.call(0, 0, Dir::Up), 0);
-    assert_eq!(&rt; hook.faults(), 0);
+    assert!(&rt; hook.call(0, 0, Dir::Up) == 0);
+    assert!(&rt; hook.faults() == 0);
 }

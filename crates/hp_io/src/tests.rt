@@ -10,9 +10,9 @@ fn a_source_is_read_to_its_end(rt: HostRuntime) -> Result<(), Fail> {
     let alloc = rt.alloc();
     let mut source = MemSource::new(alloc, b"cpus 2\n".to_vec(alloc)?);
     let bytes = read_up_to(alloc, &mut source, 7)?;
-    assert_eq!(rt; bytes.as_slice(), b"cpus 2\n".as_slice());
-    assert_eq!(rt; source.at, 7);
-    assert_eq!(rt; source.faults, 0);
+    assert!(rt; bytes.as_slice() == b"cpus 2\n".as_slice());
+    assert!(rt; source.at == 7);
+    assert!(rt; source.faults == 0);
     Ok(())
 }
 
@@ -21,8 +21,8 @@ fn one_byte_past_the_limit_is_read_and_no_more(rt: HostRuntime) -> Result<(), Fa
     let alloc = rt.alloc();
     let mut source = MemSource::new(alloc, b"cpus 2\n".to_vec(alloc)?);
     let bytes = read_up_to(alloc, &mut source, 3)?;
-    assert_eq!(rt; bytes.as_slice(), b"cpus".as_slice());
-    assert_eq!(rt; source.at, 4);
+    assert!(rt; bytes.as_slice() == b"cpus".as_slice());
+    assert!(rt; source.at == 4);
     Ok(())
 }
 
@@ -32,8 +32,8 @@ fn a_long_source_is_read_in_chunks(rt: HostRuntime) -> Result<(), Fail> {
     let alloc = rt.alloc();
     let mut source = MemSource::new(alloc, vec![in alloc; 120u8; 100_000]?);
     let bytes = read_up_to(alloc, &mut source, 1_000_000)?;
-    assert_eq!(rt; bytes.len(), 100_000);
-    assert_eq!(rt; source.calls, 3);
+    assert!(rt; bytes.len() == 100_000);
+    assert!(rt; source.calls == 3);
     Ok(())
 }
 
@@ -43,14 +43,11 @@ fn a_read_fails_in_mid_stream(rt: HostRuntime) -> Result<(), Fail> {
     let mut source = MemSource::new(alloc, b"cpus 2\n".to_vec(alloc)?);
     source.step = 1;
     source.fails.push(3)?;
-    assert_eq!(rt;
-        read_up_to(alloc, &mut source, 100).err(),
-        Some(ReadError::Failed)
-    );
-    assert_eq!(rt; (source.at, source.calls, source.faults), (2, 3, 1));
+    assert!(rt; read_up_to(alloc, &mut source, 100).err() == Some(ReadError::Failed));
+    assert!(rt; (source.at, source.calls, source.faults) == (2, 3, 1));
     let rest = read_up_to(alloc, &mut source, 100)?;
-    assert_eq!(rt; rest.as_slice(), b"us 2\n".as_slice());
-    assert_eq!(rt; source.faults, 1);
+    assert!(rt; rest.as_slice() == b"us 2\n".as_slice());
+    assert!(rt; source.faults == 1);
     Ok(())
 }
 
@@ -61,8 +58,8 @@ fn a_write_is_whole(rt: HostRuntime) -> Result<(), Fail> {
     write_all(&mut sink, b"cpus 2\n")?;
     write_all(&mut sink, b"")?;
     write_all(&mut sink, b"up 1\n")?;
-    assert_eq!(rt; sink.bytes.as_slice(), b"cpus 2\nup 1\n".as_slice());
-    assert_eq!(rt; (sink.calls, sink.faults), (2, 0));
+    assert!(rt; sink.bytes.as_slice() == b"cpus 2\nup 1\n".as_slice());
+    assert!(rt; (sink.calls, sink.faults) == (2, 0));
     Ok(())
 }
 
@@ -72,11 +69,11 @@ fn a_write_fails_in_mid_stream(rt: HostRuntime) -> Result<(), Fail> {
     let mut sink = MemSink::new(alloc);
     sink.step = 1;
     sink.fails.push(2)?;
-    assert_eq!(rt; write_all(&mut sink, b"cpus 2\n"), Err(Failed));
-    assert_eq!(rt; sink.bytes.as_slice(), b"c".as_slice());
-    assert_eq!(rt; (sink.calls, sink.faults), (2, 1));
+    assert!(rt; write_all(&mut sink, b"cpus 2\n") == Err(Failed));
+    assert!(rt; sink.bytes.as_slice() == b"c".as_slice());
+    assert!(rt; (sink.calls, sink.faults) == (2, 1));
     write_all(&mut sink, b"up")?;
-    assert_eq!(rt; sink.bytes.as_slice(), b"cup".as_slice());
+    assert!(rt; sink.bytes.as_slice() == b"cup".as_slice());
     Ok(())
 }
 
@@ -87,10 +84,10 @@ fn the_number_of_calls_stands_at_its_end(rt: HostRuntime) -> Result<(), Fail> {
     let mut sink = MemSink::new(alloc);
     sink.calls = u64::MAX - 1;
     sink.fails.push(u64::MAX)?;
-    assert_eq!(rt; sink.write(b"up"), Err(Failed));
-    assert_eq!(rt; (sink.calls, sink.faults), (u64::MAX, 1));
-    assert_eq!(rt; sink.write(b"up"), Ok(2));
-    assert_eq!(rt; (sink.calls, sink.faults), (u64::MAX, 1));
+    assert!(rt; sink.write(b"up") == Err(Failed));
+    assert!(rt; (sink.calls, sink.faults) == (u64::MAX, 1));
+    assert!(rt; sink.write(b"up") == Ok(2));
+    assert!(rt; (sink.calls, sink.faults) == (u64::MAX, 1));
     Ok(())
 }
 
@@ -118,14 +115,11 @@ impl Read for Torn {
 fn an_error_of_a_reader_is_a_fault(rt: HostRuntime) -> Result<(), Fail> {
     let alloc = rt.alloc();
     let mut source = RealSource::new(Torn { calls: 0 });
-    assert_eq!(rt;
-        read_up_to(alloc, &mut source, 100).err(),
-        Some(ReadError::Failed)
-    );
-    assert_eq!(rt; source.faults, 1);
+    assert!(rt; read_up_to(alloc, &mut source, 100).err() == Some(ReadError::Failed));
+    assert!(rt; source.faults == 1);
     let bytes = read_up_to(alloc, &mut source, 100)?;
     assert!(rt; bytes.is_empty());
-    assert_eq!(rt; source.faults, 1);
+    assert!(rt; source.faults == 1);
     Ok(())
 }
 
@@ -161,11 +155,11 @@ fn a_writer_that_takes_nothing_is_a_fault(rt: HostRuntime) -> Result<(), Fail> {
         calls: 0,
     };
     let mut sink = RealSink::new(writer);
-    assert_eq!(rt; write_all(&mut sink, b"cpus"), Err(Failed));
-    assert_eq!(rt; sink.faults, 1);
-    assert_eq!(rt; write_all(&mut sink, b"cpus"), Err(Failed));
-    assert_eq!(rt; sink.faults, 2);
-    assert_eq!(rt; sink.writer.bytes.as_slice(), b"c".as_slice());
+    assert!(rt; write_all(&mut sink, b"cpus") == Err(Failed));
+    assert!(rt; sink.faults == 1);
+    assert!(rt; write_all(&mut sink, b"cpus") == Err(Failed));
+    assert!(rt; sink.faults == 2);
+    assert!(rt; sink.writer.bytes.as_slice() == b"c".as_slice());
     Ok(())
 }
 
@@ -174,7 +168,7 @@ fn a_writer_that_takes_nothing_is_a_fault(rt: HostRuntime) -> Result<(), Fail> {
 fn standard_output_takes_bytes(rt: HostRuntime) -> Result<(), Fail> {
     let mut sink = RealSink::new(rt.stdout());
     write_all(&mut sink, b"up 1\n")?;
-    assert_eq!(rt; sink.faults, 0);
+    assert!(rt; sink.faults == 0);
     Ok(())
 }
 
@@ -183,6 +177,6 @@ fn standard_input_is_read_to_its_end(rt: HostRuntime) -> Result<(), Fail> {
     let mut source = RealSource::new(rt.stdin());
     let bytes = read_up_to(rt.alloc(), &mut source, 100)?;
     assert!(rt; bytes.is_empty());
-    assert_eq!(rt; source.faults, 0);
+    assert!(rt; source.faults == 0);
     Ok(())
 }

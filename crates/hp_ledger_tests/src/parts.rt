@@ -7,19 +7,19 @@ use std::test::Fail;
 #[test]
 fn seats_have_the_next_number_and_leave_it_empty(rt: HostRuntime) -> Result<(), Fail> {
     let mut seats = Seats::new(rt.alloc(), 2)?;
-    assert_eq!(rt; seats.admitted(), 0);
+    assert!(rt; seats.admitted() == 0);
     seats.admit(Role::Ap(1))?;
     seats.admit(Role::Client)?;
-    assert_eq!(rt; seats.admitted(), 2);
-    assert_eq!(rt; seats.clients(), 1);
-    assert_eq!(rt; seats.role(0), Some(Role::Ap(1)));
-    assert_eq!(rt; seats.thread(1), Some(0));
-    assert_eq!(rt; seats.thread(0), None);
+    assert!(rt; seats.admitted() == 2);
+    assert!(rt; seats.clients() == 1);
+    assert!(rt; seats.role(0) == Some(Role::Ap(1)));
+    assert!(rt; seats.thread(1) == Some(0));
+    assert!(rt; seats.thread(0) == None);
     seats.leave(0);
-    assert_eq!(rt; seats.role(0), None);
-    assert_eq!(rt; seats.thread(1), None);
-    assert_eq!(rt; seats.role(1), Some(Role::Client));
-    assert_eq!(rt; seats.admitted(), 2);
+    assert!(rt; seats.role(0) == None);
+    assert!(rt; seats.thread(1) == None);
+    assert!(rt; seats.role(1) == Some(Role::Client));
+    assert!(rt; seats.admitted() == 2);
     Ok(())
 }
 
@@ -33,13 +33,13 @@ fn a_freeze_records_whom_it_took_down_and_a_thaw_empties_the_record(
     suspended.end_walk(Op::Freeze(0), 1, Answer::Ok(0));
     suspended.end_walk(Op::Freeze(0), 2, Answer::Fault(5));
     suspended.leave(Op::Freeze(0));
-    assert_eq!(rt; suspended.disabled(), 1);
-    assert_eq!(rt; suspended.frozen(), [false, true, false].as_slice());
-    assert_eq!(rt; suspended.wakeup(), false);
+    assert!(rt; suspended.disabled() == 1);
+    assert!(rt; suspended.frozen() == [false, true, false].as_slice());
+    assert!(rt; suspended.wakeup() == false);
     suspended.enter(Op::Thaw);
-    assert_eq!(rt; suspended.disabled(), 0);
+    assert!(rt; suspended.disabled() == 0);
     suspended.end_walk(Op::Thaw, 1, Answer::Ok(0));
     suspended.leave(Op::Thaw);
-    assert_eq!(rt; suspended.frozen(), [false, false, false].as_slice());
+    assert!(rt; suspended.frozen() == [false, false, false].as_slice());
     Ok(())
 }

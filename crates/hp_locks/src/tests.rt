@@ -10,9 +10,9 @@ fn seats_are_numbered_in_turn(rt: HostRuntime) -> Result<(), Fail> {
     let mut locks = Locks::new(rt.alloc());
     let first = locks.admit()?;
     let second = locks.admit()?;
-    assert_eq!(&rt; (first, second, locks.admitted()), (0, 1, 2));
+    assert!(&rt; (first, second, locks.admitted()) == (0, 1, 2));
     assert!(&rt; !locks.reading(1) && !locks.reading(2));
-    assert_eq!(&rt; locks.readers(), 0);
+    assert!(&rt; locks.readers() == 0);
     Ok(())
 }
 
@@ -61,16 +61,16 @@ fn a_walk_waits_for_readers_and_then_for_a_registration(rt: HostRuntime) -> Resu
     let walker = By {
         seat: locks.admit()?,
     };
-    assert_eq!(&rt; reader.read(&rt, &mut locks), Ok(()));
-    assert_eq!(&rt; walker.enter(&rt, &mut locks), Ok(()));
-    assert_eq!(&rt; reader.enter(&rt, &mut locks), Err(Why::MapsHeld(1)));
-    assert_eq!(&rt; walker.write(&rt, &mut locks), Err(Why::ReadersIn(1)));
-    assert_eq!(&rt; reader.register(&rt, &mut locks), Ok(()));
-    assert_eq!(&rt; walker.register(&rt, &mut locks), Err(Why::RegIn(0)));
-    assert_eq!(&rt; walker.write(&rt, &mut locks), Err(Why::ReadersIn(1)));
+    assert!(&rt; reader.read(&rt, &mut locks) == Ok(()));
+    assert!(&rt; walker.enter(&rt, &mut locks) == Ok(()));
+    assert!(&rt; reader.enter(&rt, &mut locks) == Err(Why::MapsHeld(1)));
+    assert!(&rt; walker.write(&rt, &mut locks) == Err(Why::ReadersIn(1)));
+    assert!(&rt; reader.register(&rt, &mut locks) == Ok(()));
+    assert!(&rt; walker.register(&rt, &mut locks) == Err(Why::RegIn(0)));
+    assert!(&rt; walker.write(&rt, &mut locks) == Err(Why::ReadersIn(1)));
     reader.unlock(&rt, &mut locks);
-    assert_eq!(&rt; walker.write(&rt, &mut locks), Err(Why::RegIn(0)));
-    assert_eq!(&rt; locks.readers(), 0);
+    assert!(&rt; walker.write(&rt, &mut locks) == Err(Why::RegIn(0)));
+    assert!(&rt; locks.readers() == 0);
     Ok(())
 }
 
@@ -83,19 +83,19 @@ fn a_walk_keeps_out_readers_and_registrations(rt: HostRuntime) -> Result<(), Fai
     let walker = By {
         seat: locks.admit()?,
     };
-    assert_eq!(&rt; walker.enter(&rt, &mut locks), Ok(()));
-    assert_eq!(&rt; walker.write(&rt, &mut locks), Ok(()));
-    assert_eq!(&rt; other.read(&rt, &mut locks), Err(Why::WriterIn(1)));
-    assert_eq!(&rt; other.register(&rt, &mut locks), Err(Why::WriterIn(1)));
+    assert!(&rt; walker.enter(&rt, &mut locks) == Ok(()));
+    assert!(&rt; walker.write(&rt, &mut locks) == Ok(()));
+    assert!(&rt; other.read(&rt, &mut locks) == Err(Why::WriterIn(1)));
+    assert!(&rt; other.register(&rt, &mut locks) == Err(Why::WriterIn(1)));
     assert!(&rt; locks.writer() == Some(walker.seat));
     locks.end_write(walker.seat);
-    assert_eq!(&rt; other.read(&rt, &mut locks), Ok(()));
-    assert_eq!(&rt; other.register(&rt, &mut locks), Ok(()));
+    assert!(&rt; other.read(&rt, &mut locks) == Ok(()));
+    assert!(&rt; other.register(&rt, &mut locks) == Ok(()));
     assert!(&rt; locks.registrar() == Some(other.seat));
     locks.end_reg(other.seat);
     assert!(&rt; locks.map_holder() == Some(walker.seat));
     locks.leave_maps(walker.seat);
-    assert_eq!(&rt; other.enter(&rt, &mut locks), Ok(()));
-    assert_eq!(&rt; locks.readers(), 1);
+    assert!(&rt; other.enter(&rt, &mut locks) == Ok(()));
+    assert!(&rt; locks.readers() == 1);
     Ok(())
 }

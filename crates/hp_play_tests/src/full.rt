@@ -3,6 +3,7 @@
 use hp_board::{Ask, Board, CpuPlan, Turn};
 use hp_event::{Answer, Numbers, Op, Role, Subs};
 use hp_hook::ScriptHook;
+use hp_states::MAX_EVENTS;
 use std::alloc::Global;
 use std::test::*;
 
@@ -44,7 +45,7 @@ fn answer(board: &mut Board<ScriptHook>, op: Op) -> Result<Answer, Fail> {
 
 /// What `up 1` is answered after so many reads of a state, the processor's state then, and the journal's
 /// length.
-fn up_after(alloc: Global, reads: u32) -> Result<(Answer, u32, usize), Fail> {
+fn up_after(alloc: Global, reads: u32) -> Result<(Answer, u32, u32), Fail> {
     let mut board = board(alloc)?;
     for _ in 0..reads {
         if answer(&mut board, Op::ShowState(0))? != Answer::Ok(200) {
@@ -55,18 +56,12 @@ fn up_after(alloc: Global, reads: u32) -> Result<(Answer, u32, usize), Fail> {
     if board.journal().head().possible != 2 {
         return Err(Fail::from("the board has two processors"));
     }
-    Ok((up, board.state(1), board.journal().events().len()))
+    Ok((up, board.state(1), board.journal().len()))
 }
 
 #[test]
 fn an_up_fits_or_finds_the_journal_full(rt: HostRuntime) -> Result<(), Fail> {
-    assert_eq!(rt;
-        up_after(rt.alloc(), 1_048_564)?,
-        (Answer::Ok(0), 200, 1_048_571)
-    );
-    assert_eq!(rt;
-        up_after(rt.alloc(), 1_048_565)?,
-        (Answer::LogFull, 0, 1_048_570)
-    );
+    assert!(rt; up_after(rt.alloc(), MAX_EVENTS - 12)? == (Answer::Ok(0), 200, MAX_EVENTS - 5));
+    assert!(rt; up_after(rt.alloc(), MAX_EVENTS - 11)? == (Answer::LogFull, 0, MAX_EVENTS - 6));
     Ok(())
 }

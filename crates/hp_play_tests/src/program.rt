@@ -2,7 +2,7 @@
 
 use crate::caller::{ample_sink, run, run_with, some_hooks, source_of};
 use hp_hook::{Hook, Rack, ScriptHook};
-use hp_states::{Dir, HookPlan};
+use hp_states::{Dir, HookPlan, MAX_SCRIPT_BYTES};
 use std::alloc::Global;
 use std::sync::Arc;
 use std::sync::atomic::{AtomicU64, Ordering};
@@ -89,12 +89,12 @@ fn a_script_is_played(rt: HostRuntime) -> Result<(), Fail> {
     let alloc = rt.alloc();
     let mut rack = some_hooks(alloc, 4)?;
     let (status, written) = run(&rt, alloc, &["play"], SCRIPT, &mut rack)?;
-    assert_eq!(rt; status, 0);
-    assert_eq!(rt; written.as_slice(), PLAYED);
-    assert_eq!(rt; rack.hooks.len(), 4);
+    assert!(rt; status == 0);
+    assert!(rt; written.as_slice() == PLAYED);
+    assert!(rt; rack.hooks.len() == 4);
     for (hook, made) in rack.hooks.iter().zip([0, 0, 2, 2]) {
-        assert_eq!(rt; hook.made(), made);
-        assert_eq!(rt; hook.faults(), 0);
+        assert!(rt; hook.made() == made);
+        assert!(rt; hook.faults() == 0);
     }
     Ok(())
 }
@@ -111,9 +111,9 @@ fn hooks_of_the_caller_are_called(rt: HostRuntime) -> Result<(), Fail> {
     }
     let mut rack = Rack { hooks };
     let (status, _) = run(&rt, alloc, &["play"], SCRIPT, &mut rack)?;
-    assert_eq!(rt; status, 0);
-    assert_eq!(rt; rack.hooks.len(), 2);
-    assert_eq!(rt; calls.load(Ordering::SeqCst), 4);
+    assert!(rt; status == 0);
+    assert!(rt; rack.hooks.len() == 2);
+    assert!(rt; calls.load(Ordering::SeqCst) == 4);
     Ok(())
 }
 
@@ -128,8 +128,8 @@ fn each_failing_read_is_told(rt: HostRuntime) -> Result<(), Fail> {
         source.fails.push(call)?;
         let mut sink = ample_sink(alloc)?;
         let status = run_with(&rt, alloc, &["play"], &mut source, &mut sink, &mut rack)?;
-        assert_eq!(rt; status, 3, "read {call}");
-        assert_eq!(rt; (source.faults, sink.calls), (1, 0), "read {call}");
+        assert!(rt; status == 3, "read {call}");
+        assert!(rt; (source.faults, sink.calls) == (1, 0), "read {call}");
     }
     Ok(())
 }
@@ -145,10 +145,10 @@ fn each_failing_write_is_told(rt: HostRuntime) -> Result<(), Fail> {
         sink.step = 100;
         sink.fails.push(call)?;
         let status = run_with(&rt, alloc, &["play"], &mut source, &mut sink, &mut rack)?;
-        assert_eq!(rt; status, 4, "write {call}");
+        assert!(rt; status == 4, "write {call}");
         assert!(rt; PLAYED.starts_with(&sink.bytes), "write {call}");
         assert!(rt; sink.bytes.len() < PLAYED.len(), "write {call}");
-        assert_eq!(rt; sink.faults, 1, "write {call}");
+        assert!(rt; sink.faults == 1, "write {call}");
     }
     Ok(())
 }
@@ -158,11 +158,8 @@ fn too_few_hooks_for_a_generated_script(rt: HostRuntime) -> Result<(), Fail> {
     let alloc = rt.alloc();
     let mut rack = some_hooks(alloc, 11)?;
     let (status, written) = run(&rt, alloc, &["bench"], b"", &mut rack)?;
-    assert_eq!(rt; status, 2);
-    assert_eq!(rt;
-        written.as_slice(),
-        b"error: line 31: too many\n".as_slice()
-    );
+    assert!(rt; status == 2);
+    assert!(rt; written.as_slice() == b"error: line 31: too many\n".as_slice());
     Ok(())
 }
 
@@ -170,15 +167,12 @@ fn too_few_hooks_for_a_generated_script(rt: HostRuntime) -> Result<(), Fail> {
 fn nothing_is_decided_past_the_limit(rt: HostRuntime) -> Result<(), Fail> {
     let alloc = rt.alloc();
     let mut rack = some_hooks(alloc, 4)?;
-    let long = vec![in alloc; b'\n'; 1_048_700]?;
+    let long = vec![in alloc; b'\n'; MAX_SCRIPT_BYTES as usize + 100]?;
     let mut source = source_of(alloc, &long)?;
     let mut sink = ample_sink(alloc)?;
     let status = run_with(&rt, alloc, &["play"], &mut source, &mut sink, &mut rack)?;
-    assert_eq!(rt; status, 2);
-    assert_eq!(rt;
-        sink.bytes.as_slice(),
-        b"error: line 0: too long\n".as_slice()
-    );
-    assert_eq!(rt; source.at, 1_048_577);
+    assert!(rt; status == 2);
+    assert!(rt; sink.bytes.as_slice() == b"error: line 0: too long\n".as_slice());
+    assert!(rt; source.at == MAX_SCRIPT_BYTES as usize + 1);
     Ok(())
 }

@@ -4,59 +4,6 @@ use crate::caller::{Row, check};
 use std::test::*;
 
 const REGISTRATIONS: &[Row] = &[
-    // the third instance faults: the earlier two of its state are undone
-    Row {
-        words: &["play"],
-        input: b"\
-            cpus 2\n\
-            sub net:q both multi\n\
-            rule up 1 1 * 5\n\
-            actor a\n\
-            setup 150 1\n\
-            add 150 1\n\
-            add 150 2\n\
-            add 150 3\n\
-            up 1\n",
-        status: 0,
-        output: b"\
-            cpuhp journal 1\n\
-            cpus 2\n\
-            absent -\n\
-            sub net:q both multi\n\
-            rule up 1 1 * 5\n\
-            events\n\
-            admit 0 ap 0\n\
-            admit 1 ap 1\n\
-            admit 2 client\n\
-            reg 2 150 setup 150 1\n\
-            regged 2 ok 0\n\
-            reg 2 150 add 150 1\n\
-            call 0 0 150 1 up ok\n\
-            regged 2 ok 0\n\
-            reg 2 150 add 150 2\n\
-            call 0 0 150 2 up ok\n\
-            regged 2 ok 0\n\
-            reg 2 150 add 150 3\n\
-            call 0 0 150 3 up ok\n\
-            regged 2 ok 0\n\
-            enter 2 up 1\n\
-            walk 2 1 0 200\n\
-            call 1 1 150 3 up ok\n\
-            call 1 1 150 2 up ok\n\
-            call 1 1 150 1 up fault 5\n\
-            call 1 1 150 3 down ok\n\
-            call 1 1 150 2 down ok\n\
-            walked 2 1 fault 5\n\
-            done 2 fault 5\n\
-            end 23\n\
-            cpu 0 present state 200 keys 150.1 150.2 150.3\n\
-            cpu 1 present state 0 keys -\n\
-            disabled 0\n\
-            frozen -\n\
-            sub 150 net:q made 8 faults 1 instances 3 2 1\n\
-            ops ok 4 refused 0 fault 1 stuck 0 full 0\n\
-            events 23\n",
-    },
     // a setup faults on the third processor
     Row {
         words: &["play"],

@@ -96,11 +96,11 @@ fn each_schedule_ends_alike(rt: HostRuntime) -> Result<(), Fail> {
         script.extend_from_slice(ACTORS)?;
         let mut rack = some_hooks(alloc, 12)?;
         let (status, text) = run(&rt, alloc, &["play"], &script, &mut rack)?;
-        assert_eq!(rt; status, 0);
+        assert!(rt; status == 0);
         assert!(rt; text.ends_with(SUMMARY));
         let (status, summary) = run(&rt, alloc, &["replay"], &text, &mut rack)?;
-        assert_eq!(rt; status, 0);
-        assert_eq!(rt; summary.as_slice(), SUMMARY);
+        assert!(rt; status == 0);
+        assert!(rt; summary.as_slice() == SUMMARY);
     }
     Ok(())
 }

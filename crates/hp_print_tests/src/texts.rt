@@ -124,9 +124,9 @@ fn check_texts(
     overview: &[u8],
 ) -> Result<(), Fail> {
     let text = journal_text(alloc, journal)?;
-    assert_eq!(rt; text.as_slice(), wanted);
+    assert!(rt; text.as_slice() == wanted);
     let shown = summary(alloc, journal)?;
-    assert_eq!(rt; shown.as_slice(), overview);
+    assert!(rt; shown.as_slice() == overview);
     Ok(())
 }
 

@@ -65,12 +65,12 @@ fn check(
             dir: *dir,
             place: *place,
         };
-        assert_eq!(rt; step, call);
+        assert!(rt; step == call);
         assert!(rt; *cpu < MAX_CPUS);
         reg.took(*cpu, *how);
     }
     let step = reg.next(&table, scene.settled, scene.absent);
-    assert_eq!(rt; step, RegStep::Ended(answer));
+    assert!(rt; step == RegStep::Ended(answer));
     Ok(())
 }
 

@@ -102,7 +102,7 @@ pub fn assert_refusals(
     text: &[u8],
     changes: &[Change],
 ) -> Result<(), Fail> {
-    assert_eq!(rt; line_refused(alloc, text)?, None);
-    assert_eq!(rt; first_let_through(alloc, text, changes)?, None);
+    assert!(rt; line_refused(alloc, text)? == None);
+    assert!(rt; first_let_through(alloc, text, changes)? == None);
     Ok(())
 }

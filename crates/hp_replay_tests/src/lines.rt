@@ -146,7 +146,7 @@ fn other_lines_say_none(rt: HostRuntime) -> Result<(), Fail> {
     ] {
         for line in lines {
             let text = with_line(rt.alloc(), EACH_KIND, FIRST, line)?;
-            assert_eq!(rt; verdict_of(rt.alloc(), text.as_slice())?, Some((12, kind)));
+            assert!(rt; verdict_of(rt.alloc(), text.as_slice())? == Some((12, kind)));
         }
     }
     Ok(())

@@ -14,7 +14,7 @@ type Row = (&'static [u8], ReplayKind);
 const NUMBERS: [Row; 12] = [
     (b"0", Unlawful),
     (b"7", Unlawful),
-    (b"1048576", Unlawful),
+    (b"1000000", Unlawful),
     (b"4294967295", Unlawful),
     (b"4294967296", Syntax),
     (b"99999999999999999999999999", Syntax),
@@ -64,22 +64,13 @@ fn verdict_of_line(alloc: Global, words: &[u8], word: &[u8]) -> Result<Verdict, 
 #[test]
 fn numbers_of_their_types(rt: HostRuntime) -> Result<(), Fail> {
     for (word, kind) in NUMBERS {
-        assert_eq!(rt;
-            verdict_of_line(rt.alloc(), b"leave ", word)?,
-            Some((5, kind))
-        );
+        assert!(rt; verdict_of_line(rt.alloc(), b"leave ", word)? == Some((5, kind)));
     }
     for (word, kind) in INTEGERS {
-        assert_eq!(rt;
-            verdict_of_line(rt.alloc(), b"enter 2 target 1 ", word)?,
-            Some((5, kind))
-        );
+        assert!(rt; verdict_of_line(rt.alloc(), b"enter 2 target 1 ", word)? == Some((5, kind)));
     }
     for (word, kind) in COUNTS {
-        assert_eq!(rt;
-            verdict_of_line(rt.alloc(), b"end ", word)?,
-            Some((5, kind))
-        );
+        assert!(rt; verdict_of_line(rt.alloc(), b"end ", word)? == Some((5, kind)));
     }
     Ok(())
 }

@@ -119,7 +119,7 @@ const REFUSED: [Row; 75] = [
         ScriptKind::BadNumber,
     ),
     (
-        b"cpus 2\nsub a both single\nrule down 255 65535 1048576 4096\n",
+        b"cpus 2\nsub a both single\nrule down 255 65535 * 4096\n",
         2,
         3,
         ScriptKind::BadNumber,

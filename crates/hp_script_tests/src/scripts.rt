@@ -2,7 +2,7 @@
 
 use hp_event::{Form, Op};
 use hp_script::{ParseError, Schedule, Script, ScriptKind, parse};
-use hp_states::{Dir, MAX_EVENTS, Rule};
+use hp_states::{Dir, MAX_CODE, MAX_EVENTS, MAX_INSTANCE, MAX_RULE_CPU, Rule};
 use std::alloc::Global;
 use std::test::*;
 
@@ -114,7 +114,7 @@ fn lines_of_operations(rt: HostRuntime) -> Result<(), Fail> {
 
 /// A script with a line of each kind.
 const WHOLE: &'static [u8] =
-    b"# all\n\ncpus 8\nabsent 2 7\nsub - up multi\nrule down 255 * 1048576 4095\nrule up * 65535 * 1\nsub -b down single\nschedule mix 18446744073709551615 1000000\nactor a\nlock\nlock\nunlock\nactor b\nactor c\nup 1\n";
+    b"# all\n\ncpus 8\nabsent 2 7\nsub - up multi\nrule down 255 * 9 4095\nrule up * 65535 * 1\nsub -b down single\nschedule mix 18446744073709551615 1000000\nactor a\nlock\nlock\nunlock\nactor b\nactor c\nup 1\n";
 
 /// The rules of its first subsystem.
 const RULES: [Rule; 2] = [
@@ -122,7 +122,7 @@ const RULES: [Rule; 2] = [
         dir: Dir::Down,
         cpu: Some(255),
         inst: None,
-        nth: Some(MAX_EVENTS),
+        nth: Some(9),
         code: 4095,
     },
     Rule {
@@ -154,6 +154,49 @@ fn whole(rt: HostRuntime) -> Result<(), Fail> {
     assert!(rt; script.actors() == 3);
     for (actor, wanted) in ACTORS.iter().enumerate() {
         assert!(rt; ops(&script, actor as u32) == *wanted);
+    }
+    Ok(())
+}
+
+/// A rule's processor, instance, place and code, and whether a script may have them.
+const NUMBERS: [([u32; 4], bool); 5] = [
+    ([MAX_RULE_CPU, MAX_INSTANCE, MAX_EVENTS, MAX_CODE], true),
+    (
+        [MAX_RULE_CPU + 1, MAX_INSTANCE, MAX_EVENTS, MAX_CODE],
+        false,
+    ),
+    (
+        [MAX_RULE_CPU, MAX_INSTANCE + 1, MAX_EVENTS, MAX_CODE],
+        false,
+    ),
+    (
+        [MAX_RULE_CPU, MAX_INSTANCE, MAX_EVENTS + 1, MAX_CODE],
+        false,
+    ),
+    (
+        [MAX_RULE_CPU, MAX_INSTANCE, MAX_EVENTS, MAX_CODE + 1],
+        false,
+    ),
+];
+
+/// Why a script with a rule of these numbers, in its third line, is refused, if it is.
+fn refused(alloc: Global, numbers: [u32; 4]) -> Result<Option<ParseError>, Fail> {
+    let [cpu, inst, nth, code] = numbers;
+    let text = format!(in alloc;
+        "cpus 1\nsub a up multi\nrule up {cpu} {inst} {nth} {code}\nactor a\n"
+    )?;
+    Ok(parse(alloc, text.as_bytes(), 0).err())
+}
+
+#[test]
+fn the_numbers_of_a_rule_go_to_their_limits(rt: HostRuntime) -> Result<(), Fail> {
+    let bad = ParseError::Bad {
+        line: 3,
+        kind: ScriptKind::BadNumber,
+    };
+    for (numbers, is_read) in NUMBERS {
+        let wanted = if is_read { None } else { Some(bad) };
+        assert!(rt; refused(rt.alloc(), numbers)? == wanted);
     }
     Ok(())
 }

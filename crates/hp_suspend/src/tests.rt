@@ -21,64 +21,45 @@ fn up(cpu: u32) -> Asked {
 #[test]
 fn a_freeze_that_fails(rt: HostRuntime) -> Result<(), Fail> {
     let mut freeze = Freeze::begin(0, &[true, true, true, true]);
-    assert_eq!(&rt; freeze.next(&[true, true, true, true], false), down(1));
+    assert!(&rt; freeze.next(&[true, true, true, true], false) == down(1));
     freeze.took(Answer::Ok(0));
-    assert_eq!(&rt; freeze.next(&[true, false, true, true], false), down(2));
+    assert!(&rt; freeze.next(&[true, false, true, true], false) == down(2));
     freeze.took(Answer::Fault(6));
-    assert_eq!(&rt;
-        freeze.next(&[true, false, true, true], false),
-        Asked::Ended(Answer::Fault(6))
-    );
+    assert!(&rt; freeze.next(&[true, false, true, true], false) == Asked::Ended(Answer::Fault(6)));
     let mut thaw = Thaw::begin();
     let record = [false, true, false, false];
-    assert_eq!(&rt; thaw.next(&record, &[200, 0, 200, 200]), up(1));
+    assert!(&rt; thaw.next(&record, &[200, 0, 200, 200]) == up(1));
     thaw.took(Answer::Ok(0));
-    assert_eq!(&rt;
-        thaw.next(&record, &[200, 200, 200, 200]),
-        Asked::Ended(Answer::Ok(0))
-    );
+    assert!(&rt; thaw.next(&record, &[200, 200, 200, 200]) == Asked::Ended(Answer::Ok(0)));
     Ok(())
 }
 
 #[test]
 fn a_primary_that_is_offline(rt: HostRuntime) -> Result<(), Fail> {
     let mut freeze = Freeze::begin(2, &[false, true, false, true, true]);
-    assert_eq!(&rt;
-        freeze.next(&[false, true, false, true, true], false),
-        down(3)
-    );
+    assert!(&rt; freeze.next(&[false, true, false, true, true], false) == down(3));
     freeze.took(Answer::Ok(0));
-    assert_eq!(&rt;
-        freeze.next(&[false, true, false, false, true], false),
-        down(4)
-    );
+    assert!(&rt; freeze.next(&[false, true, false, false, true], false) == down(4));
     freeze.took(Answer::Ok(0));
-    assert_eq!(&rt;
-        freeze.next(&[false, true, false, false, false], false),
-        Asked::Ended(Answer::Ok(0))
+    assert!(&rt;
+        freeze.next(&[false, true, false, false, false], false) == Asked::Ended(Answer::Ok(0))
     );
     let lowest = Freeze::begin(-1, &[true, true]);
-    assert_eq!(&rt; lowest.next(&[true, true], false), down(1));
+    assert!(&rt; lowest.next(&[true, true], false) == down(1));
     let impossible = Freeze::begin(2, &[true, true]);
-    assert_eq!(&rt; impossible.next(&[true, true], false), down(1));
+    assert!(&rt; impossible.next(&[true, true], false) == down(1));
     let highest = Freeze::begin(1, &[true, true]);
-    assert_eq!(&rt; highest.next(&[true, true], false), down(0));
+    assert!(&rt; highest.next(&[true, true], false) == down(0));
     Ok(())
 }
 
 #[test]
 fn a_freeze_that_a_wakeup_stops(rt: HostRuntime) -> Result<(), Fail> {
     let mut freeze = Freeze::begin(0, &[true, true, true]);
-    assert_eq!(&rt;
-        freeze.next(&[true, true, true], true),
-        Asked::Ended(Answer::Refused(16))
-    );
+    assert!(&rt; freeze.next(&[true, true, true], true) == Asked::Ended(Answer::Refused(16)));
     freeze.took(Answer::Ok(0));
     freeze.took(Answer::Ok(0));
-    assert_eq!(&rt;
-        freeze.next(&[true, false, false], true),
-        Asked::Ended(Answer::Ok(0))
-    );
+    assert!(&rt; freeze.next(&[true, false, false], true) == Asked::Ended(Answer::Ok(0)));
     freeze.took(Answer::Stuck {
         first: 1,
         second: 2,
@@ -89,7 +70,7 @@ fn a_freeze_that_a_wakeup_stops(rt: HostRuntime) -> Result<(), Fail> {
         second: 2,
         at: 150,
     };
-    assert_eq!(&rt; freeze.next(&[true, true, true], true), Asked::Ended(stuck));
+    assert!(&rt; freeze.next(&[true, true, true], true) == Asked::Ended(stuck));
     Ok(())
 }
 
@@ -97,17 +78,11 @@ fn a_freeze_that_a_wakeup_stops(rt: HostRuntime) -> Result<(), Fail> {
 fn a_boot_that_stops_at_its_number(rt: HostRuntime) -> Result<(), Fail> {
     let present = [true, true, true, true];
     let mut boot = Boot::begin(2);
-    assert_eq!(&rt; boot.next(&present, &[true, false, false, false]), up(1));
+    assert!(&rt; boot.next(&present, &[true, false, false, false]) == up(1));
     boot.took(Answer::Ok(0));
-    assert_eq!(&rt;
-        boot.next(&present, &[true, true, false, false]),
-        Asked::Ended(Answer::Ok(0))
-    );
+    assert!(&rt; boot.next(&present, &[true, true, false, false]) == Asked::Ended(Answer::Ok(0)));
     let none = Boot::begin(0);
-    assert_eq!(&rt;
-        none.next(&present, &[true, false, false, false]),
-        Asked::Ended(Answer::Ok(0))
-    );
+    assert!(&rt; none.next(&present, &[true, false, false, false]) == Asked::Ended(Answer::Ok(0)));
     Ok(())
 }
 
@@ -115,22 +90,19 @@ fn a_boot_that_stops_at_its_number(rt: HostRuntime) -> Result<(), Fail> {
 fn a_thaw_after_a_fault(rt: HostRuntime) -> Result<(), Fail> {
     let record = [false, true, true, true, true];
     let mut thaw = Thaw::begin();
-    assert_eq!(&rt; thaw.next(&record, &[200, 0, 0, 0, 0]), up(1));
+    assert!(&rt; thaw.next(&record, &[200, 0, 0, 0, 0]) == up(1));
     thaw.took(Answer::Fault(7));
-    assert_eq!(&rt; thaw.next(&record, &[200, 0, 0, 0, 0]), up(2));
+    assert!(&rt; thaw.next(&record, &[200, 0, 0, 0, 0]) == up(2));
     thaw.took(Answer::Ok(0));
-    assert_eq!(&rt; thaw.next(&record, &[200, 0, 200, 0, 0]), up(3));
+    assert!(&rt; thaw.next(&record, &[200, 0, 200, 0, 0]) == up(3));
     thaw.took(Answer::Stuck {
         first: 7,
         second: 8,
         at: 150,
     });
-    assert_eq!(&rt; thaw.next(&record, &[200, 0, 200, 150, 0]), up(4));
+    assert!(&rt; thaw.next(&record, &[200, 0, 200, 150, 0]) == up(4));
     thaw.took(Answer::Fault(9));
-    assert_eq!(&rt;
-        thaw.next(&record, &[200, 0, 200, 150, 0]),
-        Asked::Ended(Answer::Ok(3))
-    );
+    assert!(&rt; thaw.next(&record, &[200, 0, 200, 150, 0]) == Asked::Ended(Answer::Ok(3)));
     Ok(())
 }
 
@@ -140,28 +112,18 @@ fn a_thaw_after_a_fault(rt: HostRuntime) -> Result<(), Fail> {
 fn a_stuck_walk_of_a_boot(rt: HostRuntime) -> Result<(), Fail> {
     let present = [true, true, true, false, true];
     let mut boot = Boot::begin(5);
-    assert_eq!(&rt;
-        boot.next(&present, &[true, false, false, false, false]),
-        up(1)
-    );
+    assert!(&rt; boot.next(&present, &[true, false, false, false, false]) == up(1));
     boot.took(Answer::Stuck {
         first: 5,
         second: 6,
         at: 150,
     });
-    assert_eq!(&rt;
-        boot.next(&present, &[true, true, false, false, false]),
-        up(2)
-    );
+    assert!(&rt; boot.next(&present, &[true, true, false, false, false]) == up(2));
     boot.took(Answer::Fault(9));
-    assert_eq!(&rt;
-        boot.next(&present, &[true, true, false, false, false]),
-        up(4)
-    );
+    assert!(&rt; boot.next(&present, &[true, true, false, false, false]) == up(4));
     boot.took(Answer::Ok(0));
-    assert_eq!(&rt;
-        boot.next(&present, &[true, true, false, false, true]),
-        Asked::Ended(Answer::Ok(2))
+    assert!(&rt;
+        boot.next(&present, &[true, true, false, false, true]) == Asked::Ended(Answer::Ok(2))
     );
     Ok(())
 }

@@ -59,7 +59,7 @@ fn call<H: Hook>(rt: &impl Abort, table: &mut Table<H>, state: u32, cpu: u32, di
 fn at_a_single_state<H: Hook>(rt: &impl Abort, alloc: Global, hook: H) -> Result<H, Fail> {
     let mut table = Table::new(alloc)?;
     let state = table.slot(Range::Prepare)?;
-    assert_eq!(rt; state, 41);
+    assert!(rt; state == 41);
     put(&mut table, state, record_of(3, false, hook))?;
     assert!(rt; table.is_named(41) && !table.is_named(42));
     assert!(rt; table.step(42).is_none() && table.step(41).is_some());
@@ -71,14 +71,11 @@ fn at_a_single_state<H: Hook>(rt: &impl Abort, alloc: Global, hook: H) -> Result
         (1, Dir::Up, 5),
         (1, Dir::Up, 7),
     ] {
-        assert_eq!(rt; call(rt, &mut table, 41, cpu, dir), want);
+        assert!(rt; call(rt, &mut table, 41, cpu, dir) == want);
     }
     let rec = table.uninstall(41)?;
-    assert_eq!(rt;
-        (rec.sub, rec.multi, rec.up, rec.down),
-        (3, false, true, false)
-    );
-    assert_eq!(rt; (rec.hook.made(), rec.hook.faults()), (5, 3));
+    assert!(rt; (rec.sub, rec.multi, rec.up, rec.down) == (3, false, true, false));
+    assert!(rt; (rec.hook.made(), rec.hook.faults()) == (5, 3));
     assert!(rt; !table.is_named(41) && table.step(41).is_none());
     Ok(rec.hook)
 }
@@ -90,16 +87,16 @@ fn at_a_multi_state<H: Hook>(rt: &impl Abort, alloc: Global, hook: H) -> Result<
     for inst in [3, 1, 2] {
         table.add_instance(150, inst)?;
     }
-    assert_eq!(rt; table.instances(150), [2, 1, 3].as_slice());
-    assert_eq!(rt; table.keys_between(0, 200), 3);
-    assert_eq!(rt; table.uninstall(150).err(), Some(TableError::Busy));
-    assert_eq!(rt; table.remove_instance(150, 1), Ok(()));
-    assert_eq!(rt; table.instances(150), [2, 3].as_slice());
+    assert!(rt; table.instances(150) == [2, 1, 3].as_slice());
+    assert!(rt; table.keys_between(0, 200) == 3);
+    assert!(rt; table.uninstall(150).err() == Some(TableError::Busy));
+    assert!(rt; table.remove_instance(150, 1) == Ok(()));
+    assert!(rt; table.instances(150) == [2, 3].as_slice());
     for inst in [2, 3] {
-        assert_eq!(rt; table.remove_instance(150, inst), Ok(()));
+        assert!(rt; table.remove_instance(150, inst) == Ok(()));
     }
     let rec = table.uninstall(150)?;
-    assert_eq!(rt; (rec.sub, rec.multi, rec.hook.made()), (4, true, 5));
+    assert!(rt; (rec.sub, rec.multi, rec.hook.made()) == (4, true, 5));
     Ok(())
 }
 
@@ -124,7 +121,7 @@ fn a_refused_record_comes_back(rt: HostRuntime) -> Result<(), Fail> {
     put(&mut table, 10, record_of(1, false, ScriptHook::new()))?;
     let mut rec = record_of(2, true, ScriptHook::new());
     rec.hook.load(HookPlan::none());
-    assert_eq!(rt; rec.hook.call(0, 0, Dir::Up), 0);
+    assert!(rt; rec.hook.call(0, 0, Dir::Up) == 0);
     for (state, want) in [
         (0, TableError::Invalid),
         (200, TableError::Invalid),
@@ -137,16 +134,13 @@ fn a_refused_record_comes_back(rt: HostRuntime) -> Result<(), Fail> {
         match table.install(state, rec) {
             Ok(()) => return Err(Fail::from(TableError::NoSpace)),
             Err((error, back)) => {
-                assert_eq!(rt; error, want, "at {state}");
+                assert!(rt; error == want, "at {state}");
                 rec = back;
             }
         }
     }
-    assert_eq!(rt;
-        (rec.sub, rec.multi, rec.up, rec.down),
-        (2, true, true, false)
-    );
-    assert_eq!(rt; rec.hook.made(), 1);
+    assert!(rt; (rec.sub, rec.multi, rec.up, rec.down) == (2, true, true, false));
+    assert!(rt; rec.hook.made() == 1);
     assert!(rt; table.step(10).is_some_and(|rec| rec.hook.made() == 0));
     Ok(())
 }
@@ -158,30 +152,27 @@ fn refusals_have_their_causes(rt: HostRuntime) -> Result<(), Fail> {
     put(&mut table, 20, record_of(2, true, ScriptHook::new()))?;
     table.add_instance(20, 5)?;
     for state in [0, 11, 62, 200, 201, u32::MAX] {
-        assert_eq!(rt;
-            table.uninstall(state).err(),
-            Some(TableError::Invalid),
+        assert!(rt;
+            table.uninstall(state).err() == Some(TableError::Invalid),
             "at {state}"
         );
-        assert_eq!(rt;
-            table.add_instance(state, 1),
-            Err(TableError::Invalid),
+        assert!(rt;
+            table.add_instance(state, 1) == Err(TableError::Invalid),
             "at {state}"
         );
-        assert_eq!(rt;
-            table.remove_instance(state, 1),
-            Err(TableError::Invalid),
+        assert!(rt;
+            table.remove_instance(state, 1) == Err(TableError::Invalid),
             "at {state}"
         );
         assert!(rt; table.step(state).is_none() && table.instances(state).is_empty());
     }
-    assert_eq!(rt; table.add_instance(10, 1), Err(TableError::Invalid));
-    assert_eq!(rt; table.add_instance(20, 0), Err(TableError::Invalid));
-    assert_eq!(rt; table.add_instance(20, 5), Err(TableError::Busy));
-    assert_eq!(rt; table.remove_instance(20, 6), Err(TableError::Invalid));
-    assert_eq!(rt; table.remove_instance(10, 0), Err(TableError::Invalid));
-    assert_eq!(rt; table.uninstall(20).err(), Some(TableError::Busy));
-    assert_eq!(rt; table.instances(20), [5].as_slice());
+    assert!(rt; table.add_instance(10, 1) == Err(TableError::Invalid));
+    assert!(rt; table.add_instance(20, 0) == Err(TableError::Invalid));
+    assert!(rt; table.add_instance(20, 5) == Err(TableError::Busy));
+    assert!(rt; table.remove_instance(20, 6) == Err(TableError::Invalid));
+    assert!(rt; table.remove_instance(10, 0) == Err(TableError::Invalid));
+    assert!(rt; table.uninstall(20).err() == Some(TableError::Busy));
+    assert!(rt; table.instances(20) == [5].as_slice());
     assert!(rt; !table.is_named(201) && !table.is_named(u32::MAX));
     Ok(())
 }
@@ -191,19 +182,19 @@ fn each_slot_is_given_out_once(rt: HostRuntime) -> Result<(), Fail> {
     let mut table = Table::new(rt.alloc())?;
     for want in 41..62 {
         let state = table.slot(Range::Prepare)?;
-        assert_eq!(rt; state, want);
+        assert!(rt; state == want);
         put(&mut table, state, record_of(1, false, ScriptHook::new()))?;
     }
     for want in 141..172 {
         let state = table.slot(Range::Online)?;
-        assert_eq!(rt; state, want);
+        assert!(rt; state == want);
         put(&mut table, state, record_of(1, false, ScriptHook::new()))?;
     }
-    assert_eq!(rt; table.slot(Range::Prepare), Err(TableError::NoSpace));
-    assert_eq!(rt; table.slot(Range::Online), Err(TableError::NoSpace));
+    assert!(rt; table.slot(Range::Prepare) == Err(TableError::NoSpace));
+    assert!(rt; table.slot(Range::Online) == Err(TableError::NoSpace));
     table.uninstall(150)?;
-    assert_eq!(rt; table.slot(Range::Online), Ok(150));
-    assert_eq!(rt; table.slot(Range::Prepare), Err(TableError::NoSpace));
+    assert!(rt; table.slot(Range::Online) == Ok(150));
+    assert!(rt; table.slot(Range::Prepare) == Err(TableError::NoSpace));
     Ok(())
 }
 
@@ -218,24 +209,22 @@ fn so_many_instances_and_no_more(rt: HostRuntime) -> Result<(), Fail> {
         }
         if state < 118 {
             table.add_instance(120, 1)?;
-            assert_eq!(rt; table.remove_instance(120, 1), Ok(()));
+            assert!(rt; table.remove_instance(120, 1) == Ok(()));
         }
-        assert_eq!(rt;
-            table.add_instance(state, 257),
-            Err(TableError::TooMany),
+        assert!(rt;
+            table.add_instance(state, 257) == Err(TableError::TooMany),
             "at {state}"
         );
-        assert_eq!(rt;
-            table.add_instance(state, 256),
-            Err(TableError::Busy),
+        assert!(rt;
+            table.add_instance(state, 256) == Err(TableError::Busy),
             "at {state}"
         );
     }
-    assert_eq!(rt; table.add_instance(120, 1), Err(TableError::TooMany));
-    assert_eq!(rt; table.keys_between(0, 200), 4096);
-    assert_eq!(rt; table.remove_instance(110, 7), Ok(()));
+    assert!(rt; table.add_instance(120, 1) == Err(TableError::TooMany));
+    assert!(rt; table.keys_between(0, 200) == 4096);
+    assert!(rt; table.remove_instance(110, 7) == Ok(()));
     table.add_instance(120, 1)?;
-    assert_eq!(rt; table.add_instance(110, 7), Err(TableError::TooMany));
+    assert!(rt; table.add_instance(110, 7) == Err(TableError::TooMany));
     Ok(())
 }
 
@@ -253,15 +242,15 @@ fn a_large_table_is_read_state_by_state(rt: HostRuntime) -> Result<(), Fail> {
             }
         }
     }
-    assert_eq!(rt; table.keys_between(0, 200), 4096);
+    assert!(rt; table.keys_between(0, 200) == 4096);
     for (first, end) in LARGE {
         let keys = (end - first) * 32;
-        assert_eq!(rt; table.keys_between(first - 1, end - 1), keys);
+        assert!(rt; table.keys_between(first - 1, end - 1) == keys);
         for state in first..end {
-            assert_eq!(rt; table.keys_between(state - 1, state), 32, "at {state}");
-            assert_eq!(rt; table.instances(state).len(), 32, "at {state}");
-            assert_eq!(rt; table.instances(state).first(), Some(&32), "at {state}");
-            assert_eq!(rt; call(&rt, &mut table, state, 0, Dir::Up), 0, "at {state}");
+            assert!(rt; table.keys_between(state - 1, state) == 32, "at {state}");
+            assert!(rt; table.instances(state).len() == 32, "at {state}");
+            assert!(rt; table.instances(state).first() == Some(&32), "at {state}");
+            assert!(rt; call(&rt, &mut table, state, 0, Dir::Up) == 0, "at {state}");
         }
     }
     Ok(())
@@ -289,7 +278,10 @@ fn keys_are_counted_between_states(rt: HostRuntime) -> Result<(), Fail> {
         (200, u32::MAX, 0),
         (u32::MAX, u32::MAX, 0),
     ] {
-        assert_eq!(rt; table.keys_between(low, high), want, "from {low} to {high}");
+        assert!(rt;
+            table.keys_between(low, high) == want,
+            "from {low} to {high}"
+        );
     }
     Ok(())
 }
@@ -313,9 +305,9 @@ fn errors_have_numbers_and_texts(rt: HostRuntime) -> Result<(), Fail> {
         (TableError::TooMany, 4, Some(28), "too many instances"),
         (TableError::NoMemory, 5, None, "out of memory"),
     ] {
-        assert_eq!(rt; (error as u32, error.errno()), (number, errno));
+        assert!(rt; (error as u32, error.errno()) == (number, errno));
         let shown = format!(in rt.alloc(); "{error}")?;
-        assert_eq!(rt; shown.as_str(), text);
+        assert!(rt; shown.as_str() == text);
     }
     Ok(())
 }

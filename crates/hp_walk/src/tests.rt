@@ -113,9 +113,8 @@ fn enters<H: Hook>(rt: &impl Abort, table: &Table<H>, walk: &mut Walk, row: &Row
     ensures { IsWithin (keys_by table.now) walk.new }
 {
     let how = row.how;
-    assert_eq!(rt;
-        (walk.shown(), walk.target()),
-        (row.files.shown, row.files.target),
+    assert!(rt;
+        (walk.shown(), walk.target()) == (row.files.shown, row.files.target),
         "files at {i}"
     );
     let Step::Call {
@@ -127,10 +126,12 @@ fn enters<H: Hook>(rt: &impl Abort, table: &Table<H>, walk: &mut Walk, row: &Row
     else {
         panic!(rt; "no entry at {i}");
     };
-    assert_eq!(rt; (key.state, key.inst), (row.state, row.inst), "key at {i}");
-    assert_eq!(rt;
-        (dir, place, first),
-        (row.dir, row.place, row.first),
+    assert!(rt;
+        (key.state, key.inst) == (row.state, row.inst),
+        "key at {i}"
+    );
+    assert!(rt;
+        (dir, place, first) == (row.dir, row.place, row.first),
         "entry at {i}"
     );
     assert!(rt;
@@ -156,11 +157,11 @@ fn walks<H: Hook>(
     for (i, row) in rows.iter().enumerate() {
         enters(rt, table, &mut walk, row, i);
     }
-    assert_eq!(rt; (walk.shown(), walk.target()), (end.0, end.1));
+    assert!(rt; (walk.shown(), walk.target()) == (end.0, end.1));
     let Step::Ended(answer) = walk.next(table) else {
         panic!(rt; "an entry at the end");
     };
-    assert_eq!(rt; answer, end.2);
+    assert!(rt; answer == end.2);
 }
 
 fn stuck(first: u32, second: u32, at: u32) -> Answer {
