@@ -3,7 +3,7 @@
 use hp_actors::Run;
 use hp_event::{Answer, Event};
 use hp_hook::{Hook, Rack, ScriptHook};
-use hp_script::parse;
+use hp_script::{Schedule, parse};
 use hp_states::{Dir, HookPlan};
 use std::alloc::Global;
 use std::test::Fail;
@@ -67,19 +67,24 @@ fn text(alloc: Global, schedule: &[u8]) -> Result<Vec<u8>, Fail> {
     Ok(text)
 }
 
-/// Plays the script with this schedule, and answers the run's end: the seats of its events, and the last two.
-fn played(
-    alloc: Global,
-    schedule: &[u8],
-    rack: &mut Rack<Marked>,
-) -> Result<(Vec<u32>, Option<(Event, Event)>), Fail> {
+/// The seats of a run's events, and the last two.
+type Played = (Vec<u32>, Option<(Event, Event)>);
+
+/// Plays the script with this schedule.
+fn played(alloc: Global, schedule: &[u8], rack: &mut Rack<Marked>) -> Result<Played, Fail> {
     let hooks = rack.hooks.len().min(u32::MAX as usize) as u32;
     let script = match parse(alloc, &text(alloc, schedule)?, hooks) {
         Ok(script) => script,
         Err(_) => return Err(Fail::from("the script is read")),
     };
     let mut run = Run::start(alloc, &script, rack)?;
-    run.play(script.schedule())?;
+    let played = play(alloc, &mut run, script.schedule())?;
+    run.finish(rack)?;
+    Ok(played)
+}
+
+fn play(alloc: Global, run: &mut Run<Marked>, schedule: &Schedule) -> Result<Played, Fail> {
+    run.play(schedule)?;
     let events = run.board().journal().events();
     let mut seats = Vec::new(alloc);
     for event in events {
@@ -89,7 +94,6 @@ fn played(
         [.., one, other] => Some((*one, *other)),
         _ => None,
     };
-    run.finish(rack)?;
     Ok((seats, last))
 }
 

@@ -51,31 +51,31 @@ const STATES: &[u8] =
 /// A board after these turns, which one client makes.
 fn played(alloc: Global, steps: &[Step]) -> Result<Board<Marked>, Fail> {
     let mut board = board(alloc, subsystem(alloc, None)?, 1)?;
-    if play(alloc, &mut board, steps)?.0.is_some() {
-        return Err(Fail::from("the turns come out"));
+    match play(alloc, &mut board, steps)? {
+        (None, _) => Ok(board),
+        _ => Err(Fail::from("the turns come out")),
     }
-    Ok(board)
+}
+
+/// A rack of one hook.
+fn rack(alloc: Global) -> Result<Rack<Marked>, Fail> {
+    let mut hooks = Vec::new(alloc);
+    hooks.push(Marked {
+        mark: 200,
+        hook: ScriptHook::new(),
+    })?;
+    Ok(Rack { hooks })
 }
 
 #[test]
 fn the_hooks_go_behind_those_of_the_rack(rt: HostRuntime) -> Result<(), Fail> {
-    let board = played(rt.alloc(), TWO_SETUPS.as_slice())?;
-    let mut rack = Rack {
-        hooks: Vec::new(rt.alloc()),
-    };
-    rack.hooks.push(Marked {
-        mark: 200,
-        hook: ScriptHook::new(),
-    })?;
-    match board.retire(&mut rack) {
+    let mut rack = rack(rt.alloc())?;
+    match played(rt.alloc(), TWO_SETUPS.as_slice())?.retire(&mut rack) {
         Ok(journal) => assert!(rt; journal.len() == 9),
         Err((error, _)) => return Err(Fail::from(error)),
     }
-    let mut marks = Vec::new(rt.alloc());
-    for marked in rack.hooks.iter() {
-        marks.push(marked.mark)?;
-    }
-    assert!(rt; marks.as_slice() == [200u32, 120, 150].as_slice());
+    let marks = rack.hooks.iter().map(|marked| marked.mark);
+    assert!(rt; marks.eq([200, 120, 150]));
     Ok(())
 }
 
@@ -131,11 +131,19 @@ fn stands(
     Ok(true)
 }
 
+/// Whether a board stands so after each turn of both.
+fn sets_and_brings_up(board: &mut Board<Marked>) -> Result<bool, Fail> {
+    Ok(
+        stands(board, ask(HIGHER), SETTING_UP.as_slice())?
+            && stands(board, ask(Op::Up(1)), BRINGING_UP.as_slice())?,
+    )
+}
+
 #[test]
 fn a_board_says_how_it_stands(rt: HostRuntime) -> Result<(), Fail> {
     let mut board = board(rt.alloc(), subsystem(rt.alloc(), None)?, 1)?;
-    assert!(rt; stands(&mut board, ask(HIGHER), SETTING_UP.as_slice())?);
-    assert!(rt; stands(&mut board, ask(Op::Up(1)), BRINGING_UP.as_slice())?);
+    let stands = sets_and_brings_up(&mut board);
     assert!(rt; (board.clients(), board.disabled()) == (1, 0));
+    assert!(rt; stands?);
     Ok(())
 }

@@ -86,17 +86,26 @@ pub(crate) fn board(alloc: Global, sub: Sub, clients: u32) -> Result<Board<Marke
         Ok(board) => board,
         Err(_) => return Err(Fail::from("the board starts")),
     };
+    if come_in(&mut board, clients) {
+        Ok(board)
+    } else {
+        Err(Fail::from("the seats come in"))
+    }
+}
+
+/// Whether the threads of two processors and so many clients come in.
+fn come_in(board: &mut Board<Marked>, clients: u32) -> bool {
     for cpu in 0..2u32 {
         if board.admit(Role::Ap(cpu)).is_err() {
-            return Err(Fail::from("a thread comes in"));
+            return false;
         }
     }
     for _ in 0..clients {
         if board.admit(Role::Client).is_err() {
-            return Err(Fail::from("a client comes in"));
+            return false;
         }
     }
-    Ok(board)
+    true
 }
 
 /// An operation, with a hook where it is a setup, which is marked with the state.
@@ -138,10 +147,24 @@ pub(crate) fn play(
     board: &mut Board<Marked>,
     steps: &[Step],
 ) -> Result<(Option<usize>, Option<u32>), Fail> {
-    let mut asks: Vec<Ask<Marked>> = Vec::new(alloc);
+    play_with(board, steps, &mut six_asks(alloc)?)
+}
+
+/// An ask for each of six seats.
+fn six_asks(alloc: Global) -> Result<Vec<Ask<Marked>>, Fail> {
+    let mut asks = Vec::new(alloc);
     for _ in 0..6 {
         asks.push(ask(Op::Lock))?;
     }
+    Ok(asks)
+}
+
+/// The same, with the ask of each seat.
+fn play_with(
+    board: &mut Board<Marked>,
+    steps: &[Step],
+    asks: &mut [Ask<Marked>],
+) -> Result<(Option<usize>, Option<u32>), Fail> {
     let mut mark = None;
     for (place, (by, begins, wanted)) in steps.iter().enumerate() {
         if let (Some(op), Some(place)) = (*begins, asks.get_mut(*by as usize)) {
@@ -267,9 +290,9 @@ const READERS: [Step; 23] = [
 #[test]
 fn two_readers_and_a_registration_keep_a_walk_out(rt: HostRuntime) -> Result<(), Fail> {
     let mut board = board(rt.alloc(), subsystem(rt.alloc(), None)?, 4)?;
-    let played = play(rt.alloc(), &mut board, READERS.as_slice())?;
-    assert!(rt; played == (None, None));
+    let played = play(rt.alloc(), &mut board, READERS.as_slice());
     assert!(rt; board.journal().len() == 20);
+    assert!(rt; played? == (None, None));
     Ok(())
 }
 

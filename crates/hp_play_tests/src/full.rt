@@ -20,12 +20,21 @@ fn board(alloc: Global) -> Result<Board<ScriptHook>, Fail> {
         Ok(board) => board,
         Err(_) => return Err(Fail::from("the board starts")),
     };
+    if come_in(&mut board) {
+        Ok(board)
+    } else {
+        Err(Fail::from("the seats come in"))
+    }
+}
+
+/// Whether the two threads and the client come in.
+fn come_in(board: &mut Board<ScriptHook>) -> bool {
     for role in [Role::Ap(0), Role::Ap(1), Role::Client] {
         if board.admit(role).is_err() {
-            return Err(Fail::from("a seat comes in"));
+            return false;
         }
     }
-    Ok(board)
+    true
 }
 
 /// The client's operation until it is answered, with turns of processor 1's thread between its own.
@@ -45,14 +54,13 @@ fn answer(board: &mut Board<ScriptHook>, op: Op) -> Result<Answer, Fail> {
 
 /// What `up 1` is answered after so many reads of a state, the processor's state then, and the journal's
 /// length.
-fn up_after(alloc: Global, reads: u32) -> Result<(Answer, u32, u32), Fail> {
-    let mut board = board(alloc)?;
+fn up_after(board: &mut Board<ScriptHook>, reads: u32) -> Result<(Answer, u32, u32), Fail> {
     for _ in 0..reads {
-        if answer(&mut board, Op::ShowState(0))? != Answer::Ok(200) {
+        if answer(board, Op::ShowState(0))? != Answer::Ok(200) {
             return Err(Fail::from("processor 0 is shown online"));
         }
     }
-    let up = answer(&mut board, Op::Up(1))?;
+    let up = answer(board, Op::Up(1))?;
     if board.journal().head().possible != 2 {
         return Err(Fail::from("the board has two processors"));
     }
@@ -61,7 +69,11 @@ fn up_after(alloc: Global, reads: u32) -> Result<(Answer, u32, u32), Fail> {
 
 #[test]
 fn an_up_fits_or_finds_the_journal_full(rt: HostRuntime) -> Result<(), Fail> {
-    assert!(rt; up_after(rt.alloc(), MAX_EVENTS - 12)? == (Answer::Ok(0), 200, MAX_EVENTS - 5));
-    assert!(rt; up_after(rt.alloc(), MAX_EVENTS - 11)? == (Answer::LogFull, 0, MAX_EVENTS - 6));
+    assert!(rt;
+        up_after(&mut board(rt.alloc())?, MAX_EVENTS - 12)? == (Answer::Ok(0), 200, MAX_EVENTS - 5)
+    );
+    assert!(rt;
+        up_after(&mut board(rt.alloc())?, MAX_EVENTS - 11)? == (Answer::LogFull, 0, MAX_EVENTS - 6)
+    );
     Ok(())
 }

@@ -55,12 +55,11 @@ fn call<H: Hook>(rt: &impl Abort, table: &mut Table<H>, state: u32, cpu: u32, di
     table.call(state, cpu, 0, dir)
 }
 
-/// The calls at a state without instances, at a hook of any type, which is handed out.
-fn at_a_single_state<H: Hook>(rt: &impl Abort, alloc: Global, hook: H) -> Result<H, Fail> {
-    let mut table = Table::new(alloc)?;
+/// The calls of a hook at a state without instances, which is handed out.
+fn calls_a_hook<H: Hook>(rt: &impl Abort, table: &mut Table<H>, hook: H) -> Result<H, Fail> {
     let state = table.slot(Range::Prepare)?;
     assert!(rt; state == 41);
-    put(&mut table, state, record_of(3, false, hook))?;
+    put(table, state, record_of(3, false, hook))?;
     assert!(rt; table.is_named(41) && !table.is_named(42));
     assert!(rt; table.step(42).is_none() && table.step(41).is_some());
     table.load(41, two_rules());
@@ -71,7 +70,7 @@ fn at_a_single_state<H: Hook>(rt: &impl Abort, alloc: Global, hook: H) -> Result
         (1, Dir::Up, 5),
         (1, Dir::Up, 7),
     ] {
-        assert!(rt; call(rt, &mut table, 41, cpu, dir) == want);
+        assert!(rt; call(rt, table, 41, cpu, dir) == want);
     }
     let rec = table.uninstall(41)?;
     assert!(rt; (rec.sub, rec.multi, rec.up, rec.down) == (3, false, true, false));
@@ -80,10 +79,9 @@ fn at_a_single_state<H: Hook>(rt: &impl Abort, alloc: Global, hook: H) -> Result
     Ok(rec.hook)
 }
 
-/// The calls at a state with instances, at a hook of any type.
-fn at_a_multi_state<H: Hook>(rt: &impl Abort, alloc: Global, hook: H) -> Result<(), Fail> {
-    let mut table = Table::new(alloc)?;
-    put(&mut table, 150, record_of(4, true, hook))?;
+/// The instances of a state, which leave before its hook does.
+fn keeps_instances<H: Hook>(rt: &impl Abort, table: &mut Table<H>, hook: H) -> Result<(), Fail> {
+    put(table, 150, record_of(4, true, hook))?;
     for inst in [3, 1, 2] {
         table.add_instance(150, inst)?;
     }
@@ -103,13 +101,13 @@ fn at_a_multi_state<H: Hook>(rt: &impl Abort, alloc: Global, hook: H) -> Result<
 #[test]
 fn hooks_of_two_types_are_kept(rt: HostRuntime) -> Result<(), Fail> {
     let alloc = rt.alloc();
-    let hook = at_a_single_state(&rt, alloc, ScriptHook::new())?;
-    at_a_multi_state(&rt, alloc, hook)?;
+    let hook = calls_a_hook(&rt, &mut Table::new(alloc)?, ScriptHook::new())?;
+    keeps_instances(&rt, &mut Table::new(alloc)?, hook)?;
     let mut hooks: Vec<Box<dyn Hook + Send>> = Vec::new(alloc);
     hooks.push(Box::new(alloc, ScriptHook::new())?)?;
     if let Some(hook) = hooks.pop() {
-        let hook = at_a_single_state(&rt, alloc, hook)?;
-        at_a_multi_state(&rt, alloc, hook)?;
+        let hook = calls_a_hook(&rt, &mut Table::new(alloc)?, hook)?;
+        keeps_instances(&rt, &mut Table::new(alloc)?, hook)?;
     }
     Ok(())
 }
@@ -145,11 +143,10 @@ fn a_refused_record_comes_back(rt: HostRuntime) -> Result<(), Fail> {
     Ok(())
 }
 
-#[test]
-fn refusals_have_their_causes(rt: HostRuntime) -> Result<(), Fail> {
-    let mut table = Table::new(rt.alloc())?;
-    put(&mut table, 10, record_of(1, false, ScriptHook::new()))?;
-    put(&mut table, 20, record_of(2, true, ScriptHook::new()))?;
+/// The refusals of calls, and what is left after them.
+fn refuses(rt: &impl Abort, table: &mut Table<ScriptHook>) -> Result<(), Fail> {
+    put(table, 10, record_of(1, false, ScriptHook::new()))?;
+    put(table, 20, record_of(2, true, ScriptHook::new()))?;
     table.add_instance(20, 5)?;
     for state in [0, 11, 62, 200, 201, u32::MAX] {
         assert!(rt;
@@ -178,17 +175,21 @@ fn refusals_have_their_causes(rt: HostRuntime) -> Result<(), Fail> {
 }
 
 #[test]
-fn each_slot_is_given_out_once(rt: HostRuntime) -> Result<(), Fail> {
-    let mut table = Table::new(rt.alloc())?;
+fn refusals_have_their_causes(rt: HostRuntime) -> Result<(), Fail> {
+    refuses(&rt, &mut Table::new(rt.alloc())?)
+}
+
+/// Each slot of both ranges, and one that is free again.
+fn gives_slots(rt: &impl Abort, table: &mut Table<ScriptHook>) -> Result<(), Fail> {
     for want in 41..62 {
         let state = table.slot(Range::Prepare)?;
         assert!(rt; state == want);
-        put(&mut table, state, record_of(1, false, ScriptHook::new()))?;
+        put(table, state, record_of(1, false, ScriptHook::new()))?;
     }
     for want in 141..172 {
         let state = table.slot(Range::Online)?;
         assert!(rt; state == want);
-        put(&mut table, state, record_of(1, false, ScriptHook::new()))?;
+        put(table, state, record_of(1, false, ScriptHook::new()))?;
     }
     assert!(rt; table.slot(Range::Prepare) == Err(TableError::NoSpace));
     assert!(rt; table.slot(Range::Online) == Err(TableError::NoSpace));
@@ -199,11 +200,15 @@ fn each_slot_is_given_out_once(rt: HostRuntime) -> Result<(), Fail> {
 }
 
 #[test]
-fn so_many_instances_and_no_more(rt: HostRuntime) -> Result<(), Fail> {
-    let mut table = Table::new(rt.alloc())?;
-    put(&mut table, 120, record_of(1, true, ScriptHook::new()))?;
+fn each_slot_is_given_out_once(rt: HostRuntime) -> Result<(), Fail> {
+    gives_slots(&rt, &mut Table::new(rt.alloc())?)
+}
+
+/// Instances up to the limits of a state and of a table.
+fn counts_instances(rt: &impl Abort, table: &mut Table<ScriptHook>) -> Result<(), Fail> {
+    put(table, 120, record_of(1, true, ScriptHook::new()))?;
     for state in 103..119 {
-        put(&mut table, state, record_of(1, true, ScriptHook::new()))?;
+        put(table, state, record_of(1, true, ScriptHook::new()))?;
         for inst in 1..257 {
             table.add_instance(state, inst)?;
         }
@@ -228,15 +233,19 @@ fn so_many_instances_and_no_more(rt: HostRuntime) -> Result<(), Fail> {
     Ok(())
 }
 
+#[test]
+fn so_many_instances_and_no_more(rt: HostRuntime) -> Result<(), Fail> {
+    counts_instances(&rt, &mut Table::new(rt.alloc())?)
+}
+
 /// The states of a large table: 128, none of them built in.
 const LARGE: [(u32, u32); 3] = [(1, 62), (65, 100), (103, 135)];
 
-#[test]
-fn a_large_table_is_read_state_by_state(rt: HostRuntime) -> Result<(), Fail> {
-    let mut table = Table::new(rt.alloc())?;
+/// What is at each state of a large table.
+fn reads_states(rt: &impl Abort, table: &mut Table<ScriptHook>) -> Result<(), Fail> {
     for (first, end) in LARGE {
         for state in first..end {
-            put(&mut table, state, record_of(1, true, ScriptHook::new()))?;
+            put(table, state, record_of(1, true, ScriptHook::new()))?;
             for inst in 1..33 {
                 table.add_instance(state, inst)?;
             }
@@ -250,19 +259,23 @@ fn a_large_table_is_read_state_by_state(rt: HostRuntime) -> Result<(), Fail> {
             assert!(rt; table.keys_between(state - 1, state) == 32, "at {state}");
             assert!(rt; table.instances(state).len() == 32, "at {state}");
             assert!(rt; table.instances(state).first() == Some(&32), "at {state}");
-            assert!(rt; call(&rt, &mut table, state, 0, Dir::Up) == 0, "at {state}");
+            assert!(rt; call(rt, table, state, 0, Dir::Up) == 0, "at {state}");
         }
     }
     Ok(())
 }
 
 #[test]
-fn keys_are_counted_between_states(rt: HostRuntime) -> Result<(), Fail> {
-    let mut table = Table::new(rt.alloc())?;
-    put(&mut table, 10, record_of(1, false, ScriptHook::new()))?;
-    put(&mut table, 20, record_of(2, true, ScriptHook::new()))?;
-    put(&mut table, 30, record_of(3, true, ScriptHook::new()))?;
-    put(&mut table, 198, record_of(4, false, ScriptHook::new()))?;
+fn a_large_table_is_read_state_by_state(rt: HostRuntime) -> Result<(), Fail> {
+    reads_states(&rt, &mut Table::new(rt.alloc())?)
+}
+
+/// The keys between two states.
+fn counts_keys(rt: &impl Abort, table: &mut Table<ScriptHook>) -> Result<(), Fail> {
+    put(table, 10, record_of(1, false, ScriptHook::new()))?;
+    put(table, 20, record_of(2, true, ScriptHook::new()))?;
+    put(table, 30, record_of(3, true, ScriptHook::new()))?;
+    put(table, 198, record_of(4, false, ScriptHook::new()))?;
     for inst in [8, 6, 7] {
         table.add_instance(20, inst)?;
     }
@@ -284,6 +297,11 @@ fn keys_are_counted_between_states(rt: HostRuntime) -> Result<(), Fail> {
         );
     }
     Ok(())
+}
+
+#[test]
+fn keys_are_counted_between_states(rt: HostRuntime) -> Result<(), Fail> {
+    counts_keys(&rt, &mut Table::new(rt.alloc())?)
 }
 
 #[test]
