@@ -8,4 +8,6 @@
 #[cfg(test)]
 mod ends;
 #[cfg(test)]
+mod refusals;
+#[cfg(test)]
 mod turns;

@@ -1,11 +1,10 @@
-//! What no clause says: that boards can be kept, that turns come out as written by hand, and that the very
-//! hook that went in comes back.
+//! Turns that come out as written by hand, and the very hook that went in, which comes back.
 
 ghost use Rattle.std.specs.Prelude.{◌<◌, ◌≤◌, IfOk, IfSome};
 ghost use Rattle.hp_model.specs.Heads.{IsSub};
 ghost use Rattle.hp_states.specs.declared.limits.TheConstants.{MAX_CODE};
 
-use hp_board::{AdmitError, Ask, Board, CpuPlan, StartError, Turn};
+use hp_board::{Ask, Board, CpuPlan, Turn};
 use hp_event::{Answer, Form, Name, Numbers, Op, Role, Sub, Subs};
 use hp_hook::{Hook, ScriptHook};
 use hp_locks::Why;
@@ -380,44 +379,5 @@ fn the_very_hook_comes_back(rt: HostRuntime) -> Result<(), Fail> {
         let played = play(rt.alloc(), &mut board, steps)?;
         assert!(rt; played == (None, Some(150)));
     }
-    Ok(())
-}
-
-/// What boards don't start with: how many processors are possible, which one is absent, and why.
-const NO_BOARDS: [(u32, Option<u32>, StartError); 4] = [
-    (0, None, StartError::NoProcessor),
-    (65, None, StartError::TooManyCpus),
-    (2, Some(2), StartError::BadAbsent),
-    (2, Some(0), StartError::NoBoot),
-];
-
-/// Why a board doesn't start, if it doesn't.
-fn refused(alloc: Global, possible: u32, gone: Option<u32>) -> Result<Option<StartError>, Fail> {
-    let mut absent = Numbers::new(alloc);
-    if let Some(cpu) = gone {
-        absent.push(cpu)?;
-    }
-    let plan = CpuPlan { possible, absent };
-    Ok(Board::<Marked>::start(alloc, plan, Subs::new(alloc)).err())
-}
-
-#[test]
-fn boards_are_refused(rt: HostRuntime) -> Result<(), Fail> {
-    for (possible, gone, error) in NO_BOARDS {
-        assert!(rt; refused(rt.alloc(), possible, gone)? == Some(error));
-    }
-    Ok(())
-}
-
-#[test]
-fn seats_are_refused_and_leave(rt: HostRuntime) -> Result<(), Fail> {
-    let mut board = board(rt.alloc(), subsystem(rt.alloc(), None)?, 1)?;
-    assert!(rt; board.admit(Role::Ap(1)).err() == Some(AdmitError::ApTaken));
-    assert!(rt; board.admit(Role::Ap(2)).err() == Some(AdmitError::NotPresent));
-    if board.can_leave(1) {
-        assert!(rt; board.leave(1) == 3);
-    }
-    assert!(rt; !board.can_leave(1));
-    assert!(rt; board.admit(Role::Ap(1)).ok() == Some(3));
     Ok(())
 }
