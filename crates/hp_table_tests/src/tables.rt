@@ -98,16 +98,20 @@ fn keeps_instances<H: Hook>(rt: &impl Abort, table: &mut Table<H>, hook: H) -> R
     Ok(())
 }
 
+/// Both, at a hook of any type.
+fn keeps_a_hook<H: Hook>(rt: &impl Abort, alloc: Global, hook: H) -> Result<(), Fail> {
+    let hook = calls_a_hook(rt, &mut Table::new(alloc)?, hook)?;
+    keeps_instances(rt, &mut Table::new(alloc)?, hook)
+}
+
 #[test]
 fn hooks_of_two_types_are_kept(rt: HostRuntime) -> Result<(), Fail> {
     let alloc = rt.alloc();
-    let hook = calls_a_hook(&rt, &mut Table::new(alloc)?, ScriptHook::new())?;
-    keeps_instances(&rt, &mut Table::new(alloc)?, hook)?;
+    keeps_a_hook(&rt, alloc, ScriptHook::new())?;
     let mut hooks: Vec<Box<dyn Hook + Send>> = Vec::new(alloc);
     hooks.push(Box::new(alloc, ScriptHook::new())?)?;
     if let Some(hook) = hooks.pop() {
-        let hook = calls_a_hook(&rt, &mut Table::new(alloc)?, hook)?;
-        keeps_instances(&rt, &mut Table::new(alloc)?, hook)?;
+        keeps_a_hook(&rt, alloc, hook)?;
     }
     Ok(())
 }
