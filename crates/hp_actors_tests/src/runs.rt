@@ -3,7 +3,7 @@
 use hp_actors::Run;
 use hp_event::{Answer, Event};
 use hp_hook::{Hook, Rack, ScriptHook};
-use hp_script::{Schedule, parse};
+use hp_script::parse;
 use hp_states::{Dir, HookPlan};
 use std::alloc::Global;
 use std::test::Fail;
@@ -78,14 +78,14 @@ fn played(alloc: Global, schedule: &[u8], rack: &mut Rack<Marked>) -> Result<Pla
         Err(_) => return Err(Fail::from("the script is read")),
     };
     let mut run = Run::start(alloc, &script, rack)?;
-    let played = play(alloc, &mut run, script.schedule())?;
+    run.play(script.schedule())?;
+    let played = seats_of(alloc, run.board().journal().events())?;
     run.finish(rack)?;
     Ok(played)
 }
 
-fn play(alloc: Global, run: &mut Run<Marked>, schedule: &Schedule) -> Result<Played, Fail> {
-    run.play(schedule)?;
-    let events = run.board().journal().events();
+/// The seats of events, and the last two.
+fn seats_of(alloc: Global, events: &[Event]) -> Result<Played, Fail> {
     let mut seats = Vec::new(alloc);
     for event in events {
         seats.push(event.seat())?;

@@ -158,6 +158,15 @@ fn six_asks(alloc: Global) -> Result<Vec<Ask<Marked>>, Fail> {
     Ok(asks)
 }
 
+/// What a seat asks for; nothing where it is a thread's.
+fn ask_of(asks: &mut [Ask<Marked>], by: u32) -> Option<&mut Ask<Marked>> {
+    if by < 2 {
+        None
+    } else {
+        asks.get_mut(by as usize)
+    }
+}
+
 /// The same, with the ask of each seat.
 fn play_with(
     board: &mut Board<Marked>,
@@ -169,12 +178,7 @@ fn play_with(
         if let (Some(op), Some(place)) = (*begins, asks.get_mut(*by as usize)) {
             *place = ask(op);
         }
-        let asked = if *by < 2 {
-            None
-        } else {
-            asks.get_mut(*by as usize)
-        };
-        if turn(board, *by, asked)? != *wanted {
+        if turn(board, *by, ask_of(&mut *asks, *by))? != *wanted {
             return Ok((Some(place), None));
         }
         mark = match asks.get(*by as usize) {
