@@ -51,9 +51,10 @@ const STATES: &[u8] =
 /// A board after these turns, which one client makes.
 fn played(alloc: Global, steps: &[Step]) -> Result<Board<Marked>, Fail> {
     let mut board = board(alloc, subsystem(alloc, None)?, 1)?;
-    match play(alloc, &mut board, steps)? {
-        (None, _) => Ok(board),
-        _ => Err(Fail::from("the turns come out")),
+    if play(alloc, &mut board, steps, None)? {
+        Ok(board)
+    } else {
+        Err(Fail::from("the turns come out"))
     }
 }
 

@@ -35,12 +35,12 @@ fn boards_are_refused(rt: HostRuntime) -> Result<(), Fail> {
 #[test]
 fn seats_are_refused_and_leave(rt: HostRuntime) -> Result<(), Fail> {
     let mut board = board(rt.alloc(), subsystem(rt.alloc(), None)?, 1)?;
-    assert!(rt; board.admit(Role::Ap(1)).err() == Some(AdmitError::ApTaken));
-    assert!(rt; board.admit(Role::Ap(2)).err() == Some(AdmitError::NotPresent));
+    assert!(rt; matches!(board.admit(Role::Ap(1)), Err(AdmitError::ApTaken)));
+    assert!(rt; matches!(board.admit(Role::Ap(2)), Err(AdmitError::NotPresent)));
     if board.can_leave(1) {
         assert!(rt; board.leave(1) == 3);
     }
     assert!(rt; !board.can_leave(1));
-    assert!(rt; board.admit(Role::Ap(1)).ok() == Some(3));
+    assert!(rt; matches!(board.admit(Role::Ap(1)), Ok(3)));
     Ok(())
 }

@@ -139,14 +139,15 @@ pub(crate) fn turn(
 /// A turn of a seat, with the operation that it begins to ask for, if it does, and what it answers.
 pub(crate) type Step = (u32, Option<Op>, Turn);
 
-/// Plays turns, and answers the place of the first that answers otherwise, and the mark of the hook of the
-/// last ask.
+/// Whether turns answer so, one after the other, and the hook of the last ask has this mark then; none where it
+/// has no hook.
 pub(crate) fn play(
     alloc: Global,
     board: &mut Board<Marked>,
     steps: &[Step],
-) -> Result<(Option<usize>, Option<u32>), Fail> {
-    play_with(board, steps, &mut six_asks(alloc)?)
+    mark: Option<u32>,
+) -> Result<bool, Fail> {
+    play_with(board, steps, mark, &mut six_asks(alloc)?)
 }
 
 /// An ask for each of six seats.
@@ -171,22 +172,23 @@ fn ask_of(asks: &mut [Ask<Marked>], by: u32) -> Option<&mut Ask<Marked>> {
 fn play_with(
     board: &mut Board<Marked>,
     steps: &[Step],
+    mark: Option<u32>,
     asks: &mut [Ask<Marked>],
-) -> Result<(Option<usize>, Option<u32>), Fail> {
-    let mut mark = None;
-    for (place, (by, begins, wanted)) in steps.iter().enumerate() {
+) -> Result<bool, Fail> {
+    let mut last = None;
+    for (by, begins, wanted) in steps {
         if let (Some(op), Some(place)) = (*begins, asks.get_mut(*by as usize)) {
             *place = ask(op);
         }
         if turn(board, *by, ask_of(&mut *asks, *by))? != *wanted {
-            return Ok((Some(place), None));
+            return Ok(false);
         }
-        mark = match asks.get(*by as usize) {
+        last = match asks.get(*by as usize) {
             Some(ask) => ask.hook.as_ref().map(|marked| marked.mark),
             None => None,
         };
     }
-    Ok((None, mark))
+    Ok(last == mark)
 }
 
 pub(crate) const OK: Answer = Answer::Ok(0);
@@ -293,9 +295,9 @@ const READERS: [Step; 23] = [
 #[test]
 fn two_readers_and_a_registration_keep_a_walk_out(rt: HostRuntime) -> Result<(), Fail> {
     let mut board = board(rt.alloc(), subsystem(rt.alloc(), None)?, 4)?;
-    let played = play(rt.alloc(), &mut board, READERS.as_slice());
+    let played = play(rt.alloc(), &mut board, READERS.as_slice(), None);
     assert!(rt; board.journal().len() == 20);
-    assert!(rt; played? == (None, None));
+    assert!(rt; played?);
     Ok(())
 }
 
@@ -372,16 +374,19 @@ const FAULTED: [Step; 9] = [
     ),
 ];
 
+/// Whether one client's turns answer so, where the startup answers this code on processor 1, and its hook is with
+/// the ask then.
+fn comes_back(alloc: Global, steps: &[Step], code: Option<u32>) -> Result<bool, Fail>
+    requires { IfSome code (λ n. (0 < n) × (n ≤ MAX_CODE)) }
+{
+    let mut board = board(alloc, subsystem(alloc, code)?, 1)?;
+    play(alloc, &mut board, steps, Some(150))
+}
+
 #[test]
 fn the_very_hook_comes_back(rt: HostRuntime) -> Result<(), Fail> {
-    for (steps, code) in [
-        (REMOVED.as_slice(), None),
-        (TAKEN.as_slice(), None),
-        (FAULTED.as_slice(), Some(5)),
-    ] {
-        let mut board = board(rt.alloc(), subsystem(rt.alloc(), code)?, 1)?;
-        let played = play(rt.alloc(), &mut board, steps)?;
-        assert!(rt; played == (None, Some(150)));
-    }
+    assert!(rt; comes_back(rt.alloc(), REMOVED.as_slice(), None)?);
+    assert!(rt; comes_back(rt.alloc(), TAKEN.as_slice(), None)?);
+    assert!(rt; comes_back(rt.alloc(), FAULTED.as_slice(), Some(5))?);
     Ok(())
 }
