@@ -75,7 +75,7 @@ fn played(alloc: Global, schedule: &[u8], rack: &mut Rack<Marked>) -> Result<Pla
     let hooks = rack.hooks.len().min(u32::MAX as usize) as u32;
     let script = match parse(alloc, &text(alloc, schedule)?, hooks) {
         Ok(script) => script,
-        Err(_) => return Err(Fail::from("the script is read")),
+        Err(error) => return Err(Fail::from(error)),
     };
     let mut run = Run::start(alloc, &script, rack)?;
     run.play(script.schedule())?;

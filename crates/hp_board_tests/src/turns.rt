@@ -81,10 +81,7 @@ pub(crate) fn board(alloc: Global, sub: Sub, clients: u32) -> Result<Board<Marke
         possible: 2,
         absent: Numbers::new(alloc),
     };
-    let mut board = match Board::start(alloc, plan, subs) {
-        Ok(board) => board,
-        Err(_) => return Err(Fail::from("the board starts")),
-    };
+    let mut board = Board::start(alloc, plan, subs)?;
     if come_in(&mut board, clients) {
         Ok(board)
     } else {

@@ -16,10 +16,7 @@ fn board(alloc: Global) -> Result<Board<ScriptHook>, Fail> {
         possible: 2,
         absent: Numbers::new(alloc),
     };
-    let mut board = match Board::start(alloc, plan, Subs::new(alloc)) {
-        Ok(board) => board,
-        Err(_) => return Err(Fail::from("the board starts")),
-    };
+    let mut board = Board::start(alloc, plan, Subs::new(alloc))?;
     if come_in(&mut board) {
         Ok(board)
     } else {
