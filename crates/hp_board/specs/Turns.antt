@@ -1,12 +1,14 @@
 -- What a turn of a seat makes of a board, and what it answers: the one event that comes next of the seat and its operation, or
 -- nothing, where there is no room for it or something is waited for. This project's own.
-use Rattle.std.specs.Prelude.{◌≡◌, ℕ, Bool, true, false, Option, Some, None, length}
+use Rattle.std.specs.Prelude.{◌≡◌, ℕ, Bool, true, false, Option, Some, None, IsSome, IsSomeAnd, List, length}
 use Rattle.hp_event.specs.declared.answer.Answer.{Answer}
 use Rattle.hp_event.specs.declared.answer.Answer.TheVariants.{LogFull}
 use Rattle.hp_event.specs.declared.event.Event.{Event}
+use Rattle.hp_event.specs.declared.head.Head.{Head}
 use Rattle.hp_event.specs.declared.op.Op.{Op}
 use Rattle.hp_locks.specs.declared.why.Why.TheVariants.{Idle}
 use Rattle.hp_model.specs.Events.{answer_by}
+use Rattle.hp_model.specs.Needs.{need}
 use Rattle.hp_model.specs.NextEvent.{next_event, due_entry, is_full}
 use Rattle.hp_ledger.specs.Next.{IsKept}
 use Rattle.hp_board.specs.declared.turn.Turn.{Turn}
@@ -49,3 +51,7 @@ abbrev pub IsServed : (seat : ℕ) → (old new : Contents) → Turn → Type 0
 IsServed k old new (Made at) = Makes (due_entry old.head old.events k) at None old new
 IsServed k old new (NotYet Idle) = (due_entry old.head old.events k ≡ None) × (new ≡ old)
 IsServed k old new _ = ⊥
+
+-- an event comes next that takes room: the first of an operation or the begin of a walk
+abbrev pub TakesRoom : Head → (events : List Event) → (next : Option Event) → Type 0
+TakesRoom head events next = IsSomeAnd next (λ event. IsSome (need head events event))

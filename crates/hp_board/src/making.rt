@@ -1,6 +1,6 @@
 //! How one event is made.
 
-ghost use Rattle.std.specs.Prelude.{◌≡◌, ◌++◌, ◌∷◌, [], true, false, OnOk, OnErr, IfSome, is_some};
+ghost use Rattle.std.specs.Prelude.{◌≡◌, ◌+◌, ◌<◌, ◌++◌, ◌∷◌, [], length, true, false, OnOk, OnErr, IfSome, IsSome, is_some};
 ghost use Rattle.hp_ledger.specs.Entries.{entry_event, entry_made};
 ghost use Rattle.hp_ledger.specs.Ledger.{NoAdmission};
 ghost use Rattle.hp_ledger.specs.Machine.{IsMachine};
@@ -9,7 +9,9 @@ ghost use Rattle.hp_ledger.specs.TableChanges.{is_registering, brings_hook, hand
 ghost use Rattle.hp_model.specs.Events.{is_call};
 ghost use Rattle.hp_model.specs.Lawful.{Stands, IsLawful};
 ghost use Rattle.hp_model.specs.Needs.{need as need_of, taken};
+ghost use Rattle.hp_model.specs.Promised.{promised};
 ghost use Rattle.hp_model.specs.Registrations.{registration};
+ghost use Rattle.hp_states.specs.declared.limits.TheConstants.{MAX_EVENTS};
 
 use hp_event::{Event, How, JournalError};
 use hp_hook::Hook;
@@ -20,8 +22,8 @@ use hp_table::Table;
 /// Makes an event that stands and is no entry and no admission. `need` is the room that it takes.
 ///
 /// The begin of a setup takes its hook, and where the end of a registration hands a hook out it is in
-/// `hook` then. Takes memory where the journal or the state's instances have no spare place; where that
-/// is wanting nothing has changed: `NoMemory`.
+/// `hook` then. Takes memory where the event takes room, if the journal or the state's instances have no
+/// spare place; where that is wanting nothing has changed: `NoMemory`.
 pub(crate) fn make<H: Hook>(
     ledger: &mut Ledger,
     table: &mut Table<H>,
@@ -46,12 +48,9 @@ pub(crate) fn make<H: Hook>(
     ensures left { OnOk result (is_registering event ≡ false → hook.new ≡ hook.old) }
     ensures err { OnErr result ((ledger.new ≡ ledger.old) × (table.new ≡ table.old)) }
     ensures kept { OnErr result (hook.new ≡ hook.old) }
+    ensures memory { OnErr result (IsSome (need_of ledger.old.head ledger.old.events event)) }
 {
-    match ledger.reserve(need) {
-        Ok(()) => {}
-        Err(JournalError::NoMemory) => return Err(NoMemory),
-        Err(JournalError::Full) => unreachable!(),
-    }
+    reserve(ledger, need)?;
     match change_table(table, ledger, event, hook) {
         Ok(()) => {
             ledger.append(table, event);
@@ -61,6 +60,27 @@ pub(crate) fn make<H: Hook>(
             ledger.release();
             Err(NoMemory)
         }
+    }
+}
+
+/// Reserves the room that an event takes, of which there is enough.
+///
+/// Takes memory where that is some and the journal has not so many spare places; where that is wanting
+/// nothing has changed: `NoMemory`.
+fn reserve(ledger: &mut Ledger, need: u32) -> Result<(), NoMemory>
+    requires fits { MAX_EVENTS
+        < length ledger.old.events + promised ledger.old.head ledger.old.events + ledger.old.reserved + need → ⊥ }
+    ensures ok { OnOk result (ledger.new ≡ record ledger.old { reserved = ledger.old.reserved + need }) }
+    ensures memory { OnErr result (0 < need) }
+    ensures err { OnErr result (ledger.new ≡ ledger.old) }
+{
+    if need == 0 {
+        return Ok(());
+    }
+    match ledger.reserve(need) {
+        Ok(()) => Ok(()),
+        Err(JournalError::NoMemory) => Err(NoMemory),
+        Err(JournalError::Full) => unreachable!(),
     }
 }
 

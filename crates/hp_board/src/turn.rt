@@ -2,7 +2,7 @@
 
 ghost use Rattle.std.specs.Prelude.{◌≡◌, ◌↔◌, ℕ, true, IsTrue, Some, IfOk, IfSome, OnOk, OnErr, false, is_some};
 ghost use Rattle.hp_board.specs.Hooks.{has_hook, has_hook_after, leaves_hook};
-ghost use Rattle.hp_board.specs.Turns.{IsTurn, IsServed, turn_by, goes_on};
+ghost use Rattle.hp_board.specs.Turns.{IsTurn, IsServed, TakesRoom, turn_by, goes_on};
 ghost use Rattle.hp_ledger.specs.TableChanges.{is_setup, registering_step, IsHookOf};
 ghost use Rattle.hp_model.specs.Events.{answer_by};
 ghost use Rattle.hp_model.specs.NextEvent.{next_event};
@@ -76,6 +76,8 @@ impl<H: Hook> Board<H> {
         ensures again { IfOk result (λ turn. goes_on turn ≡ true →
             is_some ask.new.hook ≡ has_hook self.new.events by ask.old.op) }
         ensures err { OnErr result ((self.new ≡ self.old) × (ask.new ≡ ask.old)) }
+        ensures memory { OnErr result (TakesRoom self.old.head self.old.events
+            (next_event self.old.head self.old.events by ask.old.op)) }
     {
         match self.ledger.next(&self.table, by, ask.op) {
             Next::Event { event, need } => {

@@ -5,6 +5,7 @@ ghost use Rattle.hp_event.specs.Heads.{sub_numbered};
 ghost use Rattle.hp_states.specs.declared.limits.TheConstants.{OFFLINE, ONLINE};
 ghost use Rattle.hp_model.specs.Events.{is_call};
 ghost use Rattle.hp_model.specs.Lawful.{Stands};
+ghost use Rattle.hp_model.specs.Needs.{need};
 ghost use Rattle.hp_model.specs.Registrations.{registration};
 ghost use Rattle.hp_table.specs.Instances.{instances_at};
 ghost use Rattle.hp_table.specs.Named.{is_named};
@@ -24,9 +25,9 @@ use hp_table::{Record, Table, TableError};
 /// The table is the ledger's journal's. The begin of a setup brings its hook, and no other registration
 /// brings any. Where the end of one hands a hook out, that of a setup that answers a fault or of a state
 /// that is removed, it is in `hook` then, as it stood in the table; otherwise there is none. Every other
-/// event leaves `hook` as it is. Takes memory where
-/// an instance is added; where that is wanting nothing has changed: `NoMemory`. After
-/// `cpuhp_store_callbacks` of `kernel/cpu.c`.
+/// event leaves `hook` as it is. Takes memory where an instance is added, which is at the begin of a
+/// registration; where that is wanting nothing has changed: `NoMemory`. After `cpuhp_store_callbacks` of
+/// `kernel/cpu.c`.
 pub fn change_table<H: Hook>(
     table: &mut Table<H>,
     ledger: &Ledger,
@@ -46,6 +47,7 @@ pub fn change_table<H: Hook>(
     ensures left { OnOk result (is_registering event ≡ false → hook.new ≡ hook.old) }
     ensures err { OnErr result (table.new ≡ table.old) }
     ensures kept { OnErr result (hook.new ≡ hook.old) }
+    ensures memory { OnErr result (IsSome (need ledger.now.head ledger.now.events event)) }
 {
     match event {
         Event::RegBegin { state, op, .. } => {

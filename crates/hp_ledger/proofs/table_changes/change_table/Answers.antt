@@ -65,4 +65,5 @@ returns-in_default g c =
       left = λ is. refl;
       err = tt;
       kept = tt;
+      memory = tt;
     }
