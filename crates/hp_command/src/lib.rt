@@ -11,8 +11,6 @@ mod command;
 mod law;
 mod number;
 mod options;
-#[cfg(test)]
-mod tests;
 mod texts;
 
 pub use command::{Command, command_of};

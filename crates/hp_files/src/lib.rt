@@ -13,10 +13,6 @@
 
 mod numbers;
 mod states;
-#[cfg(test)]
-mod tests;
-#[cfg(test)]
-mod tests_values;
 mod writes;
 
 pub use numbers::{BadNumber, read_i32, show_number};

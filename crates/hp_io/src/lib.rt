@@ -26,6 +26,3 @@ pub use mem_source::MemSource;
 pub use real::{RealSink, RealSource};
 pub use sink::{Sink, write_all};
 pub use source::{ReadError, Source, read_up_to};
-
-#[cfg(test)]
-mod tests;

@@ -11,8 +11,6 @@
 #![tactic(auto)]
 
 mod locks;
-#[cfg(test)]
-mod tests;
 mod why;
 
 pub use locks::Locks;

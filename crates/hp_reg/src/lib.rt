@@ -15,8 +15,6 @@
 mod phase;
 mod reg;
 mod step;
-#[cfg(test)]
-mod tests;
 
 pub use reg::Reg;
 pub use step::RegStep;

@@ -48,8 +48,8 @@ fn behind_call(text: &[u8]) -> Option<&[u8]>
     ensures { IfSome result (λ others.
         slice_split (λ b. b == 32) text.now ≡ codes "call" ∷ slice_split (λ b. b == 32) others.now) }
 {
-    match text {
-        [b'c', b'a', b'l', b'l', b' ', others @ ..] => Some(others),
+    match text.split_first_chunk() {
+        Some((b"call ", others)) => Some(others),
         _ => None,
     }
 }

@@ -18,8 +18,6 @@ mod no_memory;
 mod place;
 mod plan;
 mod section;
-#[cfg(test)]
-mod tests;
 
 pub use dir::Dir;
 pub use limits::{

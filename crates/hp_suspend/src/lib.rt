@@ -17,8 +17,6 @@ mod boot;
 mod freeze;
 mod judged;
 mod law;
-#[cfg(test)]
-mod tests;
 mod thaw;
 
 pub use asked::{Asked, WalkAsk};

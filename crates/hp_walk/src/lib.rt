@@ -14,8 +14,6 @@
 mod position;
 mod states;
 mod step;
-#[cfg(test)]
-mod tests;
 mod walk;
 
 pub use step::Step;

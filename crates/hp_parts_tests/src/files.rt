@@ -1,8 +1,8 @@
 //! What no clause says: that memory suffices where it is ample, and that the file comes out as
 //! written by hand.
 
-use crate::show_states;
 use hp_event::{Head, Name, Numbers, Sub, Subs};
+use hp_files::show_states;
 use hp_hook::{Hook, ScriptHook};
 use hp_states::HookPlan;
 use hp_table::{Record, Table};

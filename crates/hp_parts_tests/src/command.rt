@@ -1,6 +1,6 @@
 //! Lists of words, and what they ask for.
 
-use crate::{Command, Options, command_of};
+use hp_command::{Command, Options, command_of};
 use std::alloc::Global;
 use std::process::Abort;
 use std::test::Fail;

@@ -1,7 +1,7 @@
 //! What no clause says: that memory suffices where it is ample, and who waits for whom where several
 //! seats come together, as worked out by hand from the table of waits.
 
-use crate::{Locks, Why};
+use hp_locks::{Locks, Why};
 use std::process::Abort;
 use std::test::Fail;
 

@@ -9,7 +9,6 @@ ghost use Rattle.hp_walk.specs.After.{IsWithin};
 
 mod instances;
 
-use crate::{Step, Walk};
 use hp_event::Answer;
 use hp_event::How::{self, Empty, Injected, Overruled, Presumed, RanFault, RanOk};
 use hp_hook::{Hook, ScriptHook};
@@ -17,6 +16,7 @@ use hp_states::Dir::{self, Down, Up};
 use hp_states::Place::{self, Back, Forward};
 use hp_states::{ONLINE, may_fail};
 use hp_table::{Record, Table};
+use hp_walk::{Step, Walk};
 use std::alloc::Global;
 use std::process::Abort;
 use std::test::Fail;

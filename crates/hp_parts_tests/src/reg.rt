@@ -3,9 +3,9 @@
 ghost use Rattle.std.specs.Prelude.{◌≡◌, true};
 ghost use Rattle.hp_model.specs.Events.{is_registration_op};
 
-use crate::{Reg, RegStep};
 use hp_event::{Answer, Form, How, Key, Op};
 use hp_hook::ScriptHook;
+use hp_reg::{Reg, RegStep};
 use hp_states::{Dir, MAX_CPUS, Place};
 use hp_table::{Record, Table};
 use std::alloc::Global;

@@ -1,6 +1,9 @@
 //! What no clause says: how sources and sinks fail in mid-stream, and that the system's own take and give bytes.
 
-use super::*;
+use hp_io::{
+    Failed, MemSink, MemSource, ReadError, RealSink, RealSource, Sink, Source, read_up_to,
+    write_all,
+};
 use std::io;
 use std::io::{ErrorKind, Read, Write};
 use std::test::*;

@@ -1,6 +1,6 @@
 //! What no clause says: that the tables come out as written by hand, and plans as they are filled.
 
-use crate::{
+use hp_states::{
     Dir, HookPlan, Place, Range, Rule, Section, builtin_name, can_stop, first_state, is_ap,
     is_atomic, is_builtin, is_name, is_name_byte, may_fail, section_of,
 };

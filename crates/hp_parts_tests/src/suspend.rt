@@ -1,8 +1,8 @@
 //! What no clause says: the walks and the ends of some freezes, thaws and boots, as worked out by hand
 //! from the rules, with lists that change as the answers say.
 
-use crate::{Asked, Boot, Freeze, Thaw, WalkAsk};
 use hp_event::Answer;
+use hp_suspend::{Asked, Boot, Freeze, Thaw, WalkAsk};
 use std::process::Abort;
 use std::test::Fail;
 

@@ -1,6 +1,6 @@
 //! What may be read and written, as worked out by hand.
 
-use crate::{BadNumber, check_fail, check_target, read_i32, show_number};
+use hp_files::{BadNumber, check_fail, check_target, read_i32, show_number};
 use hp_hook::ScriptHook;
 use hp_table::{Record, Table};
 use std::alloc::Global;
