@@ -166,7 +166,7 @@ const LAST: (Event, Event) = (
 
 #[test]
 fn schedules_interleave_two_actors(rt: HostRuntime) -> Result<(), Fail> {
-    for (schedule, seats, marks) in ROWS {
+    for &(schedule, seats, marks) in ROWS.iter() {
         let mut rack = rack(rt.alloc())?;
         let (made_by, last) = played(rt.alloc(), schedule, &mut rack)?;
         assert!(rt; made_by.as_slice() == seats.as_slice());

@@ -26,7 +26,7 @@ fn refused(alloc: Global, possible: u32, gone: Option<u32>) -> Result<Option<Sta
 
 #[test]
 fn boards_are_refused(rt: HostRuntime) -> Result<(), Fail> {
-    for (possible, gone, error) in NO_BOARDS {
+    for &(possible, gone, error) in NO_BOARDS.iter() {
         assert!(rt; refused(rt.alloc(), possible, gone)? == Some(error));
     }
     Ok(())

@@ -109,7 +109,7 @@ const PROCESSORS: [(u32, &'static [u32], bool); 9] = [
 /// The number of processors, and which are absent.
 #[test]
 fn the_first_processor_is_present(rt: HostRuntime) -> Result<(), Fail> {
-    for (possible, absent, wanted) in PROCESSORS {
+    for &(possible, absent, wanted) in PROCESSORS.iter() {
         let head = of_processors(rt.alloc(), possible, absent)?;
         assert!(rt; is_head(&head) == wanted);
     }
@@ -130,7 +130,7 @@ const NAMES: [(&'static [u8], bool); 7] = [
 /// The names of subsystems, and how many there are.
 #[test]
 fn subsystems_have_names_or_none(rt: HostRuntime) -> Result<(), Fail> {
-    for (name, wanted) in NAMES {
+    for &(name, wanted) in NAMES.iter() {
         let head = of_name(rt.alloc(), name)?;
         assert!(rt; is_head(&head) == wanted);
     }
@@ -187,7 +187,7 @@ const RULES: [(Rule, bool); 9] = [
 /// The numbers of a rule.
 #[test]
 fn rules_keep_their_ranges(rt: HostRuntime) -> Result<(), Fail> {
-    for (rule, wanted) in RULES {
+    for &(rule, wanted) in RULES.iter() {
         let head = of_rule(rt.alloc(), rule)?;
         assert!(rt; is_head(&head) == wanted);
     }

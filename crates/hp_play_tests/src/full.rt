@@ -64,13 +64,18 @@ fn up_after(board: &mut Board<ScriptHook>, reads: u32) -> Result<(Answer, u32, u
     Ok((up, board.state(1), board.journal().len()))
 }
 
+/// The same on a board of its own.
+fn up_alone_after(alloc: Global, reads: u32) -> Result<(Answer, u32, u32), Fail> {
+    up_after(&mut board(alloc)?, reads)
+}
+
 #[test]
 fn an_up_fits_or_finds_the_journal_full(rt: HostRuntime) -> Result<(), Fail> {
     assert!(rt;
-        up_after(&mut board(rt.alloc())?, MAX_EVENTS - 12)? == (Answer::Ok(0), 200, MAX_EVENTS - 5)
+        up_alone_after(rt.alloc(), MAX_EVENTS - 12)? == (Answer::Ok(0), 200, MAX_EVENTS - 5)
     );
     assert!(rt;
-        up_after(&mut board(rt.alloc())?, MAX_EVENTS - 11)? == (Answer::LogFull, 0, MAX_EVENTS - 6)
+        up_alone_after(rt.alloc(), MAX_EVENTS - 11)? == (Answer::LogFull, 0, MAX_EVENTS - 6)
     );
     Ok(())
 }

@@ -95,7 +95,7 @@ fn joined(alloc: Global, parts: &[&[u8]]) -> Result<Vec<u8>, AllocError> {
 #[test]
 fn a_journal_is_played_and_replayed(rt: HostRuntime) -> Result<(), Fail> {
     let alloc = rt.alloc();
-    for (word, input, status, output) in ROWS {
+    for &(word, input, status, output) in ROWS.iter() {
         let mut rack = some_hooks(alloc, 12)?;
         let input = joined(alloc, input)?;
         let (ended, written) = run(&rt, alloc, &[word], input.as_slice(), &mut rack)?;

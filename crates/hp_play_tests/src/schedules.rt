@@ -90,7 +90,7 @@ const SUMMARY: &[u8] = b"\
 #[test]
 fn each_schedule_ends_alike(rt: HostRuntime) -> Result<(), Fail> {
     let alloc = rt.alloc();
-    for schedule in SCHEDULES {
+    for &schedule in SCHEDULES.iter() {
         let mut script = Vec::from_slice(alloc, HEAD)?;
         script.extend_from_slice(schedule)?;
         script.extend_from_slice(ACTORS)?;

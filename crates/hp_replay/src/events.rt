@@ -51,6 +51,21 @@ pub fn take_end(law: &Law, line: &Line<'_>) -> Result<(), ReplayError>
 }
 
 /// Takes the lines of the events, and the `end` line behind them.
+fn take_events(law: &mut Law, lines: &mut Lines<'_>) -> Result<(), ReplayError>
+    ensures ok { OnOk result
+        (GoesOver lines.old (among_events law.old.head law.old.events) lines.new (whole law.new.head law.new.events)) }
+    ensures bad { IfErr result (RefusedFrom (among_events law.old.head law.old.events) lines.old) }
+{
+    loop {
+        let line = lines.expect()?;
+        match event_of_line(&line) {
+            Some(event) => take_event(law, &event, &line)?,
+            None => return take_end(law, &line),
+        }
+    }
+}
+
+/// The journal that the lines of the events say, with the `end` line behind them.
 pub fn read_events(
     alloc: Global,
     head: &Head,
@@ -63,14 +78,6 @@ pub fn read_events(
     ensures bad { IfErr result (RefusedFrom (among_events head.now []) lines.old) }
 {
     let mut law = Law::start(alloc, head)?;
-    loop {
-        let line = lines.expect()?;
-        match event_of_line(&line) {
-            Some(event) => take_event(&mut law, &event, &line)?,
-            None => {
-                take_end(&law, &line)?;
-                return Ok(law.into_journal());
-            }
-        }
-    }
+    take_events(&mut law, lines)?;
+    Ok(law.into_journal())
 }

@@ -68,7 +68,7 @@ const REFUSED: [(&'static [u8], u32, ReplayKind); 26] = [
 
 #[test]
 fn what_stands_before_the_events(rt: HostRuntime) {
-    for (bytes, line, kind) in REFUSED {
+    for &(bytes, line, kind) in REFUSED.iter() {
         let answer = check(rt.alloc(), bytes);
         assert!(rt; answer.err() == Some(ReplayError::Bad { line, kind }));
     }

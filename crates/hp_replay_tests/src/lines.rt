@@ -89,7 +89,7 @@ const FIRST: usize = 12;
 #[test]
 fn a_line_says_its_event(rt: HostRuntime) -> Result<(), Fail> {
     let journal = check(rt.alloc(), EACH_KIND)?;
-    for (number, line, event) in EVENTS {
+    for &(number, line, event) in EVENTS.iter() {
         assert!(rt; line_at(rt.alloc(), EACH_KIND, number)?.as_slice() == line);
         assert!(rt; journal.events().get(number.saturating_sub(FIRST)) == Some(&event));
     }

@@ -63,13 +63,13 @@ fn verdict_of_line(alloc: Global, words: &[u8], word: &[u8]) -> Result<Verdict, 
 
 #[test]
 fn numbers_of_their_types(rt: HostRuntime) -> Result<(), Fail> {
-    for (word, kind) in NUMBERS {
+    for &(word, kind) in NUMBERS.iter() {
         assert!(rt; verdict_of_line(rt.alloc(), b"leave ", word)? == Some((5, kind)));
     }
-    for (word, kind) in INTEGERS {
+    for &(word, kind) in INTEGERS.iter() {
         assert!(rt; verdict_of_line(rt.alloc(), b"enter 2 target 1 ", word)? == Some((5, kind)));
     }
-    for (word, kind) in COUNTS {
+    for &(word, kind) in COUNTS.iter() {
         assert!(rt; verdict_of_line(rt.alloc(), b"end ", word)? == Some((5, kind)));
     }
     Ok(())

@@ -6,7 +6,7 @@ use crate::suspends::FREEZE_WITH_SETUP_BETWEEN;
 use crate::walks::{
     FAULT_OF_AN_INSTANCE, FAULT_ON_THE_WAY_DOWN, FAULT_ON_THE_WAY_UP, STUCK_ON_THE_WAY_BACK,
 };
-use hp_event::Key;
+use hp_event::{Journal, Key};
 use hp_model::{net_of, registered_of, settled_of};
 use hp_replay::check;
 use std::alloc::Global;
@@ -248,17 +248,29 @@ fn after_a_thaw_all_processors_have_the_new_state(rt: HostRuntime) -> Result<(),
     )
 }
 
+/// Asserts that exactly these keys are registered, and in force on processor 0, which is online.
+fn assert_registered(
+    rt: &impl Abort,
+    alloc: Global,
+    journal: &Journal,
+    keys: &[Key],
+) -> Result<(), Fail> {
+    assert!(rt; settled_of(journal, 0) == 200);
+    assert!(rt; net_of(alloc, journal, 0)?.as_slice() == keys);
+    assert!(rt; registered_of(alloc, journal)?.as_slice() == keys);
+    Ok(())
+}
+
 #[test]
 fn each_dynamic_state_is_registered_once(rt: HostRuntime) -> Result<(), Fail> {
     let mut all = Vec::new(rt.alloc());
     for state in 141..172 {
         all.push(Key { state, inst: 0 })?;
     }
-    let journal = check(rt.alloc(), DYNAMIC_SETUPS)?;
-    let found = net_of(rt.alloc(), &journal, 0)?;
-    assert!(rt; settled_of(&journal, 0) == 200);
-    assert!(rt; found.as_slice() == all.as_slice());
-    let registered = registered_of(rt.alloc(), &journal)?;
-    assert!(rt; registered.as_slice() == all.as_slice());
-    Ok(())
+    assert_registered(
+        &rt,
+        rt.alloc(),
+        &check(rt.alloc(), DYNAMIC_SETUPS)?,
+        all.as_slice(),
+    )
 }

@@ -73,7 +73,7 @@ const BEHIND: [(&'static [u8], u32, ReplayKind); 8] = [
 
 #[test]
 fn what_stands_behind_the_text(rt: HostRuntime) -> Result<(), Fail> {
-    for (more, line, kind) in BEHIND {
+    for &(more, line, kind) in BEHIND.iter() {
         let all = with(rt.alloc(), more)?;
         let answer = check(rt.alloc(), all.as_slice());
         assert!(rt; answer.err() == Some(ReplayError::Bad { line, kind }));
@@ -96,7 +96,7 @@ const AMONG: [(&'static [u8], u32, ReplayKind); 9] = [
 
 #[test]
 fn what_stands_among_the_events(rt: HostRuntime) -> Result<(), Fail> {
-    for (more, line, kind) in AMONG {
+    for &(more, line, kind) in AMONG.iter() {
         let mut all = Vec::from_slice(rt.alloc(), b"cpuhp journal 1\ncpus 2\nabsent -\nevents\n")?;
         all.extend_from_slice(more)?;
         let answer = check(rt.alloc(), all.as_slice());

@@ -258,7 +258,7 @@ fn refuses(
 
 #[test]
 fn refusals(rt: HostRuntime) -> Result<(), Fail> {
-    for (bytes, hooks, line, kind) in REFUSED {
+    for &(bytes, hooks, line, kind) in REFUSED.iter() {
         assert!(rt; refuses(rt.alloc(), bytes, hooks, line, kind)?);
     }
     Ok(())
@@ -319,7 +319,7 @@ const KINDS: [(ScriptKind, u32, &str); 11] = [
 
 #[test]
 fn kinds(rt: HostRuntime) {
-    for (kind, number, text) in KINDS {
+    for &(kind, number, text) in KINDS.iter() {
         assert!(rt; kind as u32 == number);
         assert!(rt; kind.text() == text);
     }

@@ -106,7 +106,7 @@ fn said(alloc: Global, line: &[u8]) -> Result<Result<Op, ScriptKind>, Fail> {
 
 #[test]
 fn lines_of_operations(rt: HostRuntime) -> Result<(), Fail> {
-    for (line, wanted) in LINES {
+    for &(line, wanted) in LINES.iter() {
         assert!(rt; said(rt.alloc(), line)? == wanted);
     }
     Ok(())
@@ -194,7 +194,7 @@ fn the_numbers_of_a_rule_go_to_their_limits(rt: HostRuntime) -> Result<(), Fail>
         line: 3,
         kind: ScriptKind::BadNumber,
     };
-    for (numbers, is_read) in NUMBERS {
+    for &(numbers, is_read) in NUMBERS.iter() {
         let wanted = if is_read { None } else { Some(bad) };
         assert!(rt; refused(rt.alloc(), numbers)? == wanted);
     }

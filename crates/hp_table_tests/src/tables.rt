@@ -247,7 +247,7 @@ const LARGE: [(u32, u32); 3] = [(1, 62), (65, 100), (103, 135)];
 
 /// What is at each state of a large table.
 fn reads_states(rt: &impl Abort, table: &mut Table<ScriptHook>) -> Result<(), Fail> {
-    for (first, end) in LARGE {
+    for &(first, end) in LARGE.iter() {
         for state in first..end {
             put(table, state, record_of(1, true, ScriptHook::new()))?;
             for inst in 1..33 {
@@ -256,7 +256,7 @@ fn reads_states(rt: &impl Abort, table: &mut Table<ScriptHook>) -> Result<(), Fa
         }
     }
     assert!(rt; table.keys_between(0, 200) == 4096);
-    for (first, end) in LARGE {
+    for &(first, end) in LARGE.iter() {
         let keys = (end - first) * 32;
         assert!(rt; table.keys_between(first - 1, end - 1) == keys);
         for state in first..end {
