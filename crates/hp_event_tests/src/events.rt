@@ -125,10 +125,10 @@ fn a_head_knows_its_processors_and_subsystems(rt: HostRuntime) -> Result<(), Fai
         absent: Numbers::from_vec(Vec::from_slice(rt.alloc(), &[1, 3])?),
         subs,
     };
-    for (cpu, present) in [(0, true), (1, false), (2, true), (3, false), (4, false)] {
+    for &(cpu, present) in [(0, true), (1, false), (2, true), (3, false), (4, false)].iter() {
         assert!(rt; head.is_present(cpu) == present, "at {cpu}");
     }
-    for (number, there) in [(0, false), (1, true), (2, false), (u32::MAX, false)] {
+    for &(number, there) in [(0, false), (1, true), (2, false), (u32::MAX, false)].iter() {
         assert!(rt; head.sub(number).is_some() == there, "at {number}");
     }
     Ok(())
@@ -136,23 +136,27 @@ fn a_head_knows_its_processors_and_subsystems(rt: HostRuntime) -> Result<(), Fai
 
 #[test]
 fn entries_are_done_or_faults(rt: HostRuntime) {
-    for (how, done, called, fault) in [
+    for &(how, done, called, fault) in [
         (How::RanOk, true, true, None),
         (How::RanFault(5), false, true, Some(5)),
         (How::Injected, false, false, Some(11)),
         (How::Empty, true, false, None),
         (How::Presumed, true, false, None),
         (How::Overruled(5), true, true, None),
-    ] {
+    ]
+    .iter()
+    {
         assert!(rt; (how.is_done(), how.is_called(), how.fault()) == (done, called, fault));
     }
     let forward = Place::Forward;
-    for (code, dir, state, how) in [
+    for &(code, dir, state, how) in [
         (0, Dir::Up, 150, How::RanOk),
         (5, Dir::Up, 150, How::RanFault(5)),
         (5, Dir::Up, 80, How::Overruled(5)),
         (5, Dir::Down, 30, How::Overruled(5)),
-    ] {
+    ]
+    .iter()
+    {
         assert!(rt;
             How::of_answer(code, dir, state, forward) == how,
             "at {state}"
@@ -190,13 +194,15 @@ fn answers_leave_processors_where_they_say(rt: HostRuntime) {
         second: 9,
         at: 119,
     };
-    for (answer, at) in [
+    for &(answer, at) in [
         (Answer::Ok(0), 200),
         (Answer::Refused(16), 7),
         (Answer::Fault(5), 7),
         (stuck, 119),
         (Answer::LogFull, 7),
-    ] {
+    ]
+    .iter()
+    {
         assert!(rt; answer.leaves_at(200, 7) == at);
     }
 }

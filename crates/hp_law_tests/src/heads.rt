@@ -134,7 +134,7 @@ fn subsystems_have_names_or_none(rt: HostRuntime) -> Result<(), Fail> {
         let head = of_name(rt.alloc(), name)?;
         assert!(rt; is_head(&head) == wanted);
     }
-    for (count, wanted) in [(MAX_SUBS, true), (MAX_SUBS + 1, false)] {
+    for &(count, wanted) in [(MAX_SUBS, true), (MAX_SUBS + 1, false)].iter() {
         let head = of_subs(rt.alloc(), count)?;
         assert!(rt; is_head(&head) == wanted);
     }

@@ -98,7 +98,7 @@ fn begins_or_ends(law: &mut Law, wakeups: u32) -> Result<(bool, bool), Fail> {
 /// A walk without keys takes room for four events, and an operation that has no room for its walk ends.
 #[test]
 fn a_walk_without_room_ends_its_operation(rt: HostRuntime) -> Result<(), Fail> {
-    for (wakeups, has_room) in [(MAX_EVENTS - 12, true), (MAX_EVENTS - 11, false)] {
+    for &(wakeups, has_room) in [(MAX_EVENTS - 12, true), (MAX_EVENTS - 11, false)].iter() {
         let found = begins_or_ends(&mut machine(rt.alloc(), 2)?, wakeups)?;
         assert!(rt; found == (has_room, !has_room));
     }

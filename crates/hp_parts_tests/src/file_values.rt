@@ -24,7 +24,7 @@ fn numbers_are_read(rt: HostRuntime) -> Result<(), Fail> {
         (b"-2147483648\n", i32::MIN),
         (b"-0000000200\n", -200),
     ];
-    for (bytes, number) in rows {
+    for &(bytes, number) in rows.iter() {
         assert!(rt; read_i32(bytes) == Ok(number));
     }
     Ok(())
@@ -60,7 +60,7 @@ fn other_bytes_say_no_number(rt: HostRuntime) -> Result<(), Fail> {
         b"21474836470",
         b"-21474836480\n",
     ];
-    for bytes in rows {
+    for &bytes in rows.iter() {
         assert!(rt; read_i32(bytes) == Err(BadNumber));
     }
     Ok(())
@@ -76,7 +76,7 @@ fn numbers_are_shown(rt: HostRuntime) -> Result<(), Fail> {
         (i32::MAX, b"2147483647\n.\xff"),
         (i32::MIN, b"-2147483648\n\xff"),
     ];
-    for (number, bytes) in rows {
+    for &(number, bytes) in rows.iter() {
         let mut buf = [b'.'; 12];
         let count = show_number(number, &mut buf);
         assert!(rt; buf.as_slice() == &bytes[..12]);
@@ -110,7 +110,7 @@ fn table_of(alloc: Global) -> Result<Table<ScriptHook>, Fail> {
         (130, false, true),
         (120, false, false),
     ];
-    for (state, up, down) in states {
+    for &(state, up, down) in states.iter() {
         put(&mut table, state, up, down)?;
     }
     Ok(table)
@@ -138,7 +138,7 @@ fn targets(rt: HostRuntime) -> Result<(), Fail> {
         201,
         i32::MAX,
     ];
-    for value in refused {
+    for &value in refused.iter() {
         assert!(rt; check_target(&table, value) == Err(22));
     }
     Ok(())
@@ -158,7 +158,7 @@ fn armed_states(rt: HostRuntime) -> Result<(), Fail> {
         (150, 63),
         (150, 150),
     ];
-    for (value, shown) in rows {
+    for &(value, shown) in rows.iter() {
         assert!(rt; check_fail(&table, value, shown) == Ok(value));
     }
     let refused = [
@@ -179,7 +179,7 @@ fn armed_states(rt: HostRuntime) -> Result<(), Fail> {
         (201, 0),
         (i32::MAX, 0),
     ];
-    for (value, shown) in refused {
+    for &(value, shown) in refused.iter() {
         assert!(rt; check_fail(&table, value, shown) == Err(22));
     }
     Ok(())

@@ -3,7 +3,7 @@
 
 use hp_event::{Head, Name, Numbers, Sub, Subs};
 use hp_files::show_states;
-use hp_hook::{Hook, ScriptHook};
+use hp_hook::ScriptHook;
 use hp_states::HookPlan;
 use hp_table::{Record, Table};
 use std::alloc::Global;
@@ -42,48 +42,59 @@ fn put(table: &mut Table<ScriptHook>, state: u32, sub: u32) -> Result<(), Fail> 
     }
 }
 
-fn check<H: Hook>(
+/// The file of a head whose subsystems have these names, and of a table with these states, each of the
+/// subsystem of a number.
+fn text_of(alloc: Global, names: &[&[u8]], states: &[(u32, u32)]) -> Result<Vec<u8>, Fail> {
+    let mut table = Table::new(alloc)?;
+    for (state, sub) in states {
+        put(&mut table, *state, *sub)?;
+    }
+    let head = head_of(alloc, names)?;
+    Ok(show_states(alloc, &head, &table)?)
+}
+
+fn check(
     rt: &impl Abort,
     alloc: Global,
-    head: &Head,
-    table: &Table<H>,
+    names: &[&[u8]],
+    states: &[(u32, u32)],
     wanted: &[u8],
 ) -> Result<(), Fail> {
-    let text = show_states(alloc, head, table)?;
-    assert!(rt; text.as_slice() == wanted);
+    assert!(rt; text_of(alloc, names, states)?.as_slice() == wanted);
     Ok(())
 }
 
 #[test]
 fn the_built_in_states_alone(rt: HostRuntime) -> Result<(), Fail> {
-    let head = head_of(rt.alloc(), &[])?;
-    let table: Table<ScriptHook> = Table::new(rt.alloc())?;
     let wanted =
         b"  0: offline\n 62: cpu:bringup\n 63: idle:dead\n 64: ap:offline\n100: ap:online\n101: cpu:teardown\n102: online:idle\n199: sched:active\n200: online\n";
-    check(&rt, rt.alloc(), &head, &table, wanted)
+    check(&rt, rt.alloc(), &[], &[], wanted)
 }
 
 #[test]
 fn registered_states_are_named_too(rt: HostRuntime) -> Result<(), Fail> {
-    let head = head_of(rt.alloc(), &[b"net:a", b"net:b", b"x", b"y"])?;
-    let mut table = Table::new(rt.alloc())?;
-    for (state, sub) in [(150, 2), (41, 4), (120, 1), (7, 3)] {
-        put(&mut table, state, sub)?;
-    }
+    let names: [&[u8]; 4] = [b"net:a", b"net:b", b"x", b"y"];
     let wanted =
         b"  0: offline\n  7: x\n 41: y\n 62: cpu:bringup\n 63: idle:dead\n 64: ap:offline\n100: ap:online\n101: cpu:teardown\n102: online:idle\n120: net:a\n150: net:b\n199: sched:active\n200: online\n";
-    check(&rt, rt.alloc(), &head, &table, wanted)
+    check(
+        &rt,
+        rt.alloc(),
+        &names,
+        &[(150, 2), (41, 4), (120, 1), (7, 3)],
+        wanted,
+    )
 }
 
 /// A record whose subsystem's number is none of the head's has no line.
 #[test]
 fn a_number_past_the_heads_has_no_name(rt: HostRuntime) -> Result<(), Fail> {
-    let head = head_of(rt.alloc(), &[b"net:a"])?;
-    let mut table = Table::new(rt.alloc())?;
-    put(&mut table, 41, 0)?;
-    put(&mut table, 120, 1)?;
-    put(&mut table, 150, 2)?;
     let wanted =
         b"  0: offline\n 62: cpu:bringup\n 63: idle:dead\n 64: ap:offline\n100: ap:online\n101: cpu:teardown\n102: online:idle\n120: net:a\n199: sched:active\n200: online\n";
-    check(&rt, rt.alloc(), &head, &table, wanted)
+    check(
+        &rt,
+        rt.alloc(),
+        &[b"net:a"],
+        &[(41, 0), (120, 1), (150, 2)],
+        wanted,
+    )
 }

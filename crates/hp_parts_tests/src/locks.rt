@@ -52,50 +52,54 @@ impl By {
     }
 }
 
+/// The first two seats.
+fn two_seats(rt: &impl Abort, locks: &mut Locks) -> Result<(By, By), Fail> {
+    assert!(rt; locks.admitted() == 0);
+    let first = locks.admit()?;
+    let second = locks.admit()?;
+    Ok((By { seat: first }, By { seat: second }))
+}
+
+fn waits_of_a_walk(rt: &impl Abort, locks: &mut Locks) -> Result<(), Fail> {
+    let (reader, walker) = two_seats(rt, locks)?;
+    assert!(rt; reader.read(rt, locks) == Ok(()));
+    assert!(rt; walker.enter(rt, locks) == Ok(()));
+    assert!(rt; reader.enter(rt, locks) == Err(Why::MapsHeld(1)));
+    assert!(rt; walker.write(rt, locks) == Err(Why::ReadersIn(1)));
+    assert!(rt; reader.register(rt, locks) == Ok(()));
+    assert!(rt; walker.register(rt, locks) == Err(Why::RegIn(0)));
+    assert!(rt; walker.write(rt, locks) == Err(Why::ReadersIn(1)));
+    reader.unlock(rt, locks);
+    assert!(rt; walker.write(rt, locks) == Err(Why::RegIn(0)));
+    assert!(rt; locks.readers() == 0);
+    Ok(())
+}
+
 #[test]
 fn a_walk_waits_for_readers_and_then_for_a_registration(rt: HostRuntime) -> Result<(), Fail> {
-    let mut locks = Locks::new(rt.alloc());
-    let reader = By {
-        seat: locks.admit()?,
-    };
-    let walker = By {
-        seat: locks.admit()?,
-    };
-    assert!(&rt; reader.read(&rt, &mut locks) == Ok(()));
-    assert!(&rt; walker.enter(&rt, &mut locks) == Ok(()));
-    assert!(&rt; reader.enter(&rt, &mut locks) == Err(Why::MapsHeld(1)));
-    assert!(&rt; walker.write(&rt, &mut locks) == Err(Why::ReadersIn(1)));
-    assert!(&rt; reader.register(&rt, &mut locks) == Ok(()));
-    assert!(&rt; walker.register(&rt, &mut locks) == Err(Why::RegIn(0)));
-    assert!(&rt; walker.write(&rt, &mut locks) == Err(Why::ReadersIn(1)));
-    reader.unlock(&rt, &mut locks);
-    assert!(&rt; walker.write(&rt, &mut locks) == Err(Why::RegIn(0)));
-    assert!(&rt; locks.readers() == 0);
+    waits_of_a_walk(&rt, &mut Locks::new(rt.alloc()))
+}
+
+fn waits_for_a_walk(rt: &impl Abort, locks: &mut Locks) -> Result<(), Fail> {
+    let (other, walker) = two_seats(rt, locks)?;
+    assert!(rt; walker.enter(rt, locks) == Ok(()));
+    assert!(rt; walker.write(rt, locks) == Ok(()));
+    assert!(rt; other.read(rt, locks) == Err(Why::WriterIn(1)));
+    assert!(rt; other.register(rt, locks) == Err(Why::WriterIn(1)));
+    assert!(rt; locks.writer() == Some(walker.seat));
+    locks.end_write(walker.seat);
+    assert!(rt; other.read(rt, locks) == Ok(()));
+    assert!(rt; other.register(rt, locks) == Ok(()));
+    assert!(rt; locks.registrar() == Some(other.seat));
+    locks.end_reg(other.seat);
+    assert!(rt; locks.map_holder() == Some(walker.seat));
+    locks.leave_maps(walker.seat);
+    assert!(rt; other.enter(rt, locks) == Ok(()));
+    assert!(rt; locks.readers() == 1);
     Ok(())
 }
 
 #[test]
 fn a_walk_keeps_out_readers_and_registrations(rt: HostRuntime) -> Result<(), Fail> {
-    let mut locks = Locks::new(rt.alloc());
-    let other = By {
-        seat: locks.admit()?,
-    };
-    let walker = By {
-        seat: locks.admit()?,
-    };
-    assert!(&rt; walker.enter(&rt, &mut locks) == Ok(()));
-    assert!(&rt; walker.write(&rt, &mut locks) == Ok(()));
-    assert!(&rt; other.read(&rt, &mut locks) == Err(Why::WriterIn(1)));
-    assert!(&rt; other.register(&rt, &mut locks) == Err(Why::WriterIn(1)));
-    assert!(&rt; locks.writer() == Some(walker.seat));
-    locks.end_write(walker.seat);
-    assert!(&rt; other.read(&rt, &mut locks) == Ok(()));
-    assert!(&rt; other.register(&rt, &mut locks) == Ok(()));
-    assert!(&rt; locks.registrar() == Some(other.seat));
-    locks.end_reg(other.seat);
-    assert!(&rt; locks.map_holder() == Some(walker.seat));
-    locks.leave_maps(walker.seat);
-    assert!(&rt; other.enter(&rt, &mut locks) == Ok(()));
-    assert!(&rt; locks.readers() == 1);
-    Ok(())
+    waits_for_a_walk(&rt, &mut Locks::new(rt.alloc()))
 }

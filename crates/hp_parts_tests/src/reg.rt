@@ -20,7 +20,7 @@ const PLAIN: Form = Form {
 /// A table with single states at 45, 120 and 143, and a multi state at 30 with the instances 7 and 9.
 fn table(alloc: Global) -> Result<Table<ScriptHook>, Fail> {
     let mut table = Table::new(alloc)?;
-    for (state, multi) in [(45, false), (120, false), (143, false), (30, true)] {
+    for &(state, multi) in [(45, false), (120, false), (143, false), (30, true)].iter() {
         let record = Record {
             sub: 1,
             multi,

@@ -7,7 +7,7 @@ use hp_states::{
 
 #[test]
 fn states_lie_in_their_sections(rt: HostRuntime) {
-    for (state, section, name, ap, atomic, stop) in [
+    for &(state, section, name, ap, atomic, stop) in [
         (0, Section::Prepare, Some("offline"), false, false, true),
         (61, Section::Prepare, None, false, false, true),
         (
@@ -55,7 +55,9 @@ fn states_lie_in_their_sections(rt: HostRuntime) {
             true,
         ),
         (200, Section::Online, Some("online"), true, false, true),
-    ] {
+    ]
+    .iter()
+    {
         assert!(rt; section_of(state) == section, "at {state}");
         assert!(rt; builtin_name(state) == name, "at {state}");
         assert!(rt; is_ap(state) == ap, "at {state}");
@@ -69,13 +71,15 @@ fn states_lie_in_their_sections(rt: HostRuntime) {
 
 #[test]
 fn a_dynamic_range_is_asked_for_by_its_first_state(rt: HostRuntime) {
-    for (state, range) in [
+    for &(state, range) in [
         (40, None),
         (41, Some(Range::Prepare)),
         (42, None),
         (141, Some(Range::Online)),
         (171, None),
-    ] {
+    ]
+    .iter()
+    {
         assert!(rt; Range::asked_by(state) == range, "at {state}");
     }
     assert!(rt; (Range::Prepare.first(), Range::Prepare.last()) == (41, 61));
@@ -86,7 +90,7 @@ fn a_dynamic_range_is_asked_for_by_its_first_state(rt: HostRuntime) {
 fn processors_begin_and_cross_states(rt: HostRuntime) {
     assert!(rt; (first_state(0), first_state(1), first_state(63)) == (200, 0, 0));
     assert!(rt; (Dir::between(0, 1), Dir::between(1, 0)) == (Dir::Up, Dir::Down));
-    for (dir, before, after) in [(Dir::Up, 109, 110), (Dir::Down, 110, 109)] {
+    for &(dir, before, after) in [(Dir::Up, 109, 110), (Dir::Down, 110, 109)].iter() {
         assert!(rt; (dir.state_before(110), dir.state_after(110)) == (before, after));
         assert!(rt; dir.opposite().state_before(110) == after);
     }
@@ -95,7 +99,7 @@ fn processors_begin_and_cross_states(rt: HostRuntime) {
 #[test]
 fn names_have_their_form(rt: HostRuntime) {
     let long = [b'a'; 33];
-    for (name, wanted) in [
+    for &(name, wanted) in [
         (b"net:queue/0_a.B-9".as_slice(), true),
         (b"".as_slice(), true),
         (b"-".as_slice(), false),
@@ -103,7 +107,9 @@ fn names_have_their_form(rt: HostRuntime) {
         (b"a b".as_slice(), false),
         (&long[..32], true),
         (&long[..], false),
-    ] {
+    ]
+    .iter()
+    {
         assert!(rt; is_name(name) == wanted);
     }
     for byte in [
@@ -142,15 +148,17 @@ fn entries_may_fail_where_a_fault_can_be_undone(rt: HostRuntime) {
     let no = [(false, false), (false, false), (false, false)];
     let walking = [(true, false), (false, false), (true, true)];
     let adding = [(true, false), (false, false), (true, false)];
-    for (place, wanted) in [
+    for &(place, wanted) in [
         (Place::Forward, walking),
         (Place::Back, walking),
         (Place::Part, no),
         (Place::Add, adding),
         (Place::Undo, no),
         (Place::Remove, no),
-    ] {
-        for (state, want) in [(10, wanted[0]), (63, wanted[1]), (150, wanted[2])] {
+    ]
+    .iter()
+    {
+        for &(state, want) in [(10, wanted[0]), (63, wanted[1]), (150, wanted[2])].iter() {
             let may = (
                 may_fail(Dir::Up, state, place),
                 may_fail(Dir::Down, state, place),

@@ -269,7 +269,7 @@ fn stuck_in_a_rollback_up(rt: HostRuntime) -> Result<(), Fail> {
 #[test]
 fn nothing_crossed(rt: HostRuntime) -> Result<(), Fail> {
     let table = table_of(rt.alloc(), &[110, 130, 150], 130, &[])?;
-    for (from, to) in [
+    for &(from, to) in [
         (0, 109),
         (110, 149),
         (150, 200),
@@ -278,7 +278,9 @@ fn nothing_crossed(rt: HostRuntime) -> Result<(), Fail> {
         (109, 0),
         (1, 0),
         (0, 1),
-    ] {
+    ]
+    .iter()
+    {
         walks(&rt, &table, from, to, &[], (from, to, Answer::Ok(0)));
     }
     Ok(())

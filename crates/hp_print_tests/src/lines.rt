@@ -31,7 +31,7 @@ fn form(nocalls: bool, locked: bool) -> Form {
 fn a_line_of_each_seat_event(rt: HostRuntime) -> Result<(), Fail> {
     let ap = Role::Ap(7);
     let client = Role::Client;
-    for (event, wanted) in [
+    for &(event, wanted) in [
         (Event::Admit { seat: 3, role: ap }, "admit 3 ap 7\n"),
         (
             Event::Admit {
@@ -67,7 +67,9 @@ fn a_line_of_each_seat_event(rt: HostRuntime) -> Result<(), Fail> {
             },
             "armed 5 63 141\n",
         ),
-    ] {
+    ]
+    .iter()
+    {
         check(&rt, rt.alloc(), event, wanted.as_bytes())?;
     }
     Ok(())
@@ -75,12 +77,14 @@ fn a_line_of_each_seat_event(rt: HostRuntime) -> Result<(), Fail> {
 
 #[test]
 fn a_line_of_each_file_shown(rt: HostRuntime) -> Result<(), Fail> {
-    for (file, cpu, value, wanted) in [
+    for &(file, cpu, value, wanted) in [
         (File::State, 1, 200, "shown 5 state 1 200\n"),
         (File::Target, 10, 0, "shown 5 target 10 0\n"),
         (File::Fail, 2, -1, "shown 5 fail 2 -1\n"),
         (File::States, 0, 12, "shown 5 states 12\n"),
-    ] {
+    ]
+    .iter()
+    {
         let event = Event::Shown {
             seat: 5,
             file,
@@ -98,7 +102,7 @@ fn a_line_of_each_operation(rt: HostRuntime) -> Result<(), Fail> {
     let nocalls = form(true, false);
     let locked = form(false, true);
     let both = form(true, true);
-    for (op, wanted) in [
+    for &(op, wanted) in [
         (Op::Up(0), "refused 3 22 up 0\n"),
         (Op::Down(4095), "refused 3 22 down 4095\n"),
         (Op::Target(1, 140), "refused 3 22 target 1 140\n"),
@@ -164,7 +168,9 @@ fn a_line_of_each_operation(rt: HostRuntime) -> Result<(), Fail> {
         (Op::Freeze(63), "refused 3 22 freeze 63\n"),
         (Op::Thaw, "refused 3 22 thaw\n"),
         (Op::Wakeup, "refused 3 22 wakeup\n"),
-    ] {
+    ]
+    .iter()
+    {
         check(&rt, rt.alloc(), refused(op), wanted.as_bytes())?;
     }
     Ok(())
@@ -177,14 +183,16 @@ fn a_line_of_each_answer(rt: HostRuntime) -> Result<(), Fail> {
         second: 11,
         at: 120,
     };
-    for (answer, wanted) in [
+    for &(answer, wanted) in [
         (Answer::Ok(0), "done 3 ok 0\n"),
         (Answer::Ok(-1), "done 3 ok -1\n"),
         (Answer::Refused(16), "done 3 refused 16\n"),
         (Answer::Fault(4095), "done 3 fault 4095\n"),
         (stuck, "done 3 stuck 5 11 120\n"),
         (Answer::LogFull, "done 3 full\n"),
-    ] {
+    ]
+    .iter()
+    {
         check(
             &rt,
             rt.alloc(),
@@ -192,11 +200,13 @@ fn a_line_of_each_answer(rt: HostRuntime) -> Result<(), Fail> {
             wanted.as_bytes(),
         )?;
     }
-    for (answer, wanted) in [
+    for &(answer, wanted) in [
         (Answer::Ok(0), "walked 3 1 ok\n"),
         (Answer::Fault(4095), "walked 3 1 fault 4095\n"),
         (stuck, "walked 3 1 stuck 5 11 120\n"),
-    ] {
+    ]
+    .iter()
+    {
         let event = Event::WalkEnd {
             seat: 3,
             cpu: 1,
@@ -219,10 +229,12 @@ fn a_line_of_each_registration_event(rt: HostRuntime) -> Result<(), Fail> {
         },
     };
     check(&rt, rt.alloc(), begin, b"reg 3 142 setup 141 2 locked\n")?;
-    for (answer, wanted) in [
+    for &(answer, wanted) in [
         (Answer::Ok(142), "regged 3 ok 142\n"),
         (Answer::Fault(4095), "regged 3 fault 4095\n"),
-    ] {
+    ]
+    .iter()
+    {
         check(
             &rt,
             rt.alloc(),
@@ -242,7 +254,7 @@ fn a_line_of_each_how(rt: HostRuntime) -> Result<(), Fail> {
         to: 0,
     };
     check(&rt, rt.alloc(), begin, b"walk 3 1 200 0\n")?;
-    for (how, dir, wanted) in [
+    for &(how, dir, wanted) in [
         (How::RanOk, Dir::Up, "call 3 1 30 9 up ok\n"),
         (How::RanFault(1), Dir::Down, "call 3 1 30 9 down fault 1\n"),
         (How::Injected, Dir::Up, "call 3 1 30 9 up injected\n"),
@@ -253,7 +265,9 @@ fn a_line_of_each_how(rt: HostRuntime) -> Result<(), Fail> {
             Dir::Down,
             "call 3 1 30 9 down overruled 4095\n",
         ),
-    ] {
+    ]
+    .iter()
+    {
         let event = Event::Call {
             seat: 3,
             cpu: 1,

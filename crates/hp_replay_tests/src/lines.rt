@@ -140,10 +140,12 @@ const NOT_FIRST: [&'static [u8]; 11] = [
 /// Each in place of the first event's line.
 #[test]
 fn other_lines_say_none(rt: HostRuntime) -> Result<(), Fail> {
-    for (lines, kind) in [
+    for &(lines, kind) in [
         (NO_EVENTS.as_slice(), Syntax),
         (NOT_FIRST.as_slice(), Unlawful),
-    ] {
+    ]
+    .iter()
+    {
         for line in lines {
             let text = with_line(rt.alloc(), EACH_KIND, FIRST, line)?;
             assert!(rt; verdict_of(rt.alloc(), text.as_slice())? == Some((12, kind)));

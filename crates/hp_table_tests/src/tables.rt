@@ -63,13 +63,15 @@ fn calls_a_hook<H: Hook>(rt: &impl Abort, table: &mut Table<H>, hook: H) -> Resu
     assert!(rt; table.is_named(41) && !table.is_named(42));
     assert!(rt; table.step(42).is_none() && table.step(41).is_some());
     table.load(41, two_rules());
-    for (cpu, dir, want) in [
+    for &(cpu, dir, want) in [
         (1, Dir::Up, 7),
         (0, Dir::Up, 0),
         (1, Dir::Down, 0),
         (1, Dir::Up, 5),
         (1, Dir::Up, 7),
-    ] {
+    ]
+    .iter()
+    {
         assert!(rt; call(rt, table, 41, cpu, dir) == want);
     }
     let rec = table.uninstall(41)?;
@@ -124,7 +126,7 @@ fn a_refused_record_comes_back(rt: HostRuntime) -> Result<(), Fail> {
     let mut rec = record_of(2, true, ScriptHook::new());
     rec.hook.load(HookPlan::none());
     assert!(rt; rec.hook.call(0, 0, Dir::Up) == 0);
-    for (state, want) in [
+    for &(state, want) in [
         (0, TableError::Invalid),
         (200, TableError::Invalid),
         (201, TableError::Invalid),
@@ -132,7 +134,9 @@ fn a_refused_record_comes_back(rt: HostRuntime) -> Result<(), Fail> {
         (10, TableError::Busy),
         (62, TableError::Busy),
         (199, TableError::Busy),
-    ] {
+    ]
+    .iter()
+    {
         match table.install(state, rec) {
             Ok(()) => return Err(Fail::from(TableError::NoSpace)),
             Err((error, back)) => {
@@ -283,7 +287,7 @@ fn counts_keys(rt: &impl Abort, table: &mut Table<ScriptHook>) -> Result<(), Fai
     for inst in [8, 6, 7] {
         table.add_instance(20, inst)?;
     }
-    for (low, high, want) in [
+    for &(low, high, want) in [
         (0, 200, 5),
         (9, 10, 1),
         (10, 200, 4),
@@ -294,7 +298,9 @@ fn counts_keys(rt: &impl Abort, table: &mut Table<ScriptHook>) -> Result<(), Fai
         (0, u32::MAX, 5),
         (200, u32::MAX, 0),
         (u32::MAX, u32::MAX, 0),
-    ] {
+    ]
+    .iter()
+    {
         assert!(rt;
             table.keys_between(low, high) == want,
             "from {low} to {high}"
@@ -310,7 +316,7 @@ fn keys_are_counted_between_states(rt: HostRuntime) -> Result<(), Fail> {
 
 #[test]
 fn errors_have_numbers_and_texts(rt: HostRuntime) -> Result<(), Fail> {
-    for (error, number, errno, text) in [
+    for &(error, number, errno, text) in [
         (
             TableError::Invalid,
             1,
@@ -326,7 +332,9 @@ fn errors_have_numbers_and_texts(rt: HostRuntime) -> Result<(), Fail> {
         (TableError::NoSpace, 3, Some(28), "no free slot"),
         (TableError::TooMany, 4, Some(28), "too many instances"),
         (TableError::NoMemory, 5, None, "out of memory"),
-    ] {
+    ]
+    .iter()
+    {
         assert!(rt; (error as u32, error.errno()) == (number, errno));
         let shown = format!(in rt.alloc(); "{error}")?;
         assert!(rt; shown.as_str() == text);
