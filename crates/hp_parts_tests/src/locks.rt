@@ -60,7 +60,8 @@ fn two_seats(rt: &impl Abort, locks: &mut Locks) -> Result<(By, By), Fail> {
     Ok((By { seat: first }, By { seat: second }))
 }
 
-fn waits_of_a_walk(rt: &impl Abort, locks: &mut Locks) -> Result<(), Fail> {
+/// Seat 1 would walk, and waits for what seat 0 has.
+fn assert_walk_waits(rt: &impl Abort, locks: &mut Locks) -> Result<(), Fail> {
     let (reader, walker) = two_seats(rt, locks)?;
     assert!(rt; reader.read(rt, locks) == Ok(()));
     assert!(rt; walker.enter(rt, locks) == Ok(()));
@@ -77,10 +78,11 @@ fn waits_of_a_walk(rt: &impl Abort, locks: &mut Locks) -> Result<(), Fail> {
 
 #[test]
 fn a_walk_waits_for_readers_and_then_for_a_registration(rt: HostRuntime) -> Result<(), Fail> {
-    waits_of_a_walk(&rt, &mut Locks::new(rt.alloc()))
+    assert_walk_waits(&rt, &mut Locks::new(rt.alloc()))
 }
 
-fn waits_for_a_walk(rt: &impl Abort, locks: &mut Locks) -> Result<(), Fail> {
+/// Seat 1 walks, and seat 0 waits for it.
+fn assert_walk_keeps_out(rt: &impl Abort, locks: &mut Locks) -> Result<(), Fail> {
     let (other, walker) = two_seats(rt, locks)?;
     assert!(rt; walker.enter(rt, locks) == Ok(()));
     assert!(rt; walker.write(rt, locks) == Ok(()));
@@ -101,5 +103,5 @@ fn waits_for_a_walk(rt: &impl Abort, locks: &mut Locks) -> Result<(), Fail> {
 
 #[test]
 fn a_walk_keeps_out_readers_and_registrations(rt: HostRuntime) -> Result<(), Fail> {
-    waits_for_a_walk(&rt, &mut Locks::new(rt.alloc()))
+    assert_walk_keeps_out(&rt, &mut Locks::new(rt.alloc()))
 }
