@@ -1,8 +1,7 @@
--- A word whose bytes are those of a first word is that first word, and its row says what the table says.
-use Rattle.std.proofs.Common.{◌≡◌, ℕ, Bool, true, false, cond, List, [], ◌∷◌, map, length, Option, Some, None, refl, sym, ap, ◌∙◌}
+-- What the row of a first word says is what the table says.
+use Rattle.std.proofs.Common.{◌≡◌, ℕ, Bool, true, false, cond, List, [], ◌∷◌, map, Option, Some, None, refl, sym, ap, ◌∙◌}
 use Rattle.std.specs.Prelude.{find}
 use Rattle.std.specs.Str.{bytes_eq}
-use Rattle.std.proofs.lemmas.Slice.Eq.{HasBytesAt, text_from_reads}
 use Rattle.hp_event.specs.declared.op.Op.{Op}
 use Rattle.hp_event.specs.declared.op.Op.TheVariants as op
 use Rattle.hp_event.specs.declared.event.Event.{Event}
@@ -48,27 +47,6 @@ unknown text tail (u ∷ us) w ws e = unknown_by text tail u us w ws (unknown te
 
 -- ---- event lines
 
-of_its_text : (v : EventWord) → ◌≡◌ {A = Option EventWord} (Some v) (event_word_of (text_of_event v))
-unfolding event_word_of
-of_its_text event_word.Admit = refl
-of_its_text event_word.Leave = refl
-of_its_text event_word.Enter = refl
-of_its_text event_word.Refused = refl
-of_its_text event_word.Walk = refl
-of_its_text event_word.Call = refl
-of_its_text event_word.Walked = refl
-of_its_text event_word.Done = refl
-of_its_text event_word.Reg = refl
-of_its_text event_word.Regged = refl
-of_its_text event_word.Lock = refl
-of_its_text event_word.Unlock = refl
-of_its_text event_word.Armed = refl
-of_its_text event_word.Shown = refl
-of_its_text event_word.Wakeup = refl
-
-pub is_event_word : (v : EventWord) (word : List ℕ) → length word ≡ length (text_of_event v) → HasBytesAt word 0 (text_of_event v) → ◌≡◌ {A = Option EventWord} (Some v) (event_word_of word)
-is_event_word v word count bytes = of_its_text v ∙ sym (ap event_word_of (text_from_reads word (text_of_event v) count bytes))
-
 abbrev pub event_tail : EventWord → Tail Event
 event_tail event_word.Admit = admit_tail
 event_tail event_word.Leave = numbered (λ seat. event.Leave seat)
@@ -109,29 +87,6 @@ unfolding event_word_of event_at
 other_event words word first is = unknown text_of_event event_tail event_words word (others_of words) is ∙ by_row event_rows words word first
 
 -- ---- operations
-
-op_of_its_text : (v : OpWord) → ◌≡◌ {A = Option OpWord} (Some v) (op_word_of (text_of_op v))
-unfolding op_word_of
-op_of_its_text op_word.Up = refl
-op_of_its_text op_word.Down = refl
-op_of_its_text op_word.Target = refl
-op_of_its_text op_word.Fail = refl
-op_of_its_text op_word.Show = refl
-op_of_its_text op_word.Setup = refl
-op_of_its_text op_word.Remove = refl
-op_of_its_text op_word.Add = refl
-op_of_its_text op_word.Del = refl
-op_of_its_text op_word.Lock = refl
-op_of_its_text op_word.Unlock = refl
-op_of_its_text op_word.Boot = refl
-op_of_its_text op_word.Disable = refl
-op_of_its_text op_word.Enable = refl
-op_of_its_text op_word.Freeze = refl
-op_of_its_text op_word.Thaw = refl
-op_of_its_text op_word.Wakeup = refl
-
-pub is_op_word : (v : OpWord) (word : List ℕ) → length word ≡ length (text_of_op v) → HasBytesAt word 0 (text_of_op v) → ◌≡◌ {A = Option OpWord} (Some v) (op_word_of word)
-is_op_word v word count bytes = op_of_its_text v ∙ sym (ap op_word_of (text_from_reads word (text_of_op v) count bytes))
 
 abbrev pub op_tail : OpWord → Tail Op
 op_tail op_word.Up = numbered (λ cpu. op.Up cpu)

@@ -3,6 +3,8 @@
 ghost use Rattle.std.specs.Prelude.{◌≡◌};
 ghost use Rattle.hp_replay.specs.FirstWords.{event_word_of, op_word_of};
 
+use hp_states::find_word;
+
 /// The first word of an event's line, which says what kind of event it is.
 #[derive(Clone, Copy)]
 pub enum EventWord {
@@ -45,54 +47,56 @@ pub enum OpWord {
     Wakeup,
 }
 
+/// The first words of event lines, each with what it says.
+const EVENT_WORDS: [(&'static [u8], EventWord); 15] = [
+    (b"admit", EventWord::Admit),
+    (b"leave", EventWord::Leave),
+    (b"enter", EventWord::Enter),
+    (b"refused", EventWord::Refused),
+    (b"walk", EventWord::Walk),
+    (b"call", EventWord::Call),
+    (b"walked", EventWord::Walked),
+    (b"done", EventWord::Done),
+    (b"reg", EventWord::Reg),
+    (b"regged", EventWord::Regged),
+    (b"lock", EventWord::Lock),
+    (b"unlock", EventWord::Unlock),
+    (b"armed", EventWord::Armed),
+    (b"shown", EventWord::Shown),
+    (b"wakeup", EventWord::Wakeup),
+];
+
 /// Which first word of an event's line a word is.
-#[tactic(auto, unfolding(crate::specs::FirstWords::event_word_of))]
 pub fn event_word(word: &[u8]) -> Option<EventWord>
     ensures { result ≡ event_word_of word.now }
 {
-    match word {
-        b"admit" => Some(EventWord::Admit),
-        b"leave" => Some(EventWord::Leave),
-        b"enter" => Some(EventWord::Enter),
-        b"refused" => Some(EventWord::Refused),
-        b"walk" => Some(EventWord::Walk),
-        b"call" => Some(EventWord::Call),
-        b"walked" => Some(EventWord::Walked),
-        b"done" => Some(EventWord::Done),
-        b"reg" => Some(EventWord::Reg),
-        b"regged" => Some(EventWord::Regged),
-        b"lock" => Some(EventWord::Lock),
-        b"unlock" => Some(EventWord::Unlock),
-        b"armed" => Some(EventWord::Armed),
-        b"shown" => Some(EventWord::Shown),
-        b"wakeup" => Some(EventWord::Wakeup),
-        _ => None,
-    }
+    find_word(&EVENT_WORDS, word)
 }
 
+/// The first words of operations, each with what it says.
+const OP_WORDS: [(&'static [u8], OpWord); 17] = [
+    (b"up", OpWord::Up),
+    (b"down", OpWord::Down),
+    (b"target", OpWord::Target),
+    (b"fail", OpWord::Fail),
+    (b"show", OpWord::Show),
+    (b"setup", OpWord::Setup),
+    (b"remove", OpWord::Remove),
+    (b"add", OpWord::Add),
+    (b"del", OpWord::Del),
+    (b"lock", OpWord::Lock),
+    (b"unlock", OpWord::Unlock),
+    (b"boot", OpWord::Boot),
+    (b"disable", OpWord::Disable),
+    (b"enable", OpWord::Enable),
+    (b"freeze", OpWord::Freeze),
+    (b"thaw", OpWord::Thaw),
+    (b"wakeup", OpWord::Wakeup),
+];
+
 /// Which first word of an operation a word is.
-#[tactic(auto, unfolding(crate::specs::FirstWords::op_word_of))]
 pub fn op_word(word: &[u8]) -> Option<OpWord>
     ensures { result ≡ op_word_of word.now }
 {
-    match word {
-        b"up" => Some(OpWord::Up),
-        b"down" => Some(OpWord::Down),
-        b"target" => Some(OpWord::Target),
-        b"fail" => Some(OpWord::Fail),
-        b"show" => Some(OpWord::Show),
-        b"setup" => Some(OpWord::Setup),
-        b"remove" => Some(OpWord::Remove),
-        b"add" => Some(OpWord::Add),
-        b"del" => Some(OpWord::Del),
-        b"lock" => Some(OpWord::Lock),
-        b"unlock" => Some(OpWord::Unlock),
-        b"boot" => Some(OpWord::Boot),
-        b"disable" => Some(OpWord::Disable),
-        b"enable" => Some(OpWord::Enable),
-        b"freeze" => Some(OpWord::Freeze),
-        b"thaw" => Some(OpWord::Thaw),
-        b"wakeup" => Some(OpWord::Wakeup),
-        _ => None,
-    }
+    find_word(&OP_WORDS, word)
 }

@@ -1,6 +1,5 @@
 mod Cases
 mod OperationCases
-pub mod VerbWords
 pub mod PieceLoops
 pub mod Ranging
 pub mod Wrongs

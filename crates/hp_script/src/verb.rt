@@ -3,8 +3,10 @@
 ghost use Rattle.std.specs.Prelude.{◌≡◌};
 ghost use Rattle.hp_script.specs.Verbs.{verb_of};
 
+use hp_states::find_word;
+
 /// The first word of a line, which says what kind of line it is.
-#[derive(Clone, Copy, Debug, PartialEq, Eq)]
+#[derive(Clone, Copy)]
 pub enum Verb {
     Cpus,
     Absent,
@@ -31,35 +33,36 @@ pub enum Verb {
     Wakeup,
 }
 
+/// The words of the verbs, each with its verb.
+const VERBS: [(&'static [u8], Verb); 23] = [
+    (b"cpus", Verb::Cpus),
+    (b"absent", Verb::Absent),
+    (b"sub", Verb::Sub),
+    (b"rule", Verb::Rule),
+    (b"schedule", Verb::Schedule),
+    (b"actor", Verb::Actor),
+    (b"up", Verb::Up),
+    (b"down", Verb::Down),
+    (b"target", Verb::Target),
+    (b"fail", Verb::Fail),
+    (b"show", Verb::Show),
+    (b"setup", Verb::Setup),
+    (b"remove", Verb::Remove),
+    (b"add", Verb::Add),
+    (b"del", Verb::Del),
+    (b"lock", Verb::Lock),
+    (b"unlock", Verb::Unlock),
+    (b"boot", Verb::Boot),
+    (b"disable", Verb::Disable),
+    (b"enable", Verb::Enable),
+    (b"freeze", Verb::Freeze),
+    (b"thaw", Verb::Thaw),
+    (b"wakeup", Verb::Wakeup),
+];
+
 /// The verb whose word this is.
-#[tactic(auto, unfolding(crate::specs::Verbs::verb_of))]
 pub fn verb_of(word: &[u8]) -> Option<Verb>
     ensures { result ≡ verb_of word.now }
 {
-    match word {
-        b"cpus" => Some(Verb::Cpus),
-        b"absent" => Some(Verb::Absent),
-        b"sub" => Some(Verb::Sub),
-        b"rule" => Some(Verb::Rule),
-        b"schedule" => Some(Verb::Schedule),
-        b"actor" => Some(Verb::Actor),
-        b"up" => Some(Verb::Up),
-        b"down" => Some(Verb::Down),
-        b"target" => Some(Verb::Target),
-        b"fail" => Some(Verb::Fail),
-        b"show" => Some(Verb::Show),
-        b"setup" => Some(Verb::Setup),
-        b"remove" => Some(Verb::Remove),
-        b"add" => Some(Verb::Add),
-        b"del" => Some(Verb::Del),
-        b"lock" => Some(Verb::Lock),
-        b"unlock" => Some(Verb::Unlock),
-        b"boot" => Some(Verb::Boot),
-        b"disable" => Some(Verb::Disable),
-        b"enable" => Some(Verb::Enable),
-        b"freeze" => Some(Verb::Freeze),
-        b"thaw" => Some(Verb::Thaw),
-        b"wakeup" => Some(Verb::Wakeup),
-        _ => None,
-    }
+    find_word(&VERBS, word)
 }

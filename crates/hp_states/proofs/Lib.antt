@@ -1,2 +1,3 @@
+mod Looking
 pub mod Padded
 pub mod RuleCounts

@@ -3,3 +3,4 @@ pub mod Crossings
 pub mod Names
 pub mod Rules
 pub mod Plans
+pub mod Words

@@ -2,11 +2,12 @@
 //!
 //! A state is a number from 0 to 200. This crate says which section a state lies in, which states
 //! are built in, where a walk may stop and where a callback may fail; and what a plan of rules
-//! answers to a call. Every limit of the project has its name here.
+//! answers to a call. Every limit of the project has its name here, and `find_word` looks a word up in
+//! a table.
 //!
 //! Its contract is a set of tables, each a definition of `specs/` that a clause cites:
 //! `specs/Sections.antt` for the states, `specs/Crossings.antt` for walks across them,
-//! `specs/Names.antt` for the form of a name, `specs/Rules.antt` for plans. `answer_by_counts` is
+//! `specs/Names.antt` for the form of a name, `specs/Rules.antt` for plans, `specs/Words.antt` for words. `answer_by_counts` is
 //! the law that a plan's answers can be had from counts, one for each rule. No function takes
 //! memory, and none refuses anything but a ninth rule.
 #![tactic(auto)]
@@ -18,6 +19,7 @@ mod no_memory;
 mod place;
 mod plan;
 mod section;
+mod word;
 
 pub use dir::Dir;
 pub use limits::{
@@ -35,3 +37,4 @@ pub use section::{
     Range, Section, builtin_name, can_stop, first_state, is_ap, is_atomic, is_builtin, may_fail,
     section_of,
 };
+pub use word::find_word;
