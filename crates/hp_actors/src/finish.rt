@@ -51,9 +51,9 @@ impl<H: Hook> Run<H> {
     {
         self.rests();
         let Run { board, actors, .. } = self;
-        give_back(actors, rack)?;
+        let given = give_back(actors, rack);
         match board.retire(rack) {
-            Ok(_) => Ok(()),
+            Ok(_) => given,
             Err(_) => Err(NoMemory),
         }
     }

@@ -35,13 +35,28 @@ pub(crate) fn seated_board<H: Hook>(
     ensures none { IfOk result (λ board. hook_count board.places ≡ 0) }
 {
     let mut board = board_of(alloc, head)?;
+    seat_all(&mut board, head, clients)?;
+    Ok(board)
+}
+
+/// Lets the threads of the present processors into an empty machine, in rising number, and after them so many
+/// clients.
+fn seat_all<H: Hook>(board: &mut Board<H>, head: &Head, clients: u32) -> Result<(), NoMemory>
+    requires head { IsHead head.now }
+    requires few { length (present head.now) + clients ≤ MAX_SEATS }
+    requires same { board.old.head ≡ head.now }
+    requires empty { board.old.events ≡ [] }
+    ensures head { OnOk result (board.new.head ≡ head.now) }
+    ensures events { OnOk result (board.new.events ≡ admissions head.now (replicate clients [])) }
+    ensures places { OnOk result (board.new.places ≡ board.old.places) }
+{
     for cpu in 0..head.possible {
-        admit_thread(&mut board, head, cpu)?;
+        admit_thread(board, head, cpu)?;
     }
     for _ in 0..clients {
-        admit(&mut board, Role::Client)?;
+        admit(board, Role::Client)?;
     }
-    Ok(board)
+    Ok(())
 }
 
 /// How many processors are present. Takes no memory.

@@ -1,6 +1,7 @@
 -- The last hooks are those of the registered states, and all are there.
 use Rattle.std.proofs.Common.{◌≡◌, None, ap, sym, subst, ◌∙◌, arith}
 use Rattle.std.specs.List.{sum_by}
+use Rattle.std.proofs.lemmas.Result.{on_ok_weaker}
 use Rattle.hp_board.proofs.HooksCounted.{racked_counted}
 use Rattle.hp_board.specs.Retired.{registered_hooks}
 use Rattle.hp_model.specs.Registrations.{registration}
@@ -15,17 +16,19 @@ returns-in-Ok g c =
     let r = c.in-Ok.ensures.registered free in
     let retired = racked_counted
     (λ h. record { plan = g.H.Hook.plan h; seen = g.H.Hook.seen h; made = g.H.Hook.made h; faults = g.H.Hook.faults h })
-    c.give_back.new.rack.hooks.items c.retire.new.rack.hooks.items c.self.inside.board.places c.in-Ok.ensures.hooks in
-    let back = c.in_ok-give_back.ensures in
+    c.give_back-given.new.rack.hooks.items c.retire.new.rack.hooks.items c.self.inside.board.places c.in-Ok.ensures.hooks in
     let held = c.self.invariant.playing.held in
     let setups = ap (λ (p : Position). sum_by setups_in p.actors) c.self.view_is in
+    let given = c.give_back-given in
     record {
       last =
-          record {
-            front = c.give_back.new.rack.hooks.items;
+          on_ok_weaker given.result (
+          λ _. record {
+            front = given.new.rack.hooks.items;
             back = r.added;
             hooks_are = r.behind;
             last_are = r.are ∙ ap (λ (p : Position). registered_hooks p.head p.progress.events) c.self.view_is;
-          };
-      all = omega (arith, retired, back, held, setups);
+          }
+          ) given.ensures;
+      all = on_ok_weaker given.result (λ back. omega (arith, retired, back, held, setups)) given.ensures;
     }

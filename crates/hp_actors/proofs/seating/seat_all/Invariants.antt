@@ -1,15 +1,14 @@
 use Rattle.std.proofs.Common.{◌≡◌}
-use Rattle.hp_board.specs.HookCount.{hook_count}
 use Rattle.hp_model.specs.Run.{ap_admits}
 use Rattle.hp_actors.proofs.Admissions.{present_below, seated}
-use Rattle.hp_actors.proofs.seating.seated_board.Given as goal
+use Rattle.hp_actors.proofs.seating.seat_all.Given as goal
 
 abbrev pub invariant-loop-cpu : goal.invariant-loop-cpu
 invariant-loop-cpu g l =
     record {
       head : l.board.head ≡ l.fn.head;
       events : l.board.events ≡ ap_admits 0 (present_below l.fn.head l.cpu);
-      none : hook_count l.board.places ≡ 0;
+      places : l.board.places ≡ l.fn.board.places;
     }
 
 abbrev pub invariant-loop : goal.invariant-loop
@@ -17,5 +16,5 @@ invariant-loop g l =
     record {
       head : l.board.head ≡ l.fn.head;
       events : l.board.events ≡ seated l.fn.head l.counter;
-      none : hook_count l.board.places ≡ 0;
+      places : l.board.places ≡ l.fn.board.places;
     }

@@ -5,12 +5,11 @@ use Rattle.hp_event.specs.declared.event.Event.TheVariants.{Admit}
 use Rattle.hp_event.specs.declared.event.Role.TheVariants.{Client, Ap}
 use Rattle.hp_event.specs.declared.head.Head.{Head}
 use Rattle.hp_board.specs.Contents.{Contents}
-use Rattle.hp_board.specs.HookCount.{hook_count}
 use Rattle.hp_model.specs.Lawful.{Stands}
 use Rattle.hp_model.specs.Run.{ap_admits}
 use Rattle.hp_model.specs.Seats.{admits}
 use Rattle.hp_actors.proofs.Admissions.{seated, present_below, seated_none, ap_stands, ap_next, client_stands, clients_admitted, seated_more}
-use Rattle.hp_actors.proofs.seating.seated_board.Goals as goal
+use Rattle.hp_actors.proofs.seating.seat_all.Goals as goal
 
 pub admit_thread-requires : goal.admit_thread-requires
 admit_thread-requires g c = λ there.
@@ -28,7 +27,7 @@ loop-cpu-preserved g c =
       events =
           ap_next c.args.head.now c.args.clients c.loop-cpu.cpu c.loop-cpu.board.events c.admit_thread.new.board.events
           c.requires.head c.requires.few c.loop-cpu-test.true i.events e.there e.absent;
-      none = ap hook_count e.places ∙ i.none;
+      places = e.places ∙ i.places;
     }
 
 pub admit-requires : goal.admit-requires
@@ -50,7 +49,7 @@ loop-preserved g c =
           ∙ (ap (λ k. seated c.args.head.now c.loop.counter ++ Admit k Client ∷ [])
           (clients_admitted c.args.head.now c.args.clients c.loop.counter c.requires.head c.requires.few c.loop-test.true)
           ∙ sym (seated_more c.args.head.now c.loop.counter)));
-      none = ap (λ (b : Contents). hook_count b.places) e ∙ i.none;
+      places = ap (λ (b : Contents). b.places) e ∙ i.places;
     }
 
 pub loop-init : goal.loop-init
@@ -60,5 +59,5 @@ loop-init g c =
     record {
       head = i.head;
       events = i.events ∙ (ap (λ n. ap_admits 0 (present_below c.args.head.now n)) all ∙ seated_none c.args.head.now);
-      none = i.none;
+      places = i.places;
     }
