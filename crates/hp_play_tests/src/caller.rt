@@ -83,11 +83,21 @@ pub fn run<H: Hook>(
     Ok((status, sink.bytes))
 }
 
+/// The same with twelve hooks of scripts, which are not looked at afterwards.
+pub fn run_alone(
+    rt: &impl Abort,
+    alloc: Global,
+    words: &[&str],
+    input: &[u8],
+) -> Result<(u8, Vec<u8>), Fail> {
+    let mut rack = some_hooks(alloc, 12)?;
+    run(rt, alloc, words, input, &mut rack)
+}
+
 /// Runs each row, and compares its status and what is written.
 pub fn check(rt: &impl Abort, alloc: Global, rows: &[Row]) -> Result<(), Fail> {
     for row in rows {
-        let mut rack = some_hooks(alloc, 12)?;
-        let (status, written) = run(rt, alloc, row.words, row.input, &mut rack)?;
+        let (status, written) = run_alone(rt, alloc, row.words, row.input)?;
         assert!(rt; status == row.status);
         assert!(rt; written.as_slice() == row.output);
     }

@@ -10,28 +10,21 @@ use std::test::*;
 /// The only client's seat, behind those of the two threads.
 const CLIENT: u32 = 2;
 
-/// A board of two processors with no subsystem, their threads, and one client.
-fn board(alloc: Global) -> Result<Board<ScriptHook>, Fail> {
+/// A board of two processors with no subsystem, in which no seat is.
+fn empty_board(alloc: Global) -> Result<Board<ScriptHook>, Fail> {
     let plan = CpuPlan {
         possible: 2,
         absent: Numbers::new(alloc),
     };
-    let mut board = Board::start(alloc, plan, Subs::new(alloc))?;
-    if come_in(&mut board) {
-        Ok(board)
-    } else {
-        Err(Fail::from("the seats come in"))
-    }
+    Ok(Board::start(alloc, plan, Subs::new(alloc))?)
 }
 
-/// Whether the two threads and the client come in.
-fn come_in(board: &mut Board<ScriptHook>) -> bool {
+/// Lets the two threads and the client in.
+fn come_in(board: &mut Board<ScriptHook>) -> Result<(), Fail> {
     for role in [Role::Ap(0), Role::Ap(1), Role::Client] {
-        if board.admit(role).is_err() {
-            return false;
-        }
+        board.admit(role)?;
     }
-    true
+    Ok(())
 }
 
 /// The client's operation until it is answered, with turns of processor 1's thread between its own.
@@ -49,9 +42,10 @@ fn answer(board: &mut Board<ScriptHook>, op: Op) -> Result<Answer, Fail> {
     Err(Fail::from("the operation is answered"))
 }
 
-/// What `up 1` is answered after so many reads of a state, the processor's state then, and the journal's
-/// length.
+/// What `up 1` is answered on an empty board after so many reads of a state, the processor's state then,
+/// and the journal's length.
 fn up_after(board: &mut Board<ScriptHook>, reads: u32) -> Result<(Answer, u32, u32), Fail> {
+    come_in(board)?;
     for _ in 0..reads {
         if answer(board, Op::ShowState(0))? != Answer::Ok(200) {
             return Err(Fail::from("processor 0 is shown online"));
@@ -66,7 +60,7 @@ fn up_after(board: &mut Board<ScriptHook>, reads: u32) -> Result<(Answer, u32, u
 
 /// The same on a board of its own.
 fn up_alone_after(alloc: Global, reads: u32) -> Result<(Answer, u32, u32), Fail> {
-    up_after(&mut board(alloc)?, reads)
+    up_after(&mut empty_board(alloc)?, reads)
 }
 
 #[test]

@@ -1,9 +1,13 @@
 //! `hp_main` as its caller meets it: the status, the bytes that are written, and what a fault leaves.
 
+ghost use Rattle.std.specs.Prelude.{◌<◌};
+
 use crate::caller::{ample_sink, run, run_with, some_hooks, source_of};
 use hp_hook::{Hook, Rack, ScriptHook};
+use hp_io::{MemSink, MemSource};
 use hp_states::{Dir, HookPlan, MAX_SCRIPT_BYTES};
 use std::alloc::Global;
+use std::process::Abort;
 use std::sync::Arc;
 use std::sync::atomic::{AtomicU64, Ordering};
 use std::test::*;
@@ -89,12 +93,10 @@ fn a_script_is_played(rt: HostRuntime) -> Result<(), Fail> {
     let alloc = rt.alloc();
     let mut rack = some_hooks(alloc, 4)?;
     let (status, written) = run(&rt, alloc, &["play"], SCRIPT, &mut rack)?;
-    assert!(rt; status == 0);
-    assert!(rt; written.as_slice() == PLAYED);
+    assert!(rt; (status, written.as_slice()) == (0, PLAYED));
     assert!(rt; rack.hooks.len() == 4);
     for (hook, made) in rack.hooks.iter().zip([0, 0, 2, 2]) {
-        assert!(rt; hook.made() == made);
-        assert!(rt; hook.faults() == 0);
+        assert!(rt; (hook.made(), hook.faults()) == (made, 0));
     }
     Ok(())
 }
@@ -117,38 +119,68 @@ fn hooks_of_the_caller_are_called(rt: HostRuntime) -> Result<(), Fail> {
     Ok(())
 }
 
+/// Plays the script from this source into this sink.
+fn play(
+    rt: &impl Abort,
+    alloc: Global,
+    source: &mut MemSource,
+    sink: &mut MemSink,
+) -> Result<u8, Fail>
+    requires source { source.old.faults < u64.MAX }
+    requires sink { sink.old.faults < u64.MAX }
+{
+    let mut rack = some_hooks(alloc, 4)?;
+    run_with(rt, alloc, &["play"], source, sink, &mut rack)
+}
+
+/// The status where this read fails, by ten bytes each, how many failed, and how many writes there were.
+fn play_with_failing_read(
+    rt: &impl Abort,
+    alloc: Global,
+    call: u64,
+) -> Result<(u8, u64, u64), Fail> {
+    let mut source = source_of(alloc, SCRIPT)?;
+    source.step = 10;
+    source.fails.push(call)?;
+    let mut sink = ample_sink(alloc)?;
+    let status = play(rt, alloc, &mut source, &mut sink)?;
+    Ok((status, source.faults, sink.calls))
+}
+
 #[test]
 fn each_failing_read_is_told(rt: HostRuntime) -> Result<(), Fail> {
-    let alloc = rt.alloc();
-    let mut rack = some_hooks(alloc, 4)?;
     // 88 bytes by tens, and the end
     for call in 1..11 {
-        let mut source = source_of(alloc, SCRIPT)?;
-        source.step = 10;
-        source.fails.push(call)?;
-        let mut sink = ample_sink(alloc)?;
-        let status = run_with(&rt, alloc, &["play"], &mut source, &mut sink, &mut rack)?;
-        assert!(rt; status == 3, "read {call}");
-        assert!(rt; (source.faults, sink.calls) == (1, 0), "read {call}");
+        assert!(rt;
+            play_with_failing_read(&rt, rt.alloc(), call)? == (3, 1, 0),
+            "read {call}"
+        );
     }
     Ok(())
 }
 
+/// The status where this write fails, by a hundred bytes each, how many failed, and what was written.
+fn play_with_failing_write(
+    rt: &impl Abort,
+    alloc: Global,
+    call: u64,
+) -> Result<(u8, u64, Vec<u8>), Fail> {
+    let mut source = source_of(alloc, SCRIPT)?;
+    let mut sink = ample_sink(alloc)?;
+    sink.step = 100;
+    sink.fails.push(call)?;
+    let status = play(rt, alloc, &mut source, &mut sink)?;
+    Ok((status, sink.faults, sink.bytes))
+}
+
 #[test]
 fn each_failing_write_is_told(rt: HostRuntime) -> Result<(), Fail> {
-    let alloc = rt.alloc();
-    let mut rack = some_hooks(alloc, 4)?;
     // 579 bytes by hundreds
     for call in 1..7 {
-        let mut source = source_of(alloc, SCRIPT)?;
-        let mut sink = ample_sink(alloc)?;
-        sink.step = 100;
-        sink.fails.push(call)?;
-        let status = run_with(&rt, alloc, &["play"], &mut source, &mut sink, &mut rack)?;
-        assert!(rt; status == 4, "write {call}");
-        assert!(rt; PLAYED.starts_with(&sink.bytes), "write {call}");
-        assert!(rt; sink.bytes.len() < PLAYED.len(), "write {call}");
-        assert!(rt; sink.faults == 1, "write {call}");
+        let (status, faults, written) = play_with_failing_write(&rt, rt.alloc(), call)?;
+        assert!(rt; (status, faults) == (4, 1), "write {call}");
+        assert!(rt; PLAYED.starts_with(&written), "write {call}");
+        assert!(rt; written.len() < PLAYED.len(), "write {call}");
     }
     Ok(())
 }

@@ -1,7 +1,9 @@
 //! Eight processors, twelve subsystems and six actors: whatever the schedule, the summary is the same, and
 //! the printed journal is accepted.
 
-use crate::caller::{run, some_hooks};
+use crate::caller::run_alone;
+use std::alloc::Global;
+use std::process::Abort;
 use std::test::*;
 
 const HEAD: &[u8] = b"\
@@ -87,18 +89,23 @@ const SUMMARY: &[u8] = b"\
     ops ok 26 refused 0 fault 0 stuck 0 full 0\n\
     events 179\n";
 
+/// What is played of the actors by this schedule.
+fn played(rt: &impl Abort, alloc: Global, schedule: &[u8]) -> Result<Vec<u8>, Fail> {
+    let mut script = Vec::from_slice(alloc, HEAD)?;
+    script.extend_from_slice(schedule)?;
+    script.extend_from_slice(ACTORS)?;
+    let (status, text) = run_alone(rt, alloc, &["play"], &script)?;
+    assert!(rt; status == 0);
+    Ok(text)
+}
+
 #[test]
 fn each_schedule_ends_alike(rt: HostRuntime) -> Result<(), Fail> {
     let alloc = rt.alloc();
     for &schedule in SCHEDULES.iter() {
-        let mut script = Vec::from_slice(alloc, HEAD)?;
-        script.extend_from_slice(schedule)?;
-        script.extend_from_slice(ACTORS)?;
-        let mut rack = some_hooks(alloc, 12)?;
-        let (status, text) = run(&rt, alloc, &["play"], &script, &mut rack)?;
-        assert!(rt; status == 0);
+        let text = played(&rt, alloc, schedule)?;
         assert!(rt; text.ends_with(SUMMARY));
-        let (status, summary) = run(&rt, alloc, &["replay"], &text, &mut rack)?;
+        let (status, summary) = run_alone(&rt, alloc, &["replay"], &text)?;
         assert!(rt; status == 0);
         assert!(rt; summary.as_slice() == SUMMARY);
     }

@@ -16,18 +16,22 @@ use std::test::*;
 /// The state that a processor stands at, and the keys in force there.
 type Standing = (u32, &'static [Key]);
 
+/// Whether a processor stands at this state after a journal, and has exactly these keys in force.
+fn stands(alloc: Global, journal: &Journal, cpu: u32, standing: &Standing) -> Result<bool, Fail> {
+    let found = net_of(alloc, journal, cpu)?;
+    Ok(settled_of(journal, cpu) == standing.0 && found.as_slice() == standing.1)
+}
+
 /// The first processor, from 0, that stands at another state than is listed or has other keys in force;
 /// none where there is no such processor.
 fn first_elsewhere(
     alloc: Global,
-    text: &[u8],
+    journal: &Journal,
     standings: &[Standing],
 ) -> Result<Option<u32>, Fail> {
-    let journal = check(alloc, text)?;
     let mut cpu = 0u32;
     for standing in standings {
-        let found = net_of(alloc, &journal, cpu)?;
-        if settled_of(&journal, cpu) != standing.0 || found.as_slice() != standing.1 {
+        if !stands(alloc, journal, cpu, standing)? {
             return Ok(Some(cpu));
         }
         cpu = cpu.saturating_add(1);
@@ -35,8 +39,21 @@ fn first_elsewhere(
     Ok(None)
 }
 
-/// Asserts where each processor stands after the journal of a text, from processor 0, and which keys are
-/// registered, in rising state, and the newest instance first.
+/// Asserts where each processor stands after a journal, from processor 0, and which keys are registered, in
+/// rising state, and the newest instance first.
+fn assert_leaves(
+    rt: &impl Abort,
+    alloc: Global,
+    journal: &Journal,
+    standings: &[Standing],
+    registered: &[Key],
+) -> Result<(), Fail> {
+    assert!(rt; first_elsewhere(alloc, journal, standings)? == None);
+    assert!(rt; registered_of(alloc, journal)?.as_slice() == registered);
+    Ok(())
+}
+
+/// Asserts the same of the journal of a text.
 fn assert_left(
     rt: &impl Abort,
     alloc: Global,
@@ -44,10 +61,7 @@ fn assert_left(
     standings: &[Standing],
     registered: &[Key],
 ) -> Result<(), Fail> {
-    assert!(rt; first_elsewhere(alloc, text, standings)? == None);
-    let found = registered_of(alloc, &check(alloc, text)?)?;
-    assert!(rt; found.as_slice() == registered);
-    Ok(())
+    assert_leaves(rt, alloc, &check(alloc, text)?, standings, registered)
 }
 
 /// The keys of two states.

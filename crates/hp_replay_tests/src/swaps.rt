@@ -20,9 +20,9 @@ fn first_unexpected(
     lawful: &[usize],
     later: &[usize],
 ) -> Result<Option<usize>, Fail> {
-    let journal = check(alloc, text)?;
+    let events = check(alloc, text)?.len();
     let lines = text.iter().filter(|byte| **byte == b'\n').count();
-    let first = lines.saturating_sub(journal.len() as usize);
+    let first = lines.saturating_sub(events as usize);
     for number in first..lines.saturating_sub(1) {
         let swapped = with_swap(alloc, text, number)?;
         let wanted = if lawful.contains(&number) {
