@@ -18,7 +18,7 @@ fn ends_options(words: &[String]) -> bool
 }
 
 /// The texts that stand for the values of the options, each where the option is given.
-#[derive(Clone, Copy, Debug)]
+#[derive(Clone, Copy)]
 pub struct Texts<'a> {
     /// The text of `--seed`.
     pub seed: Option<&'a str>,

@@ -4,7 +4,7 @@
 ///
 /// The type of the hooks is a parameter: a program puts `Box<dyn Hook + Send>` there, a test a
 /// type of its own. This project's own.
-#[derive(Debug, Drop)]
+#[derive(Drop)]
 pub struct Rack<H> {
     /// The hooks, in no order that matters before they are given out.
     pub hooks: Vec<H>,

@@ -15,7 +15,7 @@ use hp_locks::Why;
 use hp_table::Table;
 
 /// What keeps an operation from beginning.
-#[derive(Clone, Copy, Debug, PartialEq, Eq)]
+#[derive(Clone, Copy)]
 pub enum Blocked {
     /// It is refused with this error number.
     Refused(u32),

@@ -15,7 +15,7 @@ use hp_table::Table;
 /// Plain data, which takes no memory. After `cpuhp_invoke_callback_range` and
 /// `cpuhp_invoke_ap_callback` of `kernel/cpu.c`; that it is known before it is made is this
 /// project's own.
-#[derive(Clone, Copy, Debug, PartialEq, Eq)]
+#[derive(Clone, Copy)]
 pub enum Coming {
     /// An entry, in the operation of the client, on the processor. None where the entry is a
     /// thread's to make that isn't in.

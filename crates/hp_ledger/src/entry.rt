@@ -7,7 +7,7 @@ use hp_event::{Event, How, Key};
 use hp_states::{Dir, Place};
 
 /// What an entry is made by, where that is known before its hook is asked.
-#[derive(Clone, Copy, Debug, PartialEq, Eq)]
+#[derive(Clone, Copy)]
 pub enum Means {
     /// Nothing: the form of the registration is without calls.
     Presumed,
@@ -23,7 +23,7 @@ pub enum Means {
 ///
 /// Plain data, which takes no memory. After `cpuhp_invoke_callback` of `kernel/cpu.c`; that an entry
 /// is known before it is made is this project's own.
-#[derive(Clone, Copy, Debug, PartialEq, Eq)]
+#[derive(Clone, Copy)]
 pub struct Entry {
     /// The seat that makes it: the thread of the processor, or the client whose operation it is.
     pub seat: u32,

@@ -22,7 +22,7 @@ use hp_walk::{Step, Walk};
 use std::alloc::Global;
 
 /// A walk in flight: whose it is, where it stands, and how much of the room that it took is left.
-#[derive(Clone, Copy, Debug)]
+#[derive(Clone, Copy)]
 pub struct Flight {
     /// The seat whose operation walks.
     pub(crate) seat: u32,
@@ -84,7 +84,7 @@ impl Flight {
 }
 
 /// The walks in flight: one at most for each processor.
-#[derive(Debug, Drop)]
+#[derive(Drop)]
 pub struct Flights {
     /// The walk of each possible processor, if it walks.
     pub(crate) by_cpu: Vec<Option<Flight>>,

@@ -5,7 +5,7 @@ use hp_event::Event;
 use hp_locks::Why;
 
 /// What comes next of a client's seat and its operation.
-#[derive(Clone, Copy, Debug, PartialEq, Eq)]
+#[derive(Clone, Copy)]
 pub enum Next {
     /// This event stands, and takes so much room of its own.
     Event { event: Event, need: u32 },

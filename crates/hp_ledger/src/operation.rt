@@ -24,7 +24,7 @@ use hp_states::{OFFLINE, ONLINE};
 use hp_suspend::{Asked, Boot, Freeze, Thaw, WalkAsk};
 
 /// One walk of a processor to a state, with its answer once it has ended.
-#[derive(Clone, Copy, Debug)]
+#[derive(Clone, Copy)]
 pub struct OneWalk {
     /// The processor.
     pub cpu: u32,
@@ -35,7 +35,7 @@ pub struct OneWalk {
 }
 
 /// The walks of an operation of the map lock.
-#[derive(Clone, Copy, Debug)]
+#[derive(Clone, Copy)]
 pub enum Sequence {
     /// An up, a down or a target: one walk, unless the processor stands there already.
     Single(OneWalk),
@@ -50,7 +50,7 @@ pub enum Sequence {
 }
 
 /// The operation that holds the map lock: whose it is, and how far it is.
-#[derive(Clone, Copy, Debug)]
+#[derive(Clone, Copy)]
 pub struct Held {
     /// The seat that holds the lock.
     pub(crate) seat: u32,

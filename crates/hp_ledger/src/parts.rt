@@ -25,7 +25,7 @@ use hp_table::Table;
 use std::alloc::Global;
 
 /// What a journal's events amount to, part by part.
-#[derive(Debug, Drop)]
+#[derive(Drop)]
 pub struct Parts {
     /// Who is in.
     pub(crate) seats: Seats,

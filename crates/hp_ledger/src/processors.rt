@@ -17,7 +17,7 @@ use std::marker::Model;
 /// armed, and whether it is present.
 ///
 /// Contracts see the three lists (`Standing`). After `struct cpuhp_cpu_state` of `kernel/cpu.c`.
-#[derive(Debug, Drop)]
+#[derive(Drop)]
 pub struct Processors {
     settled: Vec<u32>,
     armed: Vec<Option<u32>>,

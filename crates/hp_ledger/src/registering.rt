@@ -25,7 +25,7 @@ use hp_table::Table;
 
 /// A registration in flight: whose it is, where it stands, and how much of the room that it took is
 /// left.
-#[derive(Clone, Copy, Debug)]
+#[derive(Clone, Copy)]
 pub struct Registering {
     /// The seat whose operation registers.
     pub(crate) seat: u32,

@@ -14,7 +14,7 @@ use std::marker::Model;
 ///
 /// Contracts see both lists (`Roll`): the role of each seat that was admitted, by its number, none
 /// once it has left; and the seat of each possible processor's thread, if it is in.
-#[derive(Debug, Drop)]
+#[derive(Drop)]
 pub struct Seats {
     roles: Vec<Option<Role>>,
     threads: Vec<Option<u32>>,

@@ -13,7 +13,7 @@ use std::marker::Model;
 ///
 /// Contracts see these three (`Suspension`), of each possible processor whether it is frozen. After
 /// `cpu_hotplug_disabled`, `frozen_cpus` and `pm_wakeup_pending` of `kernel/cpu.c`.
-#[derive(Debug, Drop)]
+#[derive(Drop)]
 pub struct Suspended {
     disabled: u32,
     frozen: Vec<bool>,

@@ -1,5 +1,5 @@
 -- A command that has its input isn't refused.
-use Rattle.std.proofs.Common.{◌≡◌, ℕ, ◌+◌, ◌<◌, ◌≤◌, ◌⊎◌, inl, inr, Option, Some, None, List, [], ◌++◌, length, sym, subst, ◌∙◌, arith}
+use Rattle.std.proofs.Common.{◌≡◌, ℕ, ◌+◌, ◌≤◌, ◌⊎◌, inl, inr, Option, Some, None, List, [], ◌++◌, length, sym, subst, ◌∙◌, arith}
 use Rattle.std.proofs.lemmas.List.{append-nil, length-append}
 use Rattle.hp_states.specs.declared.limits.TheConstants.{MAX_SCRIPT_BYTES, MAX_JOURNAL_BYTES}
 use Rattle.hp_event.specs.declared.head.Head.{Head}

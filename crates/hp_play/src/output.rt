@@ -10,7 +10,7 @@ use hp_states::NoMemory;
 use std::alloc::Global;
 
 /// What is written of a run.
-#[derive(Clone, Copy, Debug)]
+#[derive(Clone, Copy)]
 pub enum Output {
     /// The text of its journal, and the summary.
     Journal,

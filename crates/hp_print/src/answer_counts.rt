@@ -7,7 +7,7 @@ ghost use Rattle.hp_print.specs.Counts.{one_more};
 use hp_event::Answer;
 
 /// How many operations were answered in each of the five ways.
-#[derive(Clone, Copy, Debug)]
+#[derive(Clone, Copy)]
 pub struct AnswerCounts {
     pub ok: usize,
     pub refused: usize,

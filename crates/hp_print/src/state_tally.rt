@@ -15,7 +15,7 @@ use hp_states::ONLINE;
 use std::alloc::{AllocError, Global};
 
 /// The registration in flight: its resolved state and its operation.
-#[derive(Clone, Copy, Debug)]
+#[derive(Clone, Copy)]
 pub struct Asked {
     pub state: u32,
     pub op: Op,

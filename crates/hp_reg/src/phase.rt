@@ -1,7 +1,7 @@
 //! Where a registration's entries stand.
 
 /// Where a registration's entries stand, between two of them.
-#[derive(Clone, Copy, Debug, PartialEq, Eq)]
+#[derive(Clone, Copy)]
 pub enum Phase {
     /// The entries on the processors below `from` are made.
     Making { from: u32 },

@@ -31,7 +31,7 @@ use std::marker::Model;
 /// Contracts see its operation, its state, and where its entries stand (`Progress`). It is plain
 /// data: it holds no table, takes no memory and refuses nothing. The caller asks `next`, makes the
 /// entry, and tells `took`, until `next` has ended; less is left after each entry (`calls_left`).
-#[derive(Clone, Copy, Debug)]
+#[derive(Clone, Copy)]
 pub struct Reg {
     op: Op,
     state: u32,

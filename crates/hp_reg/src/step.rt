@@ -4,7 +4,7 @@ use hp_event::{Answer, Key};
 use hp_states::{Dir, Place};
 
 /// What comes next of a registration: an entry, or its end.
-#[derive(Clone, Copy, Debug, PartialEq, Eq)]
+#[derive(Clone, Copy, PartialEq, Eq)]
 pub enum RegStep {
     /// The entry of a key on a processor, below `MAX_CPUS`, in this direction and for this purpose:
     /// `Add`, `Undo` or `Remove`.

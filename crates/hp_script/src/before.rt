@@ -13,7 +13,7 @@ use hp_event::Op;
 use hp_states::{MAX_ACTORS, MAX_OPERATIONS, MAX_RULES, MAX_SUBS};
 
 /// The group of lines that a script has come to.
-#[derive(Clone, Copy, Debug, PartialEq, Eq)]
+#[derive(Clone, Copy)]
 pub enum Group {
     /// Each line so far was skipped.
     Nothing,
@@ -30,7 +30,7 @@ pub enum Group {
 }
 
 /// What a line is judged by, beside its own bytes.
-#[derive(Clone, Copy, Debug, PartialEq, Eq)]
+#[derive(Clone, Copy)]
 pub struct Before {
     /// The group that the lines have come to.
     pub group: Group,

@@ -6,7 +6,7 @@ ghost use Rattle.hp_script.specs.Generated.{first_draw, second_draw, instanced_s
 use crate::draws::Draws;
 
 /// An operation that is drawn, with its numbers, or an empty read section.
-#[derive(Clone, Copy, Debug, PartialEq, Eq)]
+#[derive(Clone, Copy)]
 pub enum Drawn {
     Up(u32),
     Down(u32),

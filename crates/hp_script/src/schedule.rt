@@ -3,7 +3,7 @@
 use hp_event::Numbers;
 
 /// Whose turns come in which order, before the closing rounds.
-#[derive(Debug, Drop)]
+#[derive(Drop)]
 pub enum Schedule {
     /// Closing rounds alone.
     Rounds,

@@ -20,7 +20,7 @@ use hp_states::{MAX_CPUS, Rule};
 use std::alloc::Global;
 
 /// What a line says that isn't skipped.
-#[derive(Debug, Drop)]
+#[derive(Drop)]
 pub enum Statement {
     /// So many processors are possible.
     Cpus(u32),

@@ -8,7 +8,7 @@ use hp_states::NoMemory;
 use std::alloc::{AllocError, AllocFailed};
 
 /// Why a line gives nothing.
-#[derive(Clone, Copy, Debug)]
+#[derive(Clone, Copy)]
 pub enum Stop {
     /// It is refused.
     Bad(ScriptKind),

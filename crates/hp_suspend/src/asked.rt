@@ -3,7 +3,7 @@
 use hp_event::Answer;
 
 /// A walk that is to begin: of this processor, from where it stands to this state.
-#[derive(Clone, Copy, Debug, PartialEq, Eq)]
+#[derive(Clone, Copy, PartialEq, Eq)]
 pub struct WalkAsk {
     /// The processor, below `MAX_CPUS`.
     pub cpu: u32,
@@ -12,7 +12,7 @@ pub struct WalkAsk {
 }
 
 /// What comes next of a freeze, a thaw or a boot.
-#[derive(Clone, Copy, Debug, PartialEq, Eq)]
+#[derive(Clone, Copy, PartialEq, Eq)]
 pub enum Asked {
     /// A walk.
     Walk(WalkAsk),

@@ -23,7 +23,7 @@ use hp_states::{MAX_CPUS, MAX_EVENTS, ONLINE};
 /// and how many of those left their processor offline, where it was before.
 ///
 /// It is plain data and takes no memory. After `bringup_nonboot_cpus` of `kernel/cpu.c`.
-#[derive(Clone, Copy, Debug)]
+#[derive(Clone, Copy)]
 pub struct Boot {
     max: u32,
     failed: u32,

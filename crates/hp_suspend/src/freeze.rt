@@ -24,7 +24,7 @@ use hp_states::{EBUSY, MAX_CPUS, OFFLINE};
 /// it early, if one did.
 ///
 /// It is plain data and takes no memory. After `freeze_secondary_cpus` of `kernel/cpu.c`.
-#[derive(Clone, Copy, Debug)]
+#[derive(Clone, Copy)]
 pub struct Freeze {
     primary: u32,
     ended: Option<Answer>,

@@ -22,7 +22,7 @@ use hp_states::{MAX_CPUS, MAX_EVENTS, ONLINE};
 /// A thaw on its way over the processors of the record: how many walks failed.
 ///
 /// It is plain data and takes no memory. After `thaw_secondary_cpus` of `kernel/cpu.c`.
-#[derive(Clone, Copy, Debug)]
+#[derive(Clone, Copy)]
 pub struct Thaw {
     failed: u32,
 }

@@ -8,7 +8,7 @@ use hp_event::Answer;
 /// Where a walk stands: which key of which state comes next, and why.
 ///
 /// Keys are counted from 0, in the order of the state's list. Codes are those of the faults so far.
-#[derive(Clone, Copy, Debug)]
+#[derive(Clone, Copy)]
 pub enum Position {
     /// On the way to the target, at a key of a state.
     Forward {

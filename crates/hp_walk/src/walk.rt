@@ -23,7 +23,7 @@ use hp_table::Table;
 ///
 /// It is a few numbers, and takes no memory. After `struct cpuhp_cpu_state`,
 /// `cpuhp_invoke_callback_range` and `cpuhp_reset_state` of `kernel/cpu.c`.
-#[derive(Clone, Copy, Debug)]
+#[derive(Clone, Copy)]
 pub struct Walk {
     cpu: u32,
     from: u32,
