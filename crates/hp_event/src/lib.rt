@@ -7,6 +7,7 @@
 #![tactic(auto)]
 
 mod answer;
+mod aside;
 mod event;
 mod head;
 mod how;
@@ -16,6 +17,7 @@ mod lists;
 mod op;
 
 pub use answer::Answer;
+pub use aside::Aside;
 pub use event::{Event, File, Role};
 pub use head::{Head, Sub};
 pub use how::How;

@@ -84,3 +84,4 @@ pub mod OverStays
 pub mod RoundsMakeRun
 pub mod ClientKept
 pub mod Fronts
+pub mod EntryStays

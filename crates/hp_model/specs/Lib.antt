@@ -41,6 +41,7 @@ pub mod StandsOperations
 pub mod StandsRegistrations
 pub mod StandsFiles
 pub mod Lawful
+pub mod Lent
 pub mod Full
 pub mod Pending
 pub mod Moves

@@ -41,6 +41,7 @@ ghost use Rattle.hp_model.specs.Lawful.{Comes, Stands, IsLawful};
 ghost use Rattle.hp_model.specs.Pending.{Pending, IsAllowed};
 ghost use Rattle.hp_model.specs.Turns.{IsKeptWaiting, NeedsThread, TurnFinds, FindsOne};
 ghost use Rattle.hp_model.specs.Full.{IsFull};
+ghost use Rattle.hp_model.specs.Lent.{arms_walker};
 ghost use Rattle.hp_model.specs.NextEvent.{due_entry as due_entry_of, next_event as next_event_of, is_full as is_full_of};
 ghost use Rattle.hp_model.specs.Moves.{ArePending, CanMove};
 ghost use Rattle.hp_model.specs.Walks.{walk};
@@ -178,6 +179,18 @@ pub fn due_entry(head: &Head, events: &[Event], entry: &Event)
         ↔ (Stands head.now events.now entry.now × (is_call entry.now ≡ true) × (seat_of entry.now ≡ seat)) }
     ensures none { (seat : ℕ) → (due_entry_of head.now events.now seat ≡ None) ↔ IsIdle head.now events.now seat }
     ensures leaves { (seat : ℕ) → Stands head.now events.now (Leave seat) → due_entry_of head.now events.now seat ≡ None }
+{}
+
+/// An entry that is due from a seat, the one entry that is, stays due after an event of another seat, but
+/// for one that arms its processor in the middle of its walk.
+pub fn due_stays(head: &Head, events: &[Event], entry: &Event, event: &Event)
+    ensures stays { (seat : ℕ) → IsLawful head.now events.now →
+        due_entry_of head.now events.now seat ≡ Some entry.now → Stands head.now events.now event.now →
+        seat_of event.now ≢ seat → arms_walker events.now entry.now event.now ≡ false →
+        due_entry_of head.now (events.now ++ event.now ∷ []) seat ≡ Some entry.now }
+    ensures alone { (seat other : ℕ) → IsLawful head.now events.now →
+        due_entry_of head.now events.now seat ≡ Some entry.now →
+        due_entry_of head.now events.now other ≡ Some event.now → entry.now ≡ event.now }
 {}
 
 /// What comes next of a seat and its operation stands, after any journal, and after a lawful one, of a

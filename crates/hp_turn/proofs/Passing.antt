@@ -5,6 +5,7 @@ use mathlib.Core.List.{IsPrefix}
 use lib.ListN.{get_elem?}
 use Rattle.atomic_table.specs.Table.{State, Me, keeps, Allows, Splits, Joins}
 use Rattle.atomic_table.proofs.Lists.{set_else, at_longer}
+use Rattle.hp_event.specs.declared.aside.Aside.{Aside}
 use Rattle.hp_event.specs.declared.head.Head.{Head}
 use Rattle.hp_event.specs.declared.event.Event.{Event}
 use Rattle.hp_turn.specs.declared.view.Heard.{Heard}
@@ -16,7 +17,7 @@ use Rattle.hp_turn.proofs.Stories.{has_before, knows_until, knows_new, knows_wit
 use Rattle.hp_turn.proofs.Tables.{none_some, set_swap, each_set, each_end, alone_set, alone_same, alone_end}
 use Rattle.hp_turn.proofs.Holders.{not_holder, moved, loaded}
 
-module _ {V : Type 0} (head : V → Head) (story : V → List Event) where
+module _ {V : Type 0} (head : V → Head) (story : V → List Event) (aside : V → List (ℕ × Aside)) where
   abbrev St : Type 0
   St = State (Option V) View
 
@@ -24,7 +25,7 @@ module _ {V : Type 0} (head : V → Head) (story : V → List Event) where
   M = Me (Option V) View
 
   abbrev Rule : St → Type 0
-  Rule = Kept head story
+  Rule = Kept head story aside
 
   pub splits : (id : ℕ) (v : View) → v.spent ≡ false → v.heard ≡ None → v.held ≡ None →
       Splits Rule id v (split_left v) (split_right v)
@@ -32,19 +33,21 @@ module _ {V : Type 0} (head : V → Head) (story : V → List Event) where
       let right : View = split_right v in let vs : List View = set s.views id left in record {
         h = r.h;
         told = r.told;
+        pairs = r.pairs;
         room = r.room;
         words = r.words;
         count = r.count;
-        each = each_end (λ _ x. x.spent ≡ false → Fits r.h r.told x) vs right
+        each = each_end (λ _ x. x.spent ≡ false → Fits r.h r.told r.pairs x) vs right
             (λ _. record {
               alike = fits.alike;
               knows = knows_new v.seat v.admits v.admits v.front r.told fits.knows
                   (λ e. e);
               admitted = λ k e. absurd (none_some k e);
               heard = λ y e. absurd (none_some y e);
+              aside = refl;
             })
-            (each_set (λ _ x. x.spent ≡ false → Fits r.h r.told x) s.views id left
-            (λ _. record { alike = fits.alike; knows = knows_without v.seat v.admits v.front r.told fits.knows; admitted = fits.admitted; heard = λ y e. absurd (none_some y (sym quiet ∙ e)) })
+            (each_set (λ _ x. x.spent ≡ false → Fits r.h r.told r.pairs x) s.views id left
+            (λ _. record { alike = fits.alike; knows = knows_without v.seat v.admits v.front r.told fits.knows; admitted = fits.admitted; heard = λ y e. absurd (none_some y (sym quiet ∙ e)); aside = fits.aside })
             (λ j x _ e. r.each j x e));
         spent_idle = each_end (λ _ x. x.spent ≡ true → x.seat ≡ None) vs right (λ e. absurd (cc e))
             (each_set (λ _ x. x.spent ≡ true → x.seat ≡ None) s.views id left (λ e. absurd (cc e))
@@ -55,16 +58,17 @@ module _ {V : Type 0} (head : V → Head) (story : V → List Event) where
             (λ has. each_set (λ _ u. u.admits ≡ true → ⊥) s.views id left (λ e. absurd (cc e))
             (λ j u ne at_j also. ne (r.one_right j id u v at_j at also has)));
         lock = ⊎_elim
-            (λ (f : Free head story r.h r.told s). inl record {
+            (λ (f : Free head story aside r.h r.told r.pairs s). inl record {
               held = f.held;
               value = f.value;
               home = f.home;
               value_head = f.value_head;
               value_story = f.value_story;
+              value_pairs = f.value_pairs;
               nobody = each_end (λ _ x. x.held ≡ None) vs right refl
                   (each_set (λ _ x. x.held ≡ None) s.views id left idle (λ j x _ e. f.nobody j x e));
             })
-            (λ (k : Taken head story r.told s). let n = not_holder head story r.told s k id v at idle in inr record {
+            (λ (k : Taken head story aside r.told r.pairs s). let n = not_holder head story aside r.told r.pairs s k id v at idle in inr record {
               held = k.held;
               holder = k.holder;
               holding = k.holding;
@@ -83,16 +87,17 @@ module _ {V : Type 0} (head : V → Head) (story : V → List Event) where
       let was : get_elem? s.views other ≡ some w = sym (set_else s.views id other one apart) ∙ there in
       let fits' = r.each other w was live' in
       let s1 : St = record { words = s.words; homes = s.homes; views = set s.views other spent } in
-      let r1 : Rule s1 = moved head story s r other w spent was idle' refl (λ e. absurd (cc e)) (λ _. refl)
+      let r1 : Rule s1 = moved head story aside s r other w spent was idle' refl (λ e. absurd (cc e)) (λ _. refl)
       (λ k e. absurd (none_some k e)) (λ e. absurd (cc e)) in
       let back : id ≢ other = λ e. apart (sym e) in
       let at1 : get_elem? (set s.views other spent) id ≡ some v = set_else s.views other id spent back ∙ at in
       let all = longest v.front w.front r.told (knows_prefix v.seat v.admits v.front r.told fits.knows)
       (knows_prefix w.seat w.admits w.front r.told fits'.knows) in
-      let mine : Fits r.h r.told one = record {
+      let mine : Fits r.h r.told r.pairs one = record {
         alike = fits.alike;
         knows = knows_both v.seat w.seat v.admits w.admits v.front w.front r.told fits.knows fits'.knows;
         admitted = λ k e. has_before k v.front (longer v.front w.front) all.1 (fits.admitted k e);
+        aside = fits.aside;
         heard = λ y e. let is : both ≡ y = cc e in
             subst (WereHeard v.seat (v.admits || w.admits) (longer v.front w.front) r.told) is record {
               one = fits.knows;
@@ -103,7 +108,7 @@ module _ {V : Type 0} (head : V → Head) (story : V → List Event) where
       } in
       subst (λ (vs : List View). Rule record { words = s.words; homes = s.homes; views = vs })
       (sym (set_swap s.views id other one spent back))
-      (moved head story s1 r1 id v one at1 idle idle (λ _. mine) (λ e. absurd (cc e)) (λ _ e. e)
+      (moved head story aside s1 r1 id v one at1 idle idle (λ _. mine) (λ e. absurd (cc e)) (λ _ e. e)
       (λ yes j u off at_j. each_set (λ i z. i ≢ id → z.admits ≡ true → ⊥) s.views other spent (λ _ e. absurd (cc e))
       (λ i z ne at_i away has. ⊎_elim (λ mine_had. away (r.one_right i id z v at_i at has mine_had))
       (λ its_had. ne (r.one_right i other z w at_i was has its_had)) (or_cases v.admits w.admits yes))
@@ -114,11 +119,12 @@ module _ {V : Type 0} (head : V → Head) (story : V → List Event) where
     w,
     keeps,
     tt,
-    loaded head story s r id m.1 m.0 w at idle idle
+    loaded head story aside s r id m.1 m.0 w at idle idle
         (λ _. record {
           alike = fits.alike;
           knows = fits.knows;
           admitted = fits.admitted;
+          aside = fits.aside;
           heard = λ y e. absurd
               (none_some y e);
         }) (λ e. absurd (cc e)) (λ _ e. e) (λ e. e),

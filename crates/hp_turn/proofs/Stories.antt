@@ -9,6 +9,7 @@ use Rattle.hp_event.specs.declared.event.Event.{Event}
 use Rattle.hp_event.specs.declared.event.Event.TheVariants.{Admit}
 use Rattle.hp_model.specs.Events.{seat_of}
 use Rattle.hp_model.specs.Front.{IsOther}
+use Rattle.hp_turn.specs.declared.view.Held.{Held}
 use Rattle.hp_turn.specs.Story.{IsNoAdmit, HasAdmit, Knows, IsOwn, seat_then, new_seat, longer}
 use Rattle.hp_turn.proofs.Prefixes.{prefix_self, prefix_shorter}
 
@@ -153,9 +154,9 @@ own_seat s (e ∷ es) own = refl
 rest_is : (t added u : List Event) → t ++ added ≡ u → drop (length t) u ≡ added
 rest_is t added u e = ap (drop (length t)) (sym e) ∙ drop-append_seam t added
 
-pub keeps_seat : (s : Option ℕ) (t added u : List Event) → t ++ added ≡ u → All (IsOwn s) added → new_seat s (Some t) u ≡ s
-keeps_seat s t added u e own = ap (seat_then s) (rest_is t added u e) ∙ own_seat s added own
+pub keeps_seat : (s : Option ℕ) (t : Held) (added u : List Event) → t.story ++ added ≡ u → All (IsOwn s) added → new_seat s (Some t) u ≡ s
+keeps_seat s t added u e own = ap (seat_then s) (rest_is t.story added u e) ∙ own_seat s added own
 
-pub gets_seat : (s : Option ℕ) (k : ℕ) (role : Role) (t u : List Event) → t ++ Admit k role ∷ [] ≡ u →
+pub gets_seat : (s : Option ℕ) (k : ℕ) (role : Role) (t : Held) (u : List Event) → t.story ++ Admit k role ∷ [] ≡ u →
     new_seat s (Some t) u ≡ Some k
-gets_seat s k role t u e = ap (seat_then s) (rest_is t (Admit k role ∷ []) u e)
+gets_seat s k role t u e = ap (seat_then s) (rest_is t.story (Admit k role ∷ []) u e)

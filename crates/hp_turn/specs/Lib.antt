@@ -1,3 +1,4 @@
+pub mod Asides
 pub mod Story
 pub mod Pass
 pub mod Views

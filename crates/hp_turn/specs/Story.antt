@@ -5,6 +5,7 @@ use Rattle.hp_event.specs.declared.event.Event.{Event}
 use Rattle.hp_event.specs.declared.event.Event.TheVariants.{Admit}
 use Rattle.hp_model.specs.Events.{seat_of}
 use Rattle.hp_model.specs.Front.{StandsFor}
+use Rattle.hp_turn.specs.declared.view.Held.{Held}
 
 abbrev pub is_admit : Event → Bool
 is_admit (Admit seat role) = true
@@ -45,13 +46,13 @@ abbrev pub seat_then : (seat : Option ℕ) → (added : List Event) → Option �
 seat_then seat (Admit new role ∷ more) = Some new
 seat_then seat _ = seat
 
-abbrev pub list_of : Option (List Event) → List Event
-list_of None = []
-list_of (Some t) = t
+abbrev pub story_held : Option Held → List Event
+story_held None = []
+story_held (Some t) = t.story
 
 -- the seat of who held a story and puts another back: the one that it admits, if it does
-abbrev pub new_seat : (seat : Option ℕ) (held : Option (List Event)) (story : List Event) → Option ℕ
-new_seat seat held story = seat_then seat (drop (length (list_of held)) story)
+abbrev pub new_seat : (seat : Option ℕ) (held : Option Held) (story : List Event) → Option ℕ
+new_seat seat held story = seat_then seat (drop (length (story_held held)) story)
 
 abbrev pub longer : (a b : List Event) → List Event
 longer a b = cond (ltb (length a) (length b)) b a

@@ -16,7 +16,7 @@ pub struct Law<V> {
 }
 
 impl<V: Grown> TableRule<Option<V>, View, Snapshot<V>> for Law<V> {
-    ghost holds = { λ _. Kept V.head V.story };
+    ghost holds = { λ _. Kept V.head V.story V.aside };
 
     ghost first = { λ k. fresh (V.head k.value) (V.story k.value) true };
 }
@@ -27,7 +27,7 @@ pub(crate) struct Locks<V> {
 }
 
 impl<V: Grown> Play<Option<V>, View> for Locks<V> {
-    ghost then = { λ s m r n. locked V.head V.story m r n };
+    ghost then = { λ s m r n. locked V.head V.story V.aside m r n };
 }
 
 // The fetch and add by which what a section added is told.
@@ -36,7 +36,7 @@ pub(crate) struct Counts<V> {
 }
 
 impl<V: Grown> Play<Option<V>, View> for Counts<V> {
-    ghost then = { λ s m r n. counted V.head V.story m n };
+    ghost then = { λ s m r n. counted V.head V.story V.aside m n };
 }
 
 // The swap that gives the lock back.

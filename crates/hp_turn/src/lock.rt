@@ -1,8 +1,10 @@
 //! The calls of the lock.
 
-ghost use Rattle.std.specs.Prelude.{◌≡◌, ◌+◌, ◌≤◌, ◌||◌, true, None, Some, IfOk, OnOk, OnErr, length};
+ghost use Rattle.std.specs.Prelude.{◌≡◌, ◌+◌, ◌≤◌, ◌||◌, true, None, Some, IfOk, OnOk, OnErr, [], length};
 ghost use mathlib.Core.List.{IsPrefix};
+ghost use Rattle.hp_turn.specs.Asides.{seat_aside};
 ghost use Rattle.hp_turn.specs.Story.{new_seat, longer};
+ghost use Rattle.hp_turn.specs.Views.{held_of};
 ghost use Rattle.hp_turn.specs.Pass.{Knew, IsSame, MayPutBack, without_right, given_by};
 ghost use Rattle.hp_turn.specs.Passes.{IsPassOf, MayLock};
 
@@ -30,6 +32,7 @@ impl<V: Grown + Drop> TurnLock<V> {
         ensures front { IfOk result (λ r. r.1.front ≡ V.story value) }
         ensures seat { IfOk result (λ r. (r.1.seat ≡ None) × (r.1.admits ≡ true)) }
         ensures misses { IfOk result (λ r. r.1.misses ≡ 0) }
+        ensures lent { IfOk result (λ r. (r.1.aside ≡ None) × (r.1.kept ≡ [])) }
     {
         let words = [0, value.length()];
         let first = Snapshot::of(&value);
@@ -68,9 +71,10 @@ impl<V: Grown> TurnLock<V> {
     pub fn try_lock(&self, pass: &mut TurnPass<V>) -> Result<V, Busy>
         requires { MayLock self.now pass.old }
         ensures same { IsSame pass.old pass.new }
-        ensures took { IfOk result (λ value. pass.new.held ≡ Some (V.story value)) }
+        ensures took { IfOk result (λ value. pass.new.held ≡ Some (held_of (V.story value) (V.aside value))) }
         ensures head { IfOk result (λ value. V.head value ≡ pass.old.head) }
         ensures knew { IfOk result (λ value. Knew pass.old (V.story value)) }
+        ensures lent { IfOk result (λ value. seat_aside pass.old.seat (V.aside value) ≡ pass.old.aside) }
         ensures room { IfOk result (λ value. length (V.story value) ≤ MAX_EVENTS) }
         ensures busy { OnErr result (pass.new.held ≡ None) }
         ensures kept { OnOk result (pass.new.misses ≡ pass.old.misses) }
@@ -96,9 +100,10 @@ impl<V: Grown> TurnLock<V> {
     pub fn lock<R: Wait>(&self, rt: &R, pass: &mut TurnPass<V>) -> V
         requires { MayLock self.now pass.old }
         ensures same { IsSame pass.old pass.new }
-        ensures took { pass.new.held ≡ Some (V.story result) }
+        ensures took { pass.new.held ≡ Some (held_of (V.story result) (V.aside result)) }
         ensures head { V.head result ≡ pass.old.head }
         ensures knew { Knew pass.old (V.story result) }
+        ensures lent { seat_aside pass.old.seat (V.aside result) ≡ pass.old.aside }
         ensures room { length (V.story result) ≤ MAX_EVENTS }
         ensures misses { pass.old.misses ≤ pass.new.misses }
     {
@@ -116,19 +121,23 @@ impl<V: Grown> TurnLock<V> {
     /// it; the value has the pass's head; and its story has the story that was taken as a
     /// beginning, with at most `MAX_EVENTS` events. What it has more is events of the pass's seat,
     /// none an Admit, or one Admit of a seat that isn't in the story, by a pass that may admit and
-    /// has no seat: that seat is the pass's then.
+    /// has no seat: that seat is the pass's then. What is lent to other seats is as it was when the
+    /// value was taken.
     ///
-    /// The value's story is the pass's front afterwards. Waits for nobody, and takes no memory.
+    /// The value's story is the pass's front afterwards, what is lent to the pass's seat is the pass's,
+    /// and the pass keeps all the pairs of the value. Waits for nobody, and takes no memory.
     pub fn unlock(&self, pass: &mut TurnPass<V>, value: V)
         requires own { IsPassOf self.now pass.old }
         requires head { V.head value ≡ pass.old.head }
-        requires story { MayPutBack pass.old (V.story value) }
+        requires story { MayPutBack pass.old (V.story value) (V.aside value) }
         requires room { length (V.story value) ≤ MAX_EVENTS }
         ensures head { pass.new.head ≡ pass.old.head }
         ensures front { pass.new.front ≡ V.story value }
         ensures seat { pass.new.seat ≡ new_seat pass.old.seat pass.old.held (V.story value) }
         ensures right { pass.new.admits ≡ pass.old.admits }
         ensures misses { pass.new.misses ≡ pass.old.misses }
+        ensures aside { pass.new.aside ≡ seat_aside pass.new.seat (V.aside value) }
+        ensures kept { pass.new.kept ≡ V.aside value }
         ensures freed { MayLock self.now pass.new }
     {
         let shared = &self.table.shared;
@@ -139,8 +148,8 @@ impl<V: Grown> TurnLock<V> {
         shared.swap::<Releases>(&mut pass.seat, 0, 0);
     }
 
-    /// A new pass of the lock, which has seen what the given one has. It has no seat and no
-    /// misses, and the right to admit goes over to it. Condition: the lock gave the pass, which
+    /// A new pass of the lock, which has seen what the given one has. It has no seat, nothing that is
+    /// lent and no misses, and the right to admit goes over to it. Condition: the lock gave the pass, which
     /// doesn't hold it.
     ///
     /// Waits for nobody, and takes no memory.
@@ -158,12 +167,13 @@ impl<V: Grown> TurnLock<V> {
     /// Takes the other pass in, which ends. The pass's front is the longer of both, which both
     /// begin. Past its own front as given it has no event of the pass's seat and, where the pass
     /// may admit, no Admit. The right to admit comes over. Condition: the lock gave both passes,
-    /// and neither holds it.
+    /// neither holds it, and nothing is lent to the other.
     ///
     /// Waits for nobody, and takes no memory.
     pub fn join(&self, pass: &mut TurnPass<V>, other: TurnPass<V>)
         requires own { MayLock self.now pass.old }
         requires other { MayLock self.now other }
+        requires nothing { other.aside ≡ None }
         ensures head { pass.new.head ≡ pass.old.head }
         ensures front { pass.new.front ≡ longer pass.old.front other.front }
         ensures whole { IsPrefix other.front pass.new.front }
@@ -171,6 +181,7 @@ impl<V: Grown> TurnLock<V> {
         ensures seat { pass.new.seat ≡ pass.old.seat }
         ensures right { pass.new.admits ≡ (pass.old.admits || other.admits) }
         ensures misses { pass.new.misses ≡ pass.old.misses }
+        ensures lent { (pass.new.aside ≡ pass.old.aside) × (pass.new.kept ≡ pass.old.kept) }
         ensures freed { MayLock self.now pass.new }
     {
         let shared = &self.table.shared;

@@ -24,6 +24,8 @@ impl Grown for Notes {
 
     ghost story = { λ n. n.events.items };
 
+    ghost aside = { λ n. [] };
+
     fn length(&self) -> u64 {
         self.events.len() as u64
     }

@@ -9,7 +9,8 @@ use std::marker::Model;
 /// What a thread takes the lock with that gave it.
 ///
 /// Contracts see its lock, the value's head, its front, its seat if it has one, whether it may
-/// admit, its misses, and the story that it took where it holds the lock. Of one lock at most one
+/// admit, its misses, what it took where it holds the lock, the entry that a hook is lent to its
+/// seat for if one is, and the pairs of seats and such entries as it last put them back. Of one lock at most one
 /// pass may admit, and no two passes have the same seat.
 #[derive(Drop)]
 pub struct TurnPass<V> {
@@ -28,6 +29,8 @@ impl<V> Model for TurnPass<V> {
       admits = p.seat.me.0.admits;
       misses = p.seat.me.0.misses;
       held = p.seat.me.0.held;
+      aside = p.seat.me.0.aside;
+      kept = p.seat.me.0.kept;
     } };
 
     ghost invariant = { λ p. IsSound p.seat.me p.taken };

@@ -28,7 +28,6 @@ fn empty(alloc: Global) -> Notes
 }
 
 // One section, in which the pass's seat adds one event.
-#[tactic(auto, using(crate::proofs::Stories::keeps_seat))]
 fn section<R: Wait>(
     rt: &R,
     lock: &TurnLock<Notes>,
@@ -37,7 +36,8 @@ fn section<R: Wait>(
     value: i32,
 ) -> bool
     requires { MayLock lock.now pass.old × (pass.old.seat ≡ Some seat) }
-    ensures { MayLock lock.now pass.new × (pass.new.seat ≡ Some seat) }
+    ensures pass { MayLock lock.now pass.new × (pass.new.seat ≡ Some seat) }
+    ensures nothing { pass.new.aside ≡ None }
 {
     let mut notes = lock.lock(rt, pass);
     let done = notes.act(seat, value);
@@ -54,7 +54,7 @@ fn admit<R: Wait>(
 ) -> Option<TurnPass<Notes>>
     requires { MayLock lock.now root.old × (root.old.admits ≡ true) }
     ensures root { MayLock lock.now root.new × (root.new.admits ≡ true) }
-    ensures new { IfSome result (λ p. MayLock lock.now p × (p.seat ≡ Some seat)) }
+    ensures new { IfSome result (λ p. MayLock lock.now p × (p.seat ≡ Some seat) × (p.aside ≡ None)) }
 {
     let mut pass = lock.split(root);
     let mut notes = lock.lock(rt, &mut pass);
@@ -77,8 +77,8 @@ fn work<R: Wait>(
     seat: u32,
     count: i32,
 ) -> TurnPass<Notes>
-    requires { MayLock lock.now pass × (pass.seat ≡ Some seat) }
-    ensures { MayLock lock.now result × (result.seat ≡ Some seat) }
+    requires { MayLock lock.now pass × (pass.seat ≡ Some seat) × (pass.aside ≡ None) }
+    ensures { MayLock lock.now result × (result.seat ≡ Some seat) × (result.aside ≡ None) }
 {
     for value in 0..count {
         section(rt, lock, &mut pass, seat, value);
@@ -145,14 +145,16 @@ fn four_threads<R: Threads + Wait + Sync>(
     let ((zero, one), (two, three)) = join(
         rt,
         || -> (TurnPass<Notes>, TurnPass<Notes>)
-            requires zero { MayLock lock.now zero × (zero.seat ≡ Some 0) }
-            requires one { MayLock lock.now one × (one.seat ≡ Some 1) }
-            ensures { MayLock lock.entry.now result.0 × MayLock lock.entry.now result.1 }
+            requires zero { MayLock lock.now zero × (zero.seat ≡ Some 0) × (zero.aside ≡ None) }
+            requires one { MayLock lock.now one × (one.seat ≡ Some 1) × (one.aside ≡ None) }
+            ensures first { MayLock lock.entry.now result.0 × (result.0.aside ≡ None) }
+            ensures second { MayLock lock.entry.now result.1 × (result.1.aside ≡ None) }
         { two_threads(rt, lock, zero, 0, one, 1) },
         || -> (TurnPass<Notes>, TurnPass<Notes>)
-            requires two { MayLock lock.now two × (two.seat ≡ Some 2) }
-            requires three { MayLock lock.now three × (three.seat ≡ Some 3) }
-            ensures { MayLock lock.entry.now result.0 × MayLock lock.entry.now result.1 }
+            requires two { MayLock lock.now two × (two.seat ≡ Some 2) × (two.aside ≡ None) }
+            requires three { MayLock lock.now three × (three.seat ≡ Some 3) × (three.aside ≡ None) }
+            ensures first { MayLock lock.entry.now result.0 × (result.0.aside ≡ None) }
+            ensures second { MayLock lock.entry.now result.1 × (result.1.aside ≡ None) }
         { two_threads(rt, lock, two, 2, three, 3) },
     );
     lock.join(root, zero);
@@ -170,20 +172,20 @@ fn two_threads<R: Threads + Wait + Sync>(
     other: TurnPass<Notes>,
     others: u32,
 ) -> (TurnPass<Notes>, TurnPass<Notes>)
-    requires one { MayLock lock.now one × (one.seat ≡ Some its) }
-    requires other { MayLock lock.now other × (other.seat ≡ Some others) }
-    ensures one { MayLock lock.now result.0 }
-    ensures other { MayLock lock.now result.1 }
+    requires one { MayLock lock.now one × (one.seat ≡ Some its) × (one.aside ≡ None) }
+    requires other { MayLock lock.now other × (other.seat ≡ Some others) × (other.aside ≡ None) }
+    ensures one { MayLock lock.now result.0 × (result.0.aside ≡ None) }
+    ensures other { MayLock lock.now result.1 × (result.1.aside ≡ None) }
 {
     join(
         rt,
         || -> TurnPass<Notes>
-            requires { MayLock lock.now one × (one.seat ≡ Some its) }
-            ensures { MayLock lock.entry.now result }
+            requires { MayLock lock.now one × (one.seat ≡ Some its) × (one.aside ≡ None) }
+            ensures { MayLock lock.entry.now result × (result.aside ≡ None) }
         { work(rt, lock, one, its, SECTIONS) },
         || -> TurnPass<Notes>
-            requires { MayLock lock.now other × (other.seat ≡ Some others) }
-            ensures { MayLock lock.entry.now result }
+            requires { MayLock lock.now other × (other.seat ≡ Some others) × (other.aside ≡ None) }
+            ensures { MayLock lock.entry.now result × (result.aside ≡ None) }
         { work(rt, lock, other, others, SECTIONS) },
     )
 }
@@ -212,6 +214,8 @@ impl Grown for Marked {
     ghost head = { λ m. m.notes.head };
 
     ghost story = { λ m. m.notes.events.items };
+
+    ghost aside = { λ m. [] };
 
     fn length(&self) -> u64 {
         self.notes.length()

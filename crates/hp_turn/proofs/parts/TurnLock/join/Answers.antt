@@ -11,13 +11,13 @@ join_seat-requires g c = (
   search rules,
   search rules,
   search rules,
-  joins g.V.Grown.head g.V.Grown.story _ _ _ _ c.pass.invariant.0
+  joins g.V.Grown.head g.V.Grown.story g.V.Grown.aside _ _ _ _ c.pass.invariant.0
       (ap (λ w. w.held) c.pass.view_is ∙ c.requires.own.1) c.other.invariant.0
       (ap (λ w. w.held) c.other.view_is ∙ c.requires.other.1),
 )
 
 pub load-requires : goal.load-requires
-load-requires g c = (search rules, search rules, learns g.V.Grown.head g.V.Grown.story _ _ _ (search rules) (search rules))
+load-requires g c = (search rules, search rules, learns g.V.Grown.head g.V.Grown.story g.V.Grown.aside _ _ _ (search rules) (search rules))
 
 pub returns-clause-front : goal.returns-clause-front
 returns-clause-front g c =

@@ -9,7 +9,7 @@ pub compare_exchange-found-requires : goal.compare_exchange-found-requires
 compare_exchange-found-requires g c = (
   search rules,
   search rules,
-  locks g.V.Grown.head g.V.Grown.story _ _ _ c.pass.invariant.0
+  locks g.V.Grown.head g.V.Grown.story g.V.Grown.aside _ _ _ c.pass.invariant.0
       (ap (λ w. w.held) c.pass.view_is ∙ c.requires.1),
 )
 
