@@ -13,6 +13,8 @@ use Rattle.hp_board.specs.HookCount.{hook_count, held}
 use Rattle.hp_board.specs.Hooks.{has_hook, has_hook_after}
 use Rattle.hp_board.proofs.HooksCounted.{turn_keeps_hooks}
 use Rattle.hp_ledger.specs.Table.{IsTableOf}
+use Rattle.hp_board.proofs.Waiting.{plain_wait}
+use Rattle.hp_table.specs.Step.{AllHome}
 use Rattle.hp_table.specs.Sound.{IsSound}
 use Rattle.hp_model.specs.Pending.{IsAllowed}
 use Rattle.std.specs.List.{sum_by}
@@ -61,15 +63,16 @@ made k op old new t e next head events answers = record {
   answers = ap (λ o. is_answered o (is_full old.head old.events k op)) next ∙ answers;
 }
 
-pub turned : (k : ℕ) (op : Op) (old new : Contents) (t : Turn) → IsTurn k op old new t → Turned k op old new t
-turned k op old new (Made at) s =
+pub turned : (k : ℕ) (op : Op) (old new : Contents) (t : Turn) → AllHome old.places → IsTurn k op old new t → Turned k op old new t
+turned k op old new (Made at) home s =
     made k op old new (Made at) s.event s.next_is (ap (λ b. b.head) s.new_is) (ap (λ b. b.events) s.new_is) (ap is_some s.answer_is)
-turned k op old new (Answered (Some at) answer) s =
+turned k op old new (Answered (Some at) answer) home s =
     made k op old new (Answered (Some at) answer) s.event s.next_is (ap (λ b. b.head) s.new_is) (ap (λ b. b.events) s.new_is)
     (ap is_some s.answer_is)
-turned k op old new (Answered None answer) s =
+turned k op old new (Answered None answer) home s =
     still k op old new (Answered None answer) s.same (full_none old.head old.events k op s.full) s.full
-turned k op old new (NotYet why) s = still k op old new (NotYet why) s.1 s.0.no_event s.0.not_full
+turned k op old new (NotYet why) home s =
+    let kept = plain_wait k op old why home s.0 in still k op old new (NotYet why) s.1 kept.no_event kept.not_full
 
 -- an answered operation leaves its seat with nothing in flight
 frees : (head : Head) (before : List Event) (k : ℕ) (op : Op) → IsLawful head before →
@@ -128,7 +131,7 @@ not_not false h = absurd (true≢false h)
 
 -- a turn of the machine is a turn of the actor
 pub asked_turned : {H : Type 0} (k : ℕ) (old new : Contents) (actor now : Actor H) (ask ask_now : Ask H) (t : Turn) →
-    IsLawful old.head old.events → IsTableOf old.head old.events old.places → IsSound old.places →
+    IsLawful old.head old.events → IsTableOf old.head old.events old.places → IsSound old.places → AllHome old.places →
     IsAllowed old.head old.events (record { seat = k; op = ask.op }) → HasHooks old.events k actor →
     slice_get actor.asks.items actor.answered ≡ Some ask →
     IsTurn k ask.op old new t → ask_now.op ≡ ask.op →
@@ -136,7 +139,7 @@ pub asked_turned : {H : Type 0} (k : ℕ) (old new : Contents) (actor now : Acto
     (goes_on t ≡ true → is_some ask_now.hook ≡ has_hook new.events k ask.op) →
     now.asks.items ≡ set actor.asks.items actor.answered ask_now →
     now.answered ≡ actor.answered + (cond (not (goes_on t)) 1 0) → ActorTurned k old new actor now
-asked_turned {H} k old new actor now ask ask_now t lawful table sound allowed hooks at turn op after again asks answered = record {
+asked_turned {H} k old new actor now ask ask_now t lawful table sound home allowed hooks at turn op after again asks answered = record {
   head_is = made.head_is;
   events_are = made.events_are ∙ ap (λ o. old.events ++ option_to_list (event_for old.head old.events k o)) (sym is);
   answered_is =
@@ -159,7 +162,7 @@ asked_turned {H} k old new actor now ask ask_now t lawful table sound allowed ho
 }
   where
     made : Turned k ask.op old new t
-    made = turned k ask.op old new t turn
+    made = turned k ask.op old new t home turn
 
     is : asked actor ≡ Some ask.op
     is = ap (option_map op_of) at

@@ -9,6 +9,8 @@ use Rattle.hp_event.specs.declared.op.Op.{Op}
 use Rattle.hp_event.specs.declared.head.Head.{Head}
 use Rattle.hp_event.specs.declared.event.Event.{Event}
 use Rattle.hp_event.specs.declared.event.Event.TheVariants.{Call}
+use Rattle.hp_board.proofs.Waiting.{plain_wait}
+use Rattle.hp_table.specs.Step.{AllHome}
 use Rattle.hp_board.specs.Contents.{Contents}
 use Rattle.hp_board.specs.Turns.{IsTurn}
 use Rattle.hp_board.specs.declared.turn.Ask.{Ask}
@@ -16,7 +18,7 @@ use Rattle.hp_board.specs.declared.turn.Turn.{Turn}
 use Rattle.hp_board.specs.declared.turn.Turn.TheVariants.{Made, Answered, NotYet}
 use Rattle.hp_ledger.specs.Next.{IsKept, WaitsFor}
 use Rattle.hp_locks.specs.declared.why.Why.{Why}
-use Rattle.hp_locks.specs.declared.why.Why.TheVariants.{MapsHeld, WriterIn, ReadersIn, RegIn, ApTurn, Idle}
+use Rattle.hp_locks.specs.declared.why.Why.TheVariants.{MapsHeld, WriterIn, ReadersIn, RegIn, ApTurn, HookOut, Idle}
 use Rattle.hp_model.specs.ApTurn.{IsEntryOf, IsApTurn}
 use Rattle.hp_model.specs.Events.{seat_of, is_call}
 use Rattle.hp_model.specs.Lawful.{IsLawful}
@@ -72,6 +74,7 @@ found_waiting head xs k op (ReadersIn count) lawful h idle = waits_for head xs k
 found_waiting head xs k op (RegIn seat) lawful h idle = waits_for head xs k op _ idle h.why_is
 found_waiting head xs k op (ApTurn cpu) lawful h idle =
     absurd (thread_in_flight head xs k cpu (owners head xs lawful) h.why_is idle)
+found_waiting head xs k op (HookOut s) lawful h idle = absurd h.why_is
 found_waiting head xs k op Idle lawful h idle = absurd h.why_is
 
 -- an actor's operation is the same while no other is answered
@@ -95,6 +98,8 @@ waits_noted head xs last last_now k op (RegIn seat) lawful h idle up =
     (up, λ same. found_waiting head xs k op (RegIn seat) lawful h idle)
 waits_noted head xs last last_now k op (ApTurn cpu) lawful h idle up =
     (up, λ same. found_waiting head xs k op (ApTurn cpu) lawful h idle)
+waits_noted head xs last last_now k op (HookOut s) lawful h idle up =
+    (up, λ same. found_waiting head xs k op (HookOut s) lawful h idle)
 waits_noted head xs last last_now k op Idle lawful h idle up = (up, λ same. found_waiting head xs k op Idle lawful h idle)
 
 none_noted : (head : Head) (xs : List Event) (last last_now k : ℕ) (why : Why) → last ≤ last_now →
@@ -104,16 +109,17 @@ none_noted head xs last last_now k (WriterIn seat) up = (up, λ same. tt)
 none_noted head xs last last_now k (ReadersIn count) up = (up, λ same. tt)
 none_noted head xs last last_now k (RegIn seat) up = (up, λ same. tt)
 none_noted head xs last last_now k (ApTurn cpu) up = (up, λ same. tt)
+none_noted head xs last last_now k (HookOut s) up = (up, λ same. tt)
 none_noted head xs last last_now k Idle up = (up, λ same. tt)
 
 -- what an actor's turn notes
-pub turn_notes : {H : Type 0} (k last last_now : ℕ) (old new : Contents) (actor now : Actor H) (t : Turn) → IsLawful old.head old.events →
+pub turn_notes : {H : Type 0} (k last last_now : ℕ) (old new : Contents) (actor now : Actor H) (t : Turn) → IsLawful old.head old.events → AllHome old.places →
     ((ask : Ask H) → slice_get actor.asks.items actor.answered ≡ Some ask → IsTurn k ask.op old new t) →
     now.answered ≡ actor.answered + (cond (answers_for old.head old.events k (asked actor)) 1 0) → ops_of now ≡ ops_of actor →
     last ≤ last_now → IsKnown new.head new.events last_now k (asked now) (noted t (is_busy k new.events) last)
-turn_notes k last last_now old new actor now (Made at) lawful turn answered ops up = tt
-turn_notes k last last_now old new actor now (Answered at answer) lawful turn answered ops up = tt
-turn_notes {H} k last last_now old new actor now (NotYet why) lawful turn answered ops up = go (is_busy k new.events) refl
+turn_notes k last last_now old new actor now (Made at) lawful home turn answered ops up = tt
+turn_notes k last last_now old new actor now (Answered at answer) lawful home turn answered ops up = tt
+turn_notes {H} k last last_now old new actor now (NotYet why) lawful home turn answered ops up = go (is_busy k new.events) refl
   where
     known : (o : Option (Ask H)) → slice_get actor.asks.items actor.answered ≡ o → is_busy k new.events ≡ false →
         IsKnown new.head new.events last_now k (asked now) (noted (NotYet why) false last)
@@ -127,7 +133,7 @@ turn_notes {H} k last last_now old new actor now (NotYet why) lawful turn answer
     known (Some ask) at idle =
         let there : asked actor ≡ Some ask.op = ap (option_map op_of) at in
         let kept = turn ask at in
-        let made = turned k ask.op old new (NotYet why) kept in
+        let made = turned k ask.op old new (NotYet why) home kept in
         let same : now.answered ≡ actor.answered + 0 =
         answered
         ∙ (ap (λ o. actor.answered + (cond (answers_for old.head old.events k o) 1 0)) there
@@ -136,7 +142,7 @@ turn_notes {H} k last last_now old new actor now (NotYet why) lawful turn answer
         let free : is_busy k old.events ≡ false = ap (λ (b : Contents). is_busy k b.events) (sym kept.1) ∙ idle in
         subst (λ o. IsKnown new.head new.events last_now k o (noted (NotYet why) false last)) (sym asks)
         (subst (λ (b : Contents). IsKnown b.head b.events last_now k (Some ask.op) (noted (NotYet why) false last)) (sym kept.1)
-        (waits_noted old.head old.events last last_now k ask.op why lawful kept.0 free up))
+        (waits_noted old.head old.events last last_now k ask.op why lawful (plain_wait k ask.op old why home kept.0) free up))
 
     go : (b : Bool) → is_busy k new.events ≡ b → IsKnown new.head new.events last_now k (asked now) (noted (NotYet why) b last)
     go true f = tt

@@ -6,6 +6,7 @@ ghost use Rattle.hp_script.specs.Playable.{setups_in};
 ghost use Rattle.hp_actors.specs.Racks.{AreLoaded, Takes, hooks_with};
 ghost use Rattle.hp_board.specs.HookCount.{hook_count};
 ghost use Rattle.hp_board.specs.declared.turn.Ask.{Ask as AnAsk};
+ghost use Rattle.hp_table.specs.Step.{AllHome};
 ghost use Rattle.hp_model.specs.Lawful.{IsLawful};
 ghost use Rattle.hp_model.specs.Pending.{IsAllowed};
 ghost use Rattle.hp_actors.specs.Asking.{HasHooks};
@@ -94,11 +95,13 @@ impl<H: Hook> Actor<H> {
         seat: u32,
     ) -> Result<(), NoMemory>
         requires lawful { IsLawful board.old.head board.old.events }
+        requires home { AllHome board.old.places }
         requires allowed { (ask : AnAsk H) → slice_get self.old.asks.items self.old.answered ≡ Some ask →
             IsAllowed board.old.head board.old.events (record { seat = seat; op = ask.op }) }
         requires hooks { HasHooks board.old.events seat self.old }
         requires last_end { last_end.old ≤ length board.old.events }
         ensures head { board.new.head ≡ board.old.head }
+        ensures home { AllHome board.new.places }
         ensures events { OnOk result (board.new.events
             ≡ board.old.events ++ option_to_list (event_for board.old.head board.old.events seat (asked self.old))) }
         ensures answered { OnOk result (self.new.answered
@@ -131,6 +134,7 @@ impl<H: Hook> Actor<H> {
     fn ask(&mut self, board: &mut Board<H>, seat: u32) -> Result<Turn, NoMemory>
         requires pending { self.old.answered < length self.old.asks.items }
         requires lawful { IsLawful board.old.head board.old.events }
+        requires home { AllHome board.old.places }
         requires allowed { (ask : AnAsk H) → slice_get self.old.asks.items self.old.answered ≡ Some ask →
             IsAllowed board.old.head board.old.events (record { seat = seat; op = ask.op }) }
         requires hooks { HasHooks board.old.events seat self.old }
@@ -138,6 +142,7 @@ impl<H: Hook> Actor<H> {
             slice_get self.old.asks.items self.old.answered ≡ Some ask →
             IsTurn seat ask.op board.old board.new turn) }
         ensures head { board.new.head ≡ board.old.head }
+        ensures home { AllHome board.new.places }
         ensures events { OnOk result (board.new.events
             ≡ board.old.events ++ option_to_list (event_for board.old.head board.old.events seat (asked self.old))) }
         ensures answered { OnOk result (self.new.answered

@@ -31,6 +31,7 @@ pub struct Run<H: Hook> {
 }
 
 impl<H: Hook> Model for Run<H> {
+    ghost use Rattle.hp_table.specs.Step.{AllHome};
     ghost use Rattle.hp_actors.specs.Asking.{IsPlaying};
     ghost use Rattle.hp_actors.specs.Positions.{Position, position_of};
     ghost use Rattle.hp_actors.specs.Waiting.{KnowsWaits};
@@ -42,6 +43,7 @@ impl<H: Hook> Model for Run<H> {
     ghost invariant = { λ r. record {
       playing : IsPlaying r.board r.threads r.actors.items;
       waits : KnowsWaits r.board r.threads r.last_end r.actors.items;
+      home : AllHome r.board.places;
     } };
 }
 

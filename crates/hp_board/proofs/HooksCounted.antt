@@ -1,5 +1,5 @@
 -- How many hooks a board has after a turn, together with the one that is asked with.
-use Rattle.std.proofs.Common.{◌≡◌, ℕ, zero, suc, ◌+◌, ◌<◌, Bool, true, false, not, ◌&&◌, ◌||◌, cond, inr, is_some, Option, Some, None, IfSome, List, [], ◌∷◌, length, refl, sym, ap, ◌∙◌, subst, arith}
+use Rattle.std.proofs.Common.{◌≡◌, ℕ, zero, suc, ◌+◌, ◌<◌, Bool, true, false, not, ◌&&◌, ◌||◌, cond, inr, is_some, Option, Some, None, IfSome, List, [], ◌∷◌, length, refl, sym, ap, ◌∙◌, subst, arith, ⊎_elim}
 use Rattle.std.specs.Prelude.{slice_set, replicate}
 use Rattle.std.proofs.lemmas.Bool.{false≢true, or_parts}
 use Rattle.std.proofs.lemmas.List.{length-append, length-map}
@@ -36,6 +36,7 @@ use Rattle.hp_ledger.proofs.FullNone.{full_none}
 use Rattle.hp_ledger.proofs.TableChanged.{some_found}
 use Rattle.hp_board.specs.declared.turn.Turn.{Turn}
 use Rattle.hp_board.specs.declared.turn.Turn.TheVariants.{Made, Answered, NotYet}
+use Rattle.hp_board.proofs.Waiting.{not_made, arms_leaves}
 use Rattle.hp_board.specs.Contents.{Contents, with_event}
 use Rattle.hp_board.specs.HookCount.{hook_count, held}
 use Rattle.hp_board.specs.Hooks.{has_hook, has_hook_after}
@@ -166,6 +167,12 @@ none_keeps : (old new : Contents) (next : Option Event) (had : Bool) → new ≡
 none_keeps old new next had same none =
     subst (λ (b : Contents). KeepsHooks old b next had) (sym same) (subst (λ o. KeepsHooks old old o had) (sym none) refl)
 
+waits_keep : (old new : Contents) (next : Option Event) (had : Bool) → new ≡ old → has_hook_after old.events next had ≡ had →
+    KeepsHooks old new next had
+waits_keep old new next had same leaves =
+    subst (λ (b : Contents). KeepsHooks old b next had) (sym same)
+    (ap (λ h. hook_count old.places + held h) leaves)
+
 pub turn_keeps_hooks : (old new : Contents) (p : Pending) (had : Bool) (turn : Turn) → IsLawful old.head old.events →
     IsTableOf old.head old.events old.places → IsSound old.places → IsAllowed old.head old.events p →
     had ≡ has_hook old.events p.seat p.op → IsTurn p.seat p.op old new turn →
@@ -177,7 +184,10 @@ turn_keeps_hooks old new p had (Answered None answer) lawful t sound a has is =
     none_keeps old new (next_event old.head old.events p.seat p.op) had is.same
     (full_none old.head old.events p.seat p.op is.full)
 turn_keeps_hooks old new p had (NotYet why) lawful t sound a has is =
-    none_keeps old new (next_event old.head old.events p.seat p.op) had is.1 is.0.no_event
+    ⊎_elim (λ none. none_keeps old new (next_event old.head old.events p.seat p.op) had is.1 none)
+    (λ w. waits_keep old new (next_event old.head old.events p.seat p.op) had is.1
+    (ap (λ o. has_hook_after old.events o had) w.next_is ∙ arms_leaves old.events w.entry w.event had w.arms))
+    (not_made p.seat p.op old why is.0)
 
 -- an entry leaves as many
 count_call : (head : Head) (es : List Event) (places : List (Option Step)) (e : Event) → is_call e ≡ true →

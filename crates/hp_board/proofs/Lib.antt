@@ -6,3 +6,8 @@ pub mod HooksRetired
 pub mod AskAgain
 pub mod HooksCounted
 pub mod Complete
+pub mod LentTable
+pub mod Loans
+pub mod Waiting
+pub mod Homes
+pub mod LoansStay

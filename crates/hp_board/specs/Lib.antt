@@ -1,4 +1,6 @@
 pub mod Contents
+pub mod Answered
+pub mod Loans
 pub mod Turns
 pub mod Hooks
 pub mod HookCount

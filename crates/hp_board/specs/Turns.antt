@@ -1,19 +1,22 @@
 -- What a turn of a seat makes of a board, and what it answers: the one event that comes next of the seat and its operation, or
 -- nothing, where there is no room for it or something is waited for. This project's own.
-use Rattle.std.specs.Prelude.{◌≡◌, ℕ, Bool, true, false, Option, Some, None, IsSome, IsSomeAnd, List, length}
+use Rattle.std.specs.Prelude.{◌≡◌, ◌⊎◌, ℕ, Bool, true, false, Option, Some, None, IsSome, IsSomeAnd, List, length}
 use Rattle.hp_event.specs.declared.answer.Answer.{Answer}
 use Rattle.hp_event.specs.declared.answer.Answer.TheVariants.{LogFull}
 use Rattle.hp_event.specs.declared.event.Event.{Event}
 use Rattle.hp_event.specs.declared.head.Head.{Head}
 use Rattle.hp_event.specs.declared.op.Op.{Op}
-use Rattle.hp_locks.specs.declared.why.Why.TheVariants.{Idle}
+use Rattle.hp_locks.specs.declared.why.Why.{Why}
+use Rattle.hp_locks.specs.declared.why.Why.TheVariants.{MapsHeld, WriterIn, ReadersIn, RegIn, ApTurn, HookOut, Idle}
 use Rattle.hp_model.specs.Events.{answer_by}
 use Rattle.hp_model.specs.Needs.{need}
 use Rattle.hp_model.specs.NextEvent.{next_event, due_entry, is_full}
 use Rattle.hp_ledger.specs.Next.{IsKept}
 use Rattle.hp_board.specs.declared.turn.Turn.{Turn}
 use Rattle.hp_board.specs.declared.turn.Turn.TheVariants.{Made, Answered, NotYet}
+use Rattle.hp_table.specs.Step.{step_at, is_home, AllHome}
 use Rattle.hp_board.specs.Contents.{Contents, with_event}
+use Rattle.hp_board.specs.Loans.{WaitsForThread, WaitsToArm}
 
 -- this one event was appended, at this place, and gives this answer, or none
 pub record Makes (next : Option Event) (at : ℕ) (answer : Option Answer) (old new : Contents) : Type 0 where
@@ -39,12 +42,19 @@ abbrev pub goes_on : Turn → Bool
 goes_on (Answered at answer) = false
 goes_on _ = true
 
+-- what it waits for: where the next entry is a thread's to make, that its hook comes home if that is lent; and a write of
+-- `fail` that can stand waits for the hook of an entry in the middle of the processor's walk
+abbrev pub IsNotYet : (seat : ℕ) → Op → Contents → Why → Type 0
+IsNotYet k op b (HookOut s) = (is_home (step_at b.places s) ≡ false) × (WaitsForThread b k op ⊎ WaitsToArm b k op)
+IsNotYet k op b (ApTurn cpu) = IsKept b.head b.events k op (ApTurn cpu) × AllHome b.places
+IsNotYet k op b why = IsKept b.head b.events k op why
+
 -- what a turn of a client's seat does
 abbrev pub IsTurn : (seat : ℕ) → Op → (old new : Contents) → Turn → Type 0
 IsTurn k op old new (Made at) = Makes (next_event old.head old.events k op) at None old new
 IsTurn k op old new (Answered (Some at) answer) = Makes (next_event old.head old.events k op) at (Some answer) old new
 IsTurn k op old new (Answered None answer) = IsFullFor k op answer old new
-IsTurn k op old new (NotYet why) = IsKept old.head old.events k op why × (new ≡ old)
+IsTurn k op old new (NotYet why) = IsNotYet k op old why × (new ≡ old)
 
 -- what a thread's turn does: it makes the entry that is due from it, if one is
 abbrev pub IsServed : (seat : ℕ) → (old new : Contents) → Turn → Type 0

@@ -25,7 +25,8 @@ use std::marker::Model;
 /// Contracts see its head, its events, oldest first, and what stands at each state with its hook's counts
 /// (`Contents`). Its journal is lawful at any time; what stands at a state is what the journal has
 /// registered there, and of a registration in flight what it adds; and each hook has counted the calls
-/// of the journal since the setup that registered it began.
+/// of the journal since the setup that registered it began. A hook that is lent is that of the entry
+/// that is due.
 #[derive(Drop)]
 pub struct Board<H: Hook> {
     pub(crate) ledger: Ledger,
@@ -33,14 +34,14 @@ pub struct Board<H: Hook> {
 }
 
 impl<H: Hook> Model for Board<H> {
-    ghost use Rattle.hp_ledger.specs.Machine.{IsMachine};
+    ghost use Rattle.hp_board.specs.Loans.{IsBoard};
     ghost use Rattle.hp_board.specs.Contents.{Contents};
 
     ghost Value = { Contents };
 
     ghost view = { λ b. record { head = b.ledger.head; events = b.ledger.events; places = b.table } };
 
-    ghost invariant = { λ b. IsMachine b.ledger b.table };
+    ghost invariant = { λ b. IsBoard b.ledger b.table };
 }
 
 impl<H: Hook> Board<H> {

@@ -18,6 +18,8 @@ mod admission;
 mod board;
 mod hook_laws;
 mod laws;
+mod lending;
+mod loan;
 mod making;
 mod retiring;
 mod sound;
@@ -32,5 +34,6 @@ pub use laws::{
     allowed_again, answers_ok, full_has_no_event, others_keep, serve_keeps_others, setup_goes_on,
     stays_busy, turn_keeps_others, walk_ends_ok,
 };
+pub use loan::{Back, Loan};
 pub use start::{CpuPlan, StartError};
 pub use turn::{Ask, Turn};

@@ -1,11 +1,11 @@
 //! The end of a board.
 
-ghost use Rattle.std.specs.Prelude.{◌≡◌, ◌≢◌, ◌+◌, ◌<◌, ◌≤◌, ℕ, None, Some, [], ◌∷◌, ◌++◌, IfOk, IfErr, IfSome, IfNone, OnOk, OnErr, map, vec_len, vec_capacity};
+ghost use Rattle.std.specs.Prelude.{◌≡◌, ◌≢◌, true, ◌+◌, ◌<◌, ◌≤◌, ℕ, None, Some, [], ◌∷◌, ◌++◌, IfOk, IfErr, IfSome, IfNone, OnOk, OnErr, map, vec_len, vec_capacity};
 ghost use Rattle.hp_states.specs.declared.limits.TheConstants.{ONLINE};
 ghost use Rattle.hp_board.specs.Retired.{IsRacked, hook_at, hooks_of, registered_hooks, calls_of_registered};
 ghost use Rattle.hp_model.specs.Registrations.{registration};
 ghost use Rattle.hp_table.specs.Instances.{instances_at};
-ghost use Rattle.hp_table.specs.Step.{step_at};
+ghost use Rattle.hp_table.specs.Step.{step_at, is_home, AllHome};
 
 use crate::board::Board;
 use hp_event::Journal;
@@ -22,12 +22,14 @@ impl<H: Hook> Board<H> {
     ///
     /// Each hook is as it stood, with its plan and its counts. While no registration is in flight they are
     /// those of the registered states, and have counted the calls of the journal since each setup began;
-    /// while one is, the hook of a setup is among them too. What is in flight is left as it is.
+    /// while one is, the hook of a setup is among them too. What is in flight is left as it is. No hook is
+    /// lent.
     /// - `NoMemory` where memory for places in the rack was wanting. The board is handed back as it was
     ///   then, and the rack has the same hooks.
     ///
     /// Takes memory for places in the rack alone, and time for the states. This project's own.
     pub fn retire(self, rack: &mut Rack<H>) -> Result<Journal, (NoMemory, Board<H>)>
+        requires { AllHome self.places }
         ensures head { IfOk result (λ journal. journal.head ≡ self.head) }
         ensures events { IfOk result (λ journal. journal.events ≡ self.events) }
         ensures hooks { OnOk result (IsRacked
@@ -54,7 +56,8 @@ impl<H: Hook> Board<H> {
 
 /// Moves the hooks of a table behind others, which have places for as many. Takes no memory.
 fn move_hooks<H: Hook>(table: Table<H>, hooks: &mut Vec<H>)
-    requires { vec_len hooks.old + (ONLINE + 1) ≤ vec_capacity hooks.old }
+    requires room { vec_len hooks.old + (ONLINE + 1) ≤ vec_capacity hooks.old }
+    requires home { AllHome table }
     ensures { IsRacked
         (λ h. record { plan = H.plan h; seen = H.seen h; made = H.made h; faults = H.faults h })
         hooks.old.items hooks.new.items (hooks_of table) }
@@ -81,6 +84,7 @@ fn put<H: Hook>(hooks: &mut Vec<H>, hook: Option<H>)
 
 /// Takes the hook of a state out of a table, with its instances, if one is registered there.
 fn take_hook<H: Hook>(table: &mut Table<H>, state: u32) -> Option<H>
+    requires { is_home (step_at table.old state) ≡ true }
     ensures hook { IfSome result (λ h.
         hook_at (step_at table.old state)
         ≡ record { plan = H.plan h; seen = H.seen h; made = H.made h; faults = H.faults h } ∷ []) }
@@ -89,7 +93,7 @@ fn take_hook<H: Hook>(table: &mut Table<H>, state: u32) -> Option<H>
 {
     table.clear_instances(state);
     match table.uninstall(state) {
-        Ok(record) => Some(record.hook),
+        Ok(record) => Some(record.into_hook()),
         Err(_) => None,
     }
 }

@@ -1,5 +1,8 @@
 //! What holds of a board at any time.
 
+ghost use Rattle.std.specs.Prelude.{◌≡◌, ℕ, Some};
+ghost use Rattle.hp_board.specs.Loans.{AreOut, IsLoan, loan};
+ghost use Rattle.hp_event.specs.declared.aside.Aside.{Aside as AnAside};
 ghost use Rattle.hp_ledger.specs.Table.{IsTableOf};
 ghost use Rattle.hp_model.specs.Lawful.{IsLawful};
 ghost use Rattle.hp_table.specs.Sound.{IsSound};
@@ -10,12 +13,15 @@ use hp_hook::Hook;
 impl<H: Hook> Board<H> {
     /// What is so of every board, which callers cite: it does nothing.
     ///
-    /// Its journal is lawful, what stands at each state is what the journal says, and the states are those
-    /// of a table, 201 in all. Takes no memory. This project's own.
+    /// Its journal is lawful, what stands at each state is what the journal says, the states are those of a
+    /// table, 201 in all, and a hook that is lent is that of the entry that is due: the five facts of
+    /// what is lent to a seat are `IsLoan`. Takes no memory. This project's own.
     pub fn sound(&self)
         ensures lawful { IsLawful self.now.head self.now.events }
         ensures table { IsTableOf self.now.head self.now.events self.now.places }
         ensures places { IsSound self.now.places }
+        ensures out { AreOut self.now.head self.now.events self.now.places }
+        ensures loans { (k : ℕ) (a : AnAside) → loan self.now k ≡ Some a → IsLoan self.now.head self.now.events k a }
     {
         // what is so of every board
         let _ = &self.ledger;

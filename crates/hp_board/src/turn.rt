@@ -1,11 +1,17 @@
 //! Turns.
 
-ghost use Rattle.std.specs.Prelude.{◌≡◌, ◌↔◌, ℕ, true, IsTrue, Some, IfOk, IfSome, OnOk, OnErr, false, is_some};
+ghost use Rattle.std.specs.Prelude.{◌≡◌, ◌↔◌, ℕ, true, IsTrue, None, Some, IfOk, IfSome, IfNone, OnOk, OnErr, false, is_some};
 ghost use Rattle.hp_board.specs.Hooks.{has_hook, has_hook_after, leaves_hook};
-ghost use Rattle.hp_board.specs.Turns.{IsTurn, IsServed, TakesRoom, turn_by, goes_on};
+ghost use Rattle.hp_board.specs.Loans.{loan, IsOutFor, IsCalm};
+ghost use Rattle.hp_board.specs.Turns.{IsTurn, IsServed, IsNotYet, TakesRoom, turn_by, goes_on};
+ghost use Rattle.hp_ledger.specs.Entries.{entry_event};
+ghost use Rattle.hp_ledger.specs.Next.{IsKept};
+ghost use Rattle.hp_model.specs.Lent.{arms, arms_walker};
+ghost use Rattle.hp_table.specs.Step.{step_at, is_home, AllHome};
+ghost use Rattle.hp_event.specs.declared.event.Event.TheVariants.{Call};
 ghost use Rattle.hp_ledger.specs.TableChanges.{is_setup, registering_step, IsHookOf};
 ghost use Rattle.hp_model.specs.Events.{answer_by};
-ghost use Rattle.hp_model.specs.NextEvent.{next_event};
+ghost use Rattle.hp_model.specs.NextEvent.{next_event, due_entry};
 ghost use Rattle.hp_model.specs.Pending.{IsAllowed, IsInFlight};
 ghost use Rattle.hp_model.specs.Seats.{role_of};
 ghost use Rattle.hp_event.specs.declared.event.Role.TheVariants.{Client};
@@ -16,7 +22,7 @@ use crate::board::Board;
 use crate::making::{make, make_entry};
 use hp_event::{Answer, Event, Op, Role};
 use hp_hook::Hook;
-use hp_ledger::{Next, names_sub};
+use hp_ledger::{Entry, Next, names_sub};
 use hp_locks::Why;
 use hp_states::NoMemory;
 
@@ -48,20 +54,23 @@ impl<H: Hook> Board<H> {
     /// does.
     ///
     /// The seat is in as a client, and has no other operation in flight. A setup names a subsystem of the
-    /// head; at its first event it has its hook, and everything else has none.
+    /// head; at its first event it has its hook, and everything else has none. Nothing is lent to the seat.
     /// - `Made` where the operation goes on.
     /// - `Answered` where that event answers it: by a refusal, by its end, or by the one event that it is.
     ///   With no place, and LogFull, where there is no room for its first event.
-    /// - `NotYet` where the operation, which isn't refused and has room, waits for this.
+    /// - `NotYet` where the operation, which isn't refused and has room, waits for this. Where a thread has
+    ///   to make the next entry and its hook is lent, and where a write of `fail` can stand and a hook is
+    ///   lent for an entry of the processor's walk, that is `HookOut`.
     /// - `NoMemory` where memory was wanting for a first event or for the begin of a walk.
     ///
     /// The begin of a setup takes its hook, loaded with the subsystem's plan. A setup that is answered
     /// otherwise than Ok has its hook in `ask` then, and a remove that is answered Ok the state's. Where
-    /// nothing was made nothing has changed, the ask neither. After the calls of `kernel/cpu.c`; that each
+    /// nothing was made nothing has changed, the ask neither. What is lent to other seats stays so. After the calls of `kernel/cpu.c`; that each
     /// goes on by one event at a time is this project's own.
     pub fn turn(&mut self, by: u32, ask: &mut Ask<H>) -> Result<Turn, NoMemory>
         requires allowed { IsAllowed self.old.head self.old.events (record { seat = by; op = ask.old.op }) }
         requires hook { is_some ask.old.hook ≡ has_hook self.old.events by ask.old.op }
+        requires nothing { loan self.old by ≡ None }
         ensures turn { IfOk result (IsTurn by ask.old.op self.old self.new) }
         ensures op { ask.new.op ≡ ask.old.op }
         ensures has_hook { OnOk result (is_some ask.new.hook
@@ -75,12 +84,16 @@ impl<H: Hook> Board<H> {
             (λ step. IsHookOf (H.plan h) (H.seen h) (H.made h) (H.faults h) step.kept))) }
         ensures again { IfOk result (λ turn. goes_on turn ≡ true →
             is_some ask.new.hook ≡ has_hook self.new.events by ask.old.op) }
+        ensures stays { OnOk result ((k : ℕ) → loan self.new k ≡ loan self.old k) }
         ensures err { OnErr result ((self.new ≡ self.old) × (ask.new ≡ ask.old)) }
         ensures memory { OnErr result (TakesRoom self.old.head self.old.events
             (next_event self.old.head self.old.events by ask.old.op)) }
     {
         match self.ledger.next(&self.table, by, ask.op) {
             Next::Event { event, need } => {
+                if let Some(state) = self.keeps_out(&event) {
+                    return Ok(Turn::NotYet(Why::HookOut(state)));
+                }
                 let at = self.ledger.journal().len();
                 make(
                     &mut self.ledger,
@@ -100,8 +113,52 @@ impl<H: Hook> Board<H> {
                 at: None,
                 answer: Answer::LogFull,
             }),
-            Next::Wait(why) => Ok(Turn::NotYet(why)),
+            Next::Wait(why) => Ok(Turn::NotYet(self.waits_for(why))),
         }
+    }
+
+    /// The state whose hook is lent for an entry of the walk of a processor that an event arms, if it is.
+    fn keeps_out(&self, event: &Event) -> Option<u32>
+        ensures out { IfSome result (λ s. (is_home (step_at self.now.places s) ≡ false)
+            × ((o : IsOutFor self.now.head self.now.events s)
+            × (arms_walker self.now.events (Call o.seat o.cpu s o.inst o.dir o.how) event.now ≡ true))) }
+        ensures calm { IfNone result (IsCalm self.now event.now) }
+    {
+        let entry = self.out()?;
+        if self.ledger.registrar().is_none() && arms(event, entry.cpu) {
+            Some(entry.key.state)
+        } else {
+            None
+        }
+    }
+
+    /// What a client waits for: where that is a thread whose hook is lent, for the hook.
+    fn waits_for(&self, why: Why) -> Why
+        ensures { (seat : ℕ) (op : AnOp) → IsKept self.now.head self.now.events seat op why →
+            IsNotYet seat op self.now result }
+    {
+        match why {
+            Why::ApTurn(cpu) => match self.out() {
+                Some(entry) => Why::HookOut(entry.key.state),
+                None => Why::ApTurn(cpu),
+            },
+            _ => why,
+        }
+    }
+
+    /// The entry that is due, where its hook is lent.
+    pub(crate) fn out(&self) -> Option<Entry>
+        ensures some { IfSome result (λ x.
+            (due_entry self.now.head self.now.events x.seat ≡ Some (entry_event self.now.head self.now.events x))
+            × (is_home (step_at self.now.places x.key.state) ≡ false)) }
+        ensures none { IfNone result (AllHome self.now.places) }
+    {
+        let seat = self.ledger.due_seat()?;
+        let entry = self.ledger.due(seat)?;
+        if self.table.is_home(entry.key.state) {
+            return None;
+        }
+        Some(entry)
     }
 
     /// Whether a turn of a seat may be asked for with this: exactly where the conditions of `turn` hold.
@@ -111,9 +168,14 @@ impl<H: Hook> Board<H> {
         ensures allowed { result ≡ true →
             IsAllowed self.now.head self.now.events (record { seat = by; op = ask.now.op }) }
         ensures hook { result ≡ true → is_some ask.now.hook ≡ has_hook self.now.events by ask.now.op }
+        ensures nothing { result ≡ true → loan self.now by ≡ None }
         ensures always { IsAllowed self.now.head self.now.events (record { seat = by; op = ask.now.op }) →
-            is_some ask.now.hook ≡ has_hook self.now.events by ask.now.op → result ≡ true }
+            is_some ask.now.hook ≡ has_hook self.now.events by ask.now.op →
+            loan self.now by ≡ None → result ≡ true }
     {
+        if self.has_lent(by) {
+            return false;
+        }
         if !self.is_client(by)
             || !names_sub(self.ledger.journal().head(), ask.op)
             || !self.is_of(by, ask.op)
@@ -146,9 +208,12 @@ impl<H: Hook> Board<H> {
     /// - `Made` where it was.
     /// - `NotYet` with `Idle` where no entry is due from the seat; nothing has changed then.
     ///
-    /// There is no other answer. Takes no memory. After `cpuhp_thread_fun` of `kernel/cpu.c`.
+    /// There is no other answer. Nothing is lent to the seat. Takes no memory. After `cpuhp_thread_fun` of
+    /// `kernel/cpu.c`.
     pub fn serve(&mut self, by: u32) -> Turn
-        ensures { IsServed by self.old self.new result }
+        requires { loan self.old by ≡ None }
+        ensures served { IsServed by self.old self.new result }
+        ensures stays { (k : ℕ) → loan self.new k ≡ loan self.old k }
     {
         match self.ledger.due(by) {
             Some(entry) => {
@@ -159,6 +224,13 @@ impl<H: Hook> Board<H> {
             None => Turn::NotYet(Why::Idle),
         }
     }
+}
+
+/// Whether an event writes the `fail` file of a processor.
+fn arms(event: &Event, cpu: u32) -> bool
+    ensures { result ≡ arms cpu event.now }
+{
+    matches!(*event, Event::Armed { cpu: of, .. } if of == cpu)
 }
 
 /// Whether two operations are the same.

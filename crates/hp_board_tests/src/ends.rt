@@ -71,7 +71,9 @@ fn rack(alloc: Global) -> Result<Rack<Marked>, Fail> {
 #[test]
 fn the_hooks_go_behind_those_of_the_rack(rt: HostRuntime) -> Result<(), Fail> {
     let mut rack = rack(rt.alloc())?;
-    match played(rt.alloc(), TWO_SETUPS.as_slice())?.retire(&mut rack) {
+    let board = played(rt.alloc(), TWO_SETUPS.as_slice())?;
+    assert!(rt; board.is_home());
+    match board.retire(&mut rack) {
         Ok(journal) => assert!(rt; journal.len() == 9),
         Err((error, _)) => return Err(Fail::from(error)),
     }

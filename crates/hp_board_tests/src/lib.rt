@@ -8,6 +8,8 @@
 #[cfg(test)]
 mod ends;
 #[cfg(test)]
+mod lending;
+#[cfg(test)]
 mod refusals;
 #[cfg(test)]
 mod turns;

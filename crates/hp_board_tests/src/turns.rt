@@ -123,7 +123,12 @@ pub(crate) fn turn(
     ask: Option<&mut Ask<Marked>>,
 ) -> Result<Turn, Fail> {
     match ask {
-        None => Ok(board.serve(by)),
+        None => {
+            if board.has_lent(by) {
+                return Err(Fail::from("something is lent to the thread"));
+            }
+            Ok(board.serve(by))
+        }
         Some(ask) => {
             if !board.can_ask(by, ask) {
                 return Err(Fail::from("the turn can't be asked for"));

@@ -34,13 +34,14 @@ pub struct Law {
 
 impl Model for Law {
     ghost use Rattle.hp_ledger.specs.Machine.{IsMachine};
+    ghost use Rattle.hp_table.specs.Step.{AllHome};
     ghost use Rattle.hp_law.specs.Law.{Taken};
 
     ghost Value = { Taken };
 
     ghost view = { λ l. record { head = l.ledger.head; events = l.ledger.events } };
 
-    ghost invariant = { λ l. IsMachine l.ledger l.table };
+    ghost invariant = { λ l. IsMachine l.ledger l.table × AllHome l.table };
 }
 
 impl Law {
@@ -192,7 +193,9 @@ impl Law {
             ≡ answer_at self.now.head self.now.events entry.now.cpu entry.now.key.state entry.now.key.inst entry.now.dir }
     {
         match self.table.step(entry.key.state) {
-            Some(record) => record.hook.answer_to(entry.cpu, entry.key.inst, entry.dir),
+            Some(record) => record
+                .home_hook()
+                .answer_to(entry.cpu, entry.key.inst, entry.dir),
             None => 0,
         }
     }

@@ -7,6 +7,7 @@ ghost use Rattle.hp_model.specs.Needs.{need, taken};
 ghost use Rattle.hp_model.specs.Promised.{promised};
 ghost use Rattle.hp_ledger.specs.Table.{IsTableOf};
 ghost use Rattle.hp_ledger.specs.TableChanges.{brings_hook};
+ghost use Rattle.hp_table.specs.Step.{AllHome};
 
 use hp_event::{Event, JournalError, Op};
 use hp_hook::ScriptHook;
@@ -27,9 +28,11 @@ pub(crate) fn add(
     requires stands { Stands ledger.old.head ledger.old.events event.now }
     requires room { ledger.old.reserved ≡ taken (need ledger.old.head ledger.old.events event.now) }
     requires table { IsTableOf ledger.old.head ledger.old.events table.old }
+    requires home { AllHome table.old }
     ensures added { OnOk result (ledger.new
         ≡ record { head = ledger.old.head; events = ledger.old.events ++ event.now ∷ []; reserved = 0 }) }
     ensures table { OnOk result (IsTableOf ledger.old.head (ledger.old.events ++ event.now ∷ []) table.new) }
+    ensures home { OnOk result (AllHome table.new) }
     ensures err { OnErr result (ledger.new ≡ ledger.old) }
     ensures kept { OnErr result (table.new ≡ table.old) }
 {
@@ -64,7 +67,9 @@ fn change(table: &mut Table<ScriptHook>, ledger: &Ledger, event: &Event) -> Resu
     requires lawful { IsLawful ledger.now.head ledger.now.events }
     requires stands { Stands ledger.now.head ledger.now.events event.now }
     requires table { IsTableOf ledger.now.head ledger.now.events table.old }
+    requires home { AllHome table.old }
     ensures ok { OnOk result (IsTableOf ledger.now.head (ledger.now.events ++ event.now ∷ []) table.new) }
+    ensures home { OnOk result (AllHome table.new) }
     ensures err { OnErr result (table.new ≡ table.old) }
 {
     match *event {

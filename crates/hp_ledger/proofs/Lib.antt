@@ -44,3 +44,4 @@ pub mod FullNone
 pub mod InFlightOps
 pub mod Leaves
 pub mod ClientsCounted
+pub mod Homes

@@ -12,7 +12,7 @@ use Rattle.hp_model.specs.Refusals.{refusal}
 use Rattle.hp_model.specs.ApTurn.{IsApTurn}
 use Rattle.hp_model.specs.NextEvent.{next_event, due_entry, is_full}
 use Rattle.hp_locks.specs.declared.why.Why.{Why}
-use Rattle.hp_locks.specs.declared.why.Why.TheVariants.{MapsHeld, WriterIn, ReadersIn, RegIn, ApTurn, Idle}
+use Rattle.hp_locks.specs.declared.why.Why.TheVariants.{MapsHeld, WriterIn, ReadersIn, RegIn, ApTurn, HookOut, Idle}
 use Rattle.hp_ledger.specs.declared.entry.Entry.{Entry}
 use Rattle.hp_ledger.specs.declared.next.Next.{Next}
 use Rattle.hp_ledger.specs.declared.next.Next.TheVariants as next
@@ -29,6 +29,7 @@ IsWhy head events k op (WriterIn seat) = WaitsFor head events k op (writer_in se
 IsWhy head events k op (ReadersIn count) = WaitsFor head events k op (readers_in count)
 IsWhy head events k op (RegIn seat) = WaitsFor head events k op (reg_in seat)
 IsWhy head events k op (ApTurn cpu) = IsApTurn head events k cpu
+IsWhy head events k op (HookOut state) = ⊥
 IsWhy head events k op Idle = ⊥
 
 -- nothing of the operation can stand next, and it has room

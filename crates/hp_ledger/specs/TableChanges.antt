@@ -3,7 +3,6 @@
 -- the instance lists of `kernel/cpu.c`.
 use Rattle.std.specs.Prelude.{◌≡◌, ◌<◌, ℕ, Bool, true, false, not, ◌&&◌, if◌then◌else◌, Option, Some, None, IsSome, List, [], slice_set}
 use Rattle.hp_states.specs.declared.limits.TheConstants.{OFFLINE, ONLINE}
-use Rattle.hp_states.specs.declared.plan.Rule.{Rule}
 use Rattle.hp_states.specs.Rules.{counts_of, site_at}
 use Rattle.hp_event.specs.Ops.{is_adding}
 use Rattle.hp_event.specs.declared.op.Op.{Op}
@@ -18,6 +17,7 @@ use Rattle.hp_event.specs.Heads.{sub_numbered}
 use Rattle.hp_model.specs.Registrations.{Registration, registration}
 use Rattle.hp_model.specs.Suspend.{is_ok}
 use Rattle.hp_table.specs.Kept.{Kept}
+pub use Rattle.hp_table.specs.Kept.{IsHookOf}
 use Rattle.hp_table.specs.Instances.{with_instance, without_instance, instances_of, instances_at, is_multi, is_multi_at, is_among, has_instance, CanAdd}
 use Rattle.hp_table.specs.Named.{is_named}
 use Rattle.hp_table.specs.Step.{Step, step_at, changed_at, called_step, bare}
@@ -30,6 +30,7 @@ new_record number sub =
       multi = sub.multi;
       up = sub.up;
       down = sub.down;
+      home = true;
       plan = sub.plan;
       seen = counts_of sub.plan [];
       made = 0;
@@ -96,13 +97,6 @@ abbrev pub hands_out : Op → Answer → Bool
 hands_out (Setup asked sub form) answer = not (is_ok answer)
 hands_out (Remove state form) answer = is_ok answer
 hands_out _ answer = false
-
--- a hook with the whole view that its record has
-pub record IsHookOf (plan : List Rule) (seen : List ℕ) (made faults : ℕ) (kept : Kept) : Type 0 where
-  pub plan_is : plan ≡ kept.plan
-  pub seen_is : seen ≡ kept.seen
-  pub made_is : made ≡ kept.made
-  pub faults_are : faults ≡ kept.faults
 
 -- the table at the end of a registration
 abbrev pub left_at_end : Option Registration → Answer → List (Option Step) → List (Option Step)

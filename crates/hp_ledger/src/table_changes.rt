@@ -9,7 +9,7 @@ ghost use Rattle.hp_model.specs.Needs.{need};
 ghost use Rattle.hp_model.specs.Registrations.{registration};
 ghost use Rattle.hp_table.specs.Instances.{instances_at};
 ghost use Rattle.hp_table.specs.Named.{is_named};
-ghost use Rattle.hp_table.specs.Step.{step_at, bare};
+ghost use Rattle.hp_table.specs.Step.{step_at, bare, is_home, AllHome};
 ghost use Rattle.hp_ledger.specs.TableChanges.{new_record, is_setup, takes_out, with_added, CanChange, without_left, taken_out, CanTakeOut, hands_out, IsHookOf, table_after, is_registering, brings_hook, hands_hook, registering_step};
 ghost use Rattle.hp_ledger.specs.Table.{IsTableOf};
 
@@ -25,7 +25,7 @@ use hp_table::{Record, Table, TableError};
 /// The table is the ledger's journal's. The begin of a setup brings its hook, and no other registration
 /// brings any. Where the end of one hands a hook out, that of a setup that answers a fault or of a state
 /// that is removed, it is in `hook` then, as it stood in the table; otherwise there is none. Every other
-/// event leaves `hook` as it is. Takes memory where an instance is added, which is at the begin of a
+/// event leaves `hook` as it is. Where a registration begins or ends no hook is lent. Takes memory where an instance is added, which is at the begin of a
 /// registration; where that is wanting nothing has changed: `NoMemory`. After `cpuhp_store_callbacks` of
 /// `kernel/cpu.c`.
 pub fn change_table<H: Hook>(
@@ -38,6 +38,7 @@ pub fn change_table<H: Hook>(
     requires no_entry { is_call event ≡ false }
     requires table { IsTableOf ledger.now.head ledger.now.events table.old }
     requires brings { is_registering event ≡ true → is_some hook.old ≡ brings_hook event }
+    requires home { is_registering event ≡ true → AllHome table.old }
     ensures changed { OnOk result (table.new ≡ table_after ledger.now.head ledger.now.events event table.old) }
     ensures table { OnOk result (IsTableOf ledger.now.head (ledger.now.events ++ event ∷ []) table.new) }
     ensures hands { OnOk result (is_registering event ≡ true → is_some hook.new ≡ hands_hook ledger.now.events event) }
@@ -107,13 +108,7 @@ fn set_up<H: Hook>(table: &mut Table<H>, state: u32, number: u32, sub: &Sub, mut
     ensures { table.new ≡ slice_set table.old state (Some (bare (new_record number sub.now))) }
 {
     hook.load(sub.plan);
-    let record = Record {
-        sub: number,
-        multi: sub.multi,
-        up: sub.up,
-        down: sub.down,
-        hook,
-    };
+    let record = Record::new(number, sub.multi, sub.up, sub.down, hook);
     if table.install(state, record).is_err() {
         unreachable!();
     }
@@ -122,7 +117,7 @@ fn set_up<H: Hook>(table: &mut Table<H>, state: u32, number: u32, sub: &Sub, mut
 /// Takes out of the table what a registration doesn't leave there at its end: what a setup or an add
 /// added where it answers a fault, and what a remove or a del takes away where it answers Ok.
 ///
-/// What it has there can be taken out (`CanTakeOut`). Answers the hook that leaves the table: that of
+/// What it has there can be taken out (`CanTakeOut`), and its hook is not lent. Answers the hook that leaves the table: that of
 /// a setup that answers a fault, or of a state that is removed, as it stood in the table. Takes no
 /// memory. After `__cpuhp_setup_state_cpuslocked` and `__cpuhp_remove_state_cpuslocked` of
 /// `kernel/cpu.c`, which clear the state's callbacks there.
@@ -132,7 +127,8 @@ pub fn take_from_table<H: Hook>(
     state: u32,
     answer: Answer,
 ) -> Option<H>
-    requires { CanTakeOut op (step_at table.old state) }
+    requires can { CanTakeOut op (step_at table.old state) }
+    requires home { is_home (step_at table.old state) ≡ true }
     ensures left { table.new ≡ without_left op answer state table.old }
     ensures handed { is_some result ≡ hands_out op answer }
     ensures hook { IfSome result (λ h. IfSome (step_at table.old state) (λ step.
@@ -157,12 +153,13 @@ pub fn take_from_table<H: Hook>(
 fn take_hook<H: Hook>(table: &mut Table<H>, state: u32) -> H
     requires registered { IsSome (step_at table.old state) }
     requires no_instances { instances_at table.old state ≡ [] }
+    requires home { is_home (step_at table.old state) ≡ true }
     ensures gone { table.new ≡ slice_set table.old state None }
     ensures hook { IfSome (step_at table.old state) (λ step.
         IsHookOf (H.plan result) (H.seen result) (H.made result) (H.faults result) step.kept) }
 {
     match table.uninstall(state) {
-        Ok(record) => record.hook,
+        Ok(record) => record.into_hook(),
         Err(_) => unreachable!(),
     }
 }

@@ -16,6 +16,8 @@ pub enum Why {
     RegIn(u32),
     /// The hotplug thread of that processor has to make the next entry.
     ApTurn(u32),
+    /// The hook of that state is lent.
+    HookOut(u32),
     /// No entry is due from this thread.
     Idle,
 }

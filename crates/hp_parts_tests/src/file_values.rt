@@ -86,13 +86,7 @@ fn numbers_are_shown(rt: HostRuntime) -> Result<(), Fail> {
 }
 
 fn put(table: &mut Table<ScriptHook>, state: u32, up: bool, down: bool) -> Result<(), Fail> {
-    let record = Record {
-        sub: 1,
-        multi: false,
-        up,
-        down,
-        hook: ScriptHook::new(),
-    };
+    let record = Record::new(1, false, up, down, ScriptHook::new());
     match table.install(state, record) {
         Ok(()) => Ok(()),
         Err((error, _)) => Err(Fail::from(error)),

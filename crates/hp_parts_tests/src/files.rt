@@ -29,13 +29,7 @@ fn head_of(alloc: Global, names: &[&[u8]]) -> Result<Head, Fail> {
 }
 
 fn put(table: &mut Table<ScriptHook>, state: u32, sub: u32) -> Result<(), Fail> {
-    let record = Record {
-        sub,
-        multi: false,
-        up: true,
-        down: true,
-        hook: ScriptHook::new(),
-    };
+    let record = Record::new(sub, false, true, true, ScriptHook::new());
     match table.install(state, record) {
         Ok(()) => Ok(()),
         Err((error, _)) => Err(Fail::from(error)),

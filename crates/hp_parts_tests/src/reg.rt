@@ -21,13 +21,7 @@ const PLAIN: Form = Form {
 fn table(alloc: Global) -> Result<Table<ScriptHook>, Fail> {
     let mut table = Table::new(alloc)?;
     for &(state, multi) in [(45, false), (120, false), (143, false), (30, true)].iter() {
-        let record = Record {
-            sub: 1,
-            multi,
-            up: true,
-            down: true,
-            hook: ScriptHook::new(),
-        };
+        let record = Record::new(1, multi, true, true, ScriptHook::new());
         match table.install(state, record) {
             Ok(()) => {}
             Err((error, _)) => return Err(Fail::from(error)),

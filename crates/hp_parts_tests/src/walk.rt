@@ -31,13 +31,7 @@ fn table_of(
 ) -> Result<Table<ScriptHook>, Fail> {
     let mut table = Table::new(alloc)?;
     for state in states {
-        let record = Record {
-            sub: 1,
-            multi: *state == multi,
-            up: true,
-            down: true,
-            hook: ScriptHook::new(),
-        };
+        let record = Record::new(1, *state == multi, true, true, ScriptHook::new());
         if let Err((error, _)) = table.install(*state, record) {
             return Err(Fail::from(error));
         }

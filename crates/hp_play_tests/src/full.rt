@@ -37,7 +37,9 @@ fn answer(board: &mut Board<ScriptHook>, op: Op) -> Result<Answer, Fail> {
         if let Turn::Answered { answer, .. } = board.turn(CLIENT, &mut ask)? {
             return Ok(answer);
         }
-        let _ = board.serve(1);
+        if !board.has_lent(1) {
+            let _ = board.serve(1);
+        }
     }
     Err(Fail::from("the operation is answered"))
 }

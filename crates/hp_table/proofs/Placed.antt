@@ -6,7 +6,9 @@ use Rattle.std.proofs.lemmas.Bool.{false≢true, eqb-true}
 use Rattle.hp_table.specs.Named.{is_named, is_builtin}
 use Rattle.hp_table.specs.Kept.{Kept}
 use Rattle.hp_table.specs.Instances.{instances_at}
-use Rattle.hp_table.specs.Step.{Step, step_at, kept_of}
+use Rattle.std.specs.Prelude.{slice_set}
+use Rattle.hp_table.specs.Step.{Step, step_at, kept_of, changed, changed_at, is_home}
+use Rattle.hp_table.proofs.Places.{set_same}
 
 -- what a taken place has
 pub taken_at : (place : Option Step) → IsSome place → (step : Step) × (place ≡ Some step)
@@ -38,3 +40,28 @@ vacant_at places s unnamed = go (step_at places s) (or_false (is_builtin s) (is_
     go : (place : Option Step) → is_some place ≡ false → place ≡ None
     go None h = refl
     go (Some step) h = absurd (false≢true (sym h))
+
+-- the hook of a taken place is there
+pub home_there : (places : List (Option Step)) (s : ℕ) (step : Step) (b : Bool) → step_at places s ≡ Some step →
+    is_home (step_at places s) ≡ b → step.kept.home ≡ b
+home_there places s step b there home = rw there at home
+
+-- nothing that is registered is nothing to change
+pub none_changed : (places : List (Option Step)) (s : ℕ) (f : Step → Step) → step_at places s ≡ None →
+    places ≡ changed_at places s f
+none_changed places s f none =
+    sym (ap (λ p. slice_set places s (changed f p)) none ∙ set_same places s None none)
+
+pub none_by : (record_there : Option (Bor Step)) (place : Option Step) → option_copied record_there ≡ place →
+    is_some record_there ≡ false → place ≡ None
+none_by None place is none = sym is
+none_by (Some found) place is none = absurd (false≢true (sym none))
+
+-- and where the table hands its record out, the hook of the record is there
+pub home_of : (place : Option Step) (kept : Kept) → Some kept ≡ kept_of place → is_home place ≡ true → kept.home ≡ true
+home_of None kept is home = absurd (cc is)
+home_of (Some step) kept is home =
+    let same : kept ≡ step.kept = some_is kept step.kept is in ap (λ (k : Kept). k.home) same ∙ home
+  where
+    some_is : (x y : Kept) → Some x ≡ Some y → x ≡ y
+    some_is x y e = cc

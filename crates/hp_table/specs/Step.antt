@@ -1,9 +1,9 @@
 -- What contracts see of the table: a place for each state, from the lowest on, with what is registered there. After
 -- `cpuhp_hp_states` of `kernel/cpu.c`, an array of `struct cpuhp_step`.
-use Rattle.std.specs.Prelude.{ℕ, Option, Some, None, List, [], slice_get, slice_set}
+use Rattle.std.specs.Prelude.{◌≡◌, ℕ, Bool, true, Option, Some, None, List, [], slice_get, slice_set}
 use Rattle.hp_states.specs.Rules.{Site}
 use Rattle.hp_states.specs.declared.plan.Rule.{Rule}
-use Rattle.hp_table.specs.Kept.{Kept, called, loaded}
+use Rattle.hp_table.specs.Kept.{Kept, called, loaded, lent, with_hook}
 
 -- what is registered at a state: the record, and the instances, newest first
 pub record Step : Type 0 where
@@ -43,3 +43,20 @@ called_step site step = record { kept = called step.kept site; insts = step.inst
 -- a step whose hook is loaded with a plan
 abbrev pub loaded_step : List Rule → Step → Step
 loaded_step plan step = record { kept = loaded step.kept plan; insts = step.insts }
+
+-- a step whose hook is lent
+abbrev pub lent_step : Step → Step
+lent_step step = record { kept = lent step.kept; insts = step.insts }
+
+-- a step that has a hook with these four parts
+abbrev pub step_with : (plan : List Rule) (seen : List ℕ) (made faults : ℕ) → Step → Step
+step_with plan seen made faults step = record { kept = with_hook plan seen made faults step.kept; insts = step.insts }
+
+-- whether the hook of what is registered is there; where nothing is there is none to miss
+abbrev pub is_home : Option Step → Bool
+is_home None = true
+is_home (Some step) = step.kept.home
+
+-- every hook is there
+abbrev pub AllHome : List (Option Step) → Type 0
+AllHome places = (s : ℕ) → is_home (step_at places s) ≡ true

@@ -1,13 +1,17 @@
 //! What is installed at a state.
 
+ghost use Rattle.std.specs.Prelude.{◌≡◌, ◌↔◌, true, false, IfSome, IsSome};
+ghost use Rattle.hp_table.specs.Kept.{lent, with_hook, IsHookOf};
+
 use hp_hook::Hook;
 use std::marker::Model;
+use std::snapshot::Snapshot;
 
 /// What is installed at a state: a subsystem, which callbacks it has, and the hook that stands for
 /// them.
 ///
 /// Contracts see it as plain data: the fields, with the plan and the counts of the hook in the
-/// hook's place. After the fields of `struct cpuhp_step` of `kernel/cpu.c`.
+/// hook's place. Of a hook that is lent they see these as it was lent. After the fields of `struct cpuhp_step` of `kernel/cpu.c`.
 #[derive(Drop)]
 pub struct Record<H: Hook> {
     /// The number of the subsystem, from 1.
@@ -18,12 +22,15 @@ pub struct Record<H: Hook> {
     pub up: bool,
     /// Whether the subsystem has a teardown.
     pub down: bool,
-    /// The hook that is called for both.
-    pub hook: H,
+    /// The hook that is called for both; none while it is lent.
+    pub hook: Option<H>,
+    // the hook as it was lent, for contracts alone
+    was: Option<Snapshot<H>>,
 }
 
 impl<H: Hook> Model for Record<H> {
-    ghost use Rattle.hp_table.specs.Kept.{Kept};
+    ghost use Rattle.std.specs.Prelude.{is_some, []};
+    ghost use Rattle.hp_table.specs.Kept.{Kept, of_hook};
 
     ghost Value = { Kept };
 
@@ -32,9 +39,86 @@ impl<H: Hook> Model for Record<H> {
       multi = r.multi;
       up = r.up;
       down = r.down;
-      plan = H.plan r.hook;
-      seen = H.seen r.hook;
-      made = H.made r.hook;
-      faults = H.faults r.hook;
+      home = is_some r.hook;
+      plan = of_hook H.plan r.hook r.was [];
+      seen = of_hook H.seen r.hook r.was [];
+      made = of_hook H.made r.hook r.was 0;
+      faults = of_hook H.faults r.hook r.was 0;
     } };
+}
+
+impl<H: Hook> Record<H> {
+    /// A record with its hook. Takes no memory.
+    pub fn new(sub: u32, multi: bool, up: bool, down: bool, hook: H) -> Record<H>
+        ensures { result
+            ≡ record {
+              sub = sub;
+              multi = multi;
+              up = up;
+              down = down;
+              home = true;
+              plan = H.plan hook;
+              seen = H.seen hook;
+              made = H.made hook;
+              faults = H.faults hook;
+            } }
+    {
+        Record {
+            sub,
+            multi,
+            up,
+            down,
+            hook: Some(hook),
+            was: None,
+        }
+    }
+
+    /// The hook, which is there. Takes no memory.
+    pub fn home_hook(&self) -> &H
+        requires { self.now.home ≡ true }
+        ensures { IsHookOf (H.plan result.now) (H.seen result.now) (H.made result.now) (H.faults result.now) self.now }
+    {
+        match &self.hook {
+            Some(hook) => hook,
+            None => unreachable!(),
+        }
+    }
+
+    /// The hook, which is there, given back. Takes no memory.
+    pub fn into_hook(self) -> H
+        requires { self.home ≡ true }
+        ensures { IsHookOf (H.plan result) (H.seen result) (H.made result) (H.faults result) self }
+    {
+        let Record { hook, .. } = self;
+        match hook {
+            Some(hook) => hook,
+            None => unreachable!(),
+        }
+    }
+
+    /// Whether the hook is there, and not lent. Takes no memory.
+    pub fn is_home(&self) -> bool
+        ensures { result ≡ self.now.home }
+    {
+        self.hook.is_some()
+    }
+
+    /// Lends the hook, if it is there. Takes no memory.
+    pub(crate) fn lend(&mut self) -> Option<H>
+        ensures some { IsSome result ↔ (self.old.home ≡ true) }
+        ensures hook { IfSome result (λ h. IsHookOf (H.plan h) (H.seen h) (H.made h) (H.faults h) self.old) }
+        ensures lent { self.new ≡ lent self.old }
+    {
+        let hook = self.hook.take()?;
+        self.was = Some(Snapshot::of(&hook));
+        Some(hook)
+    }
+
+    /// Takes a hook, in place of the one that is lent. Takes no memory.
+    pub(crate) fn restore(&mut self, hook: H)
+        requires { self.old.home ≡ false }
+        ensures { self.new ≡ with_hook (H.plan hook) (H.seen hook) (H.made hook) (H.faults hook) self.old }
+    {
+        self.hook = Some(hook);
+    }
 }

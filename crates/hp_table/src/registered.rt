@@ -1,10 +1,10 @@
 //! What is registered at one state.
 
-ghost use Rattle.std.specs.Prelude.{◌≡◌, ◌<◌, ◌≤◌, Some, OnOk, OnErr, IfErr, length, slice_index};
+ghost use Rattle.std.specs.Prelude.{◌≡◌, ◌<◌, ◌≤◌, ◌↔◌, true, false, Some, IsSome, IfSome, OnOk, OnErr, IfErr, length, slice_index};
 ghost use Rattle.hp_states.specs.declared.limits.TheConstants.{MAX_INSTANCES};
 ghost use Rattle.hp_states.specs.Rules.{site_at};
-ghost use Rattle.hp_table.specs.Kept.{answer_at};
-ghost use Rattle.hp_table.specs.Step.{bare, called_step, loaded_step};
+ghost use Rattle.hp_table.specs.Kept.{answer_at, IsHookOf};
+ghost use Rattle.hp_table.specs.Step.{bare, called_step, loaded_step, lent_step, step_with};
 ghost use Rattle.hp_table.specs.Instances.{with_instance, without_instance};
 ghost use Rattle.hp_table.specs.Keys.{insts_of, keys_of};
 
@@ -122,17 +122,42 @@ impl<H: Hook> Registered<H> {
 
     /// Calls the hook.
     pub fn call(&mut self, cpu: u32, inst: u32, dir: Dir) -> u32
-        requires { self.old.kept.made < MAX_EVENTS }
+        requires home { self.old.kept.home ≡ true }
+        requires few { self.old.kept.made < MAX_EVENTS }
         ensures answer { result ≡ answer_at self.old.kept (site_at cpu inst dir) }
         ensures called { self.new ≡ called_step (site_at cpu inst dir) self.old }
     {
-        self.record.hook.call(cpu, inst, dir)
+        match &mut self.record.hook {
+            Some(hook) => hook.call(cpu, inst, dir),
+            None => unreachable!(),
+        }
     }
 
     /// Loads the hook.
     pub fn load(&mut self, plan: HookPlan)
+        requires { self.old.kept.home ≡ true }
         ensures { self.new ≡ loaded_step plan self.old }
     {
-        self.record.hook.load(plan)
+        match &mut self.record.hook {
+            Some(hook) => hook.load(plan),
+            None => unreachable!(),
+        }
+    }
+
+    /// Lends the hook, if it is there.
+    pub fn lend(&mut self) -> Option<H>
+        ensures some { IsSome result ↔ (self.old.kept.home ≡ true) }
+        ensures hook { IfSome result (λ h. IsHookOf (H.plan h) (H.seen h) (H.made h) (H.faults h) self.old.kept) }
+        ensures lent { self.new ≡ lent_step self.old }
+    {
+        self.record.lend()
+    }
+
+    /// Takes a hook, in place of the one that is lent.
+    pub fn restore(&mut self, hook: H)
+        requires { self.old.kept.home ≡ false }
+        ensures { self.new ≡ step_with (H.plan hook) (H.seen hook) (H.made hook) (H.faults hook) self.old }
+    {
+        self.record.restore(hook);
     }
 }

@@ -3,8 +3,8 @@
 ghost use Rattle.std.specs.Prelude.{◌≡◌, ◌≢◌, ◌+◌, ◌<◌, ◌≤◌, ◌↔◌, ◌⊎◌, ◌&&◌, Some, None, true, false, IfOk, IfErr, IfSome, IsOk, IsErrOf, IsSome, IsTrue, OnOk, OnErr, [], slice_set, replicate};
 ghost use Rattle.std.specs.Option.{option_copied};
 ghost use Rattle.hp_states.specs.Rules.{site_at};
-ghost use Rattle.hp_table.specs.Kept.{answer_at};
-ghost use Rattle.hp_table.specs.Step.{step_at, bare, changed_at, kept_of, called_step, loaded_step};
+ghost use Rattle.hp_table.specs.Kept.{answer_at, IsHookOf};
+ghost use Rattle.hp_table.specs.Step.{step_at, bare, changed_at, kept_of, called_step, loaded_step, lent_step, step_with, is_home};
 ghost use Rattle.hp_table.specs.Named.{is_named};
 ghost use Rattle.hp_table.specs.Slots.{IsLowestFree, IsFull};
 ghost use Rattle.hp_table.specs.Instances.{instances_at};
@@ -116,10 +116,11 @@ impl<H: Hook> Table<H> {
     /// - `Invalid` exactly where the state is 0, or 200 or above.
     /// - `Busy` exactly where it is between them and has a name, built in or registered.
     ///
-    /// There is no other answer. A refusal hands the record back, and the table is as before.
-    /// Takes no memory. After `cpuhp_store_callbacks` of `kernel/cpu.c`, and `cpuhp_cb_check` for
+    /// There is no other answer. A refusal hands the record back, and the table is as before. The
+    /// record's hook is there. Takes no memory. After `cpuhp_store_callbacks` of `kernel/cpu.c`, and `cpuhp_cb_check` for
     /// the first refusal.
     pub fn install(&mut self, state: u32, rec: Record<H>) -> Result<(), (TableError, Record<H>)>
+        requires { rec.home ≡ true }
         ensures ok { IsOk result ↔ ((OFFLINE < state) × (state < ONLINE) × (is_named self.old state ≡ false)) }
         ensures installed { OnOk result (self.new ≡ slice_set self.old state (Some (bare rec))) }
         ensures invalid { IsErrOf result (TableError.Invalid, rec) ↔ ((state ≡ OFFLINE) ⊎ (ONLINE ≤ state)) }
@@ -144,10 +145,11 @@ impl<H: Hook> Table<H> {
     /// - `Invalid` exactly where nothing is registered there, which is so of a state above 200.
     /// - `Busy` exactly where it is registered and has instances left.
     ///
-    /// There is no other answer. After a refusal the table is as before. Takes no memory. After
-    /// `__cpuhp_remove_state_cpuslocked` of `kernel/cpu.c`, which warns where instances are left;
+    /// There is no other answer. After a refusal the table is as before. The hook of the state is not
+    /// lent. Takes no memory. After `__cpuhp_remove_state_cpuslocked` of `kernel/cpu.c`, which warns where instances are left;
     /// the refusals are this project's own.
     pub fn uninstall(&mut self, state: u32) -> Result<Record<H>, TableError>
+        requires { is_home (step_at self.old state) ≡ true }
         ensures ok { IfOk result (λ rec. step_at self.old state ≡ Some (bare rec)) }
         ensures gone { OnOk result (self.new ≡ slice_set self.old state None) }
         ensures invalid { IsErrOf result TableError.Invalid ↔ (step_at self.old state ≡ None) }
@@ -194,11 +196,12 @@ impl<H: Hook> Table<H> {
     /// Calls the hook of a state once, for a processor, an instance and a direction, and answers
     /// what it answers. All else stays.
     ///
-    /// The state is registered, and its hook's `made` is below 1,048,576, the most events of a
-    /// journal. `inst` is 0 at a state without an instance list. Takes no memory, and a time that
+    /// The state is registered, its hook is not lent, and the hook's `made` is below 1,048,576, the
+    /// most events of a journal. `inst` is 0 at a state without an instance list. Takes no memory, and a time that
     /// doesn't grow with the table. After `cpuhp_invoke_callback` of `kernel/cpu.c`.
     pub fn call(&mut self, state: u32, cpu: u32, inst: u32, dir: Dir) -> u32
         requires registered { IsSome (step_at self.old state) }
+        requires home { is_home (step_at self.old state) ≡ true }
         requires few { IfSome (step_at self.old state) (λ step. step.kept.made < MAX_EVENTS) }
         ensures answer { IfSome (step_at self.old state) (λ step.
             result ≡ answer_at step.kept (site_at cpu inst dir)) }
@@ -213,13 +216,75 @@ impl<H: Hook> Table<H> {
 
     /// Loads the hook of a state with a plan, which begins its counts again at 0. All else stays.
     ///
-    /// The state is registered. Takes no memory. That a hook has a plan is this project's own.
+    /// The state is registered, and its hook is not lent. Takes no memory. That a hook has a plan is
+    /// this project's own.
     pub fn load(&mut self, state: u32, plan: HookPlan)
-        requires { IsSome (step_at self.old state) }
+        requires registered { IsSome (step_at self.old state) }
+        requires home { is_home (step_at self.old state) ≡ true }
         ensures { self.new ≡ changed_at self.old state (loaded_step plan) }
     {
         match &mut self.places[state as usize] {
             Some(step) => step.load(plan),
+            None => unreachable!(),
+        }
+    }
+
+    /// Whether the hook of a state is there, and not lent; it is where nothing is registered.
+    ///
+    /// There is no condition. Takes no memory. That hooks are lent is this project's own.
+    pub fn is_home(&self, state: u32) -> bool
+        ensures { result ≡ is_home (step_at self.now state) }
+    {
+        match self.registered(state) {
+            Some(step) => step.record().is_home(),
+            None => true,
+        }
+    }
+
+    /// Lends the hook of a state: it is out of the table until `restore`. All else stays, and of the
+    /// hook contracts see what it was as it was lent.
+    ///
+    /// None exactly where nothing is registered at the state, or its hook is lent; then nothing has
+    /// changed. Takes no memory. That hooks are lent is this project's own.
+    pub fn lend(&mut self, state: u32) -> Option<H>
+        ensures some { IsSome result
+            ↔ (IsSome (step_at self.old state) × (is_home (step_at self.old state) ≡ true)) }
+        ensures hook { IfSome result (λ h. IfSome (step_at self.old state)
+            (λ step. IsHookOf (H.plan h) (H.seen h) (H.made h) (H.faults h) step.kept)) }
+        ensures lent { self.new ≡ changed_at self.old state lent_step }
+    {
+        if self.registered(state).is_none() {
+            return None;
+        }
+        self.take_hook(state)
+    }
+
+    /// Takes the hook out of what is registered at a state.
+    fn take_hook(&mut self, state: u32) -> Option<H>
+        requires { IsSome (step_at self.old state) }
+        ensures some { IsSome result ↔ (is_home (step_at self.old state) ≡ true) }
+        ensures hook { IfSome result (λ h. IfSome (step_at self.old state)
+            (λ step. IsHookOf (H.plan h) (H.seen h) (H.made h) (H.faults h) step.kept)) }
+        ensures lent { self.new ≡ changed_at self.old state lent_step }
+    {
+        match &mut self.places[state as usize] {
+            Some(step) => step.lend(),
+            None => unreachable!(),
+        }
+    }
+
+    /// Puts a hook back in place of the one of a state that is lent. All else stays.
+    ///
+    /// The state is registered, and its hook is lent. Takes no memory. That hooks are lent is this
+    /// project's own.
+    pub fn restore(&mut self, state: u32, hook: H)
+        requires registered { IsSome (step_at self.old state) }
+        requires lent { is_home (step_at self.old state) ≡ false }
+        ensures { self.new
+            ≡ changed_at self.old state (step_with (H.plan hook) (H.seen hook) (H.made hook) (H.faults hook)) }
+    {
+        match &mut self.places[state as usize] {
+            Some(step) => step.restore(hook),
             None => unreachable!(),
         }
     }

@@ -1,6 +1,8 @@
 //! What no clause says: that memory suffices where it is ample, that the rules come out as written
 //! by hand, at hooks of two types, and the texts of the errors.
 
+ghost use Rattle.std.specs.Prelude.{◌≡◌, true, IfOk};
+
 use hp_hook::{Hook, ScriptHook};
 use hp_states::{Dir, HookPlan, MAX_EVENTS, Range, Rule};
 use hp_table::{Record, Table, TableError};
@@ -27,28 +29,36 @@ fn two_rules() -> HookPlan {
     plan
 }
 
-fn record_of<H: Hook>(sub: u32, multi: bool, hook: H) -> Record<H> {
-    Record {
-        sub,
-        multi,
-        up: true,
-        down: false,
-        hook,
-    }
+fn record_of<H: Hook>(sub: u32, multi: bool, hook: H) -> Record<H>
+    ensures { result.home ≡ true }
+{
+    Record::new(sub, multi, true, false, hook)
 }
 
 /// Installs a record; a refused one is dropped.
-fn put<H: Hook>(table: &mut Table<H>, state: u32, rec: Record<H>) -> Result<(), TableError> {
+fn put<H: Hook>(table: &mut Table<H>, state: u32, rec: Record<H>) -> Result<(), TableError>
+    requires { rec.home ≡ true }
+{
     match table.install(state, rec) {
         Ok(()) => Ok(()),
         Err((error, _)) => Err(error),
     }
 }
 
+/// Ends the registration of a state whose hook is home.
+fn remove<H: Hook>(table: &mut Table<H>, state: u32) -> Result<Record<H>, TableError>
+    ensures { IfOk result (λ rec. rec.home ≡ true) }
+{
+    if !table.is_home(state) {
+        return Err(TableError::NoSpace);
+    }
+    table.uninstall(state)
+}
+
 /// Calls the hook of a state that is registered.
 fn call<H: Hook>(rt: &impl Abort, table: &mut Table<H>, state: u32, cpu: u32, dir: Dir) -> u32 {
     let may = match table.step(state) {
-        Some(rec) => rec.hook.made() < u64::from(MAX_EVENTS),
+        Some(rec) => rec.is_home() && rec.home_hook().made() < u64::from(MAX_EVENTS),
         None => false,
     };
     assert!(rt; may);
@@ -62,6 +72,7 @@ fn calls_a_hook<H: Hook>(rt: &impl Abort, table: &mut Table<H>, hook: H) -> Resu
     put(table, state, record_of(3, false, hook))?;
     assert!(rt; table.is_named(41) && !table.is_named(42));
     assert!(rt; table.step(42).is_none() && table.step(41).is_some());
+    assert!(rt; table.is_home(41));
     table.load(41, two_rules());
     for &(cpu, dir, want) in [
         (1, Dir::Up, 7),
@@ -74,11 +85,11 @@ fn calls_a_hook<H: Hook>(rt: &impl Abort, table: &mut Table<H>, hook: H) -> Resu
     {
         assert!(rt; call(rt, table, 41, cpu, dir) == want);
     }
-    let rec = table.uninstall(41)?;
+    let rec = remove(table, 41)?;
     assert!(rt; (rec.sub, rec.multi, rec.up, rec.down) == (3, false, true, false));
-    assert!(rt; (rec.hook.made(), rec.hook.faults()) == (5, 3));
+    assert!(rt; (rec.home_hook().made(), rec.home_hook().faults()) == (5, 3));
     assert!(rt; !table.is_named(41) && table.step(41).is_none());
-    Ok(rec.hook)
+    Ok(rec.into_hook())
 }
 
 /// The instances of a state, which leave before its hook does.
@@ -89,14 +100,14 @@ fn keeps_instances<H: Hook>(rt: &impl Abort, table: &mut Table<H>, hook: H) -> R
     }
     assert!(rt; table.instances(150) == [2, 1, 3].as_slice());
     assert!(rt; table.keys_between(0, 200) == 3);
-    assert!(rt; table.uninstall(150).err() == Some(TableError::Busy));
+    assert!(rt; remove(table, 150).err() == Some(TableError::Busy));
     assert!(rt; table.remove_instance(150, 1) == Ok(()));
     assert!(rt; table.instances(150) == [2, 3].as_slice());
     for inst in [2, 3] {
         assert!(rt; table.remove_instance(150, inst) == Ok(()));
     }
-    let rec = table.uninstall(150)?;
-    assert!(rt; (rec.sub, rec.multi, rec.hook.made()) == (4, true, 5));
+    let rec = remove(table, 150)?;
+    assert!(rt; (rec.sub, rec.multi, rec.home_hook().made()) == (4, true, 5));
     Ok(())
 }
 
@@ -123,9 +134,10 @@ fn a_refused_record_comes_back(rt: HostRuntime) -> Result<(), Fail> {
     let alloc = rt.alloc();
     let mut table = Table::new(alloc)?;
     put(&mut table, 10, record_of(1, false, ScriptHook::new()))?;
-    let mut rec = record_of(2, true, ScriptHook::new());
-    rec.hook.load(HookPlan::none());
-    assert!(rt; rec.hook.call(0, 0, Dir::Up) == 0);
+    let mut hook = ScriptHook::new();
+    hook.load(HookPlan::none());
+    assert!(rt; hook.call(0, 0, Dir::Up) == 0);
+    let mut rec = record_of(2, true, hook);
     for &(state, want) in [
         (0, TableError::Invalid),
         (200, TableError::Invalid),
@@ -140,14 +152,36 @@ fn a_refused_record_comes_back(rt: HostRuntime) -> Result<(), Fail> {
         match table.install(state, rec) {
             Ok(()) => return Err(Fail::from(TableError::NoSpace)),
             Err((error, back)) => {
-                assert!(rt; error == want, "at {state}");
+                assert!(rt; error == want && back.is_home(), "at {state}");
                 rec = back;
             }
         }
     }
     assert!(rt; (rec.sub, rec.multi, rec.up, rec.down) == (2, true, true, false));
-    assert!(rt; rec.hook.made() == 1);
-    assert!(rt; table.step(10).is_some_and(|rec| rec.hook.made() == 0));
+    assert!(rt; rec.hook.as_ref().is_some_and(|hook| hook.made() == 1));
+    assert!(rt;
+        table.step(10).is_some_and(|rec| rec.hook.as_ref().is_some_and(|hook| hook.made() == 0))
+    );
+    Ok(())
+}
+
+/// A hook that is lent is gone until it comes back, as it was then.
+#[test]
+fn a_lent_hook_comes_back(rt: HostRuntime) -> Result<(), Fail> {
+    let mut table = Table::new(rt.alloc())?;
+    assert!(rt; table.lend(10).is_none());
+    put(&mut table, 10, record_of(1, false, ScriptHook::new()))?;
+    let Some(mut hook) = table.lend(10) else {
+        return Err(Fail::from(TableError::Invalid));
+    };
+    assert!(rt; !table.is_home(10) && table.is_named(10));
+    assert!(rt; table.lend(10).is_none());
+    assert!(rt; hook.made() == 0);
+    hook.load(two_rules());
+    assert!(rt; hook.call(1, 0, Dir::Up) == 7);
+    assert!(rt; table.step(10).is_some() && !table.is_home(10));
+    table.restore(10, hook);
+    assert!(rt; call(&rt, &mut table, 10, 1, Dir::Up) == 5);
     Ok(())
 }
 
@@ -158,7 +192,7 @@ fn refuses(rt: &impl Abort, table: &mut Table<ScriptHook>) -> Result<(), Fail> {
     table.add_instance(20, 5)?;
     for state in [0, 11, 62, 200, 201, u32::MAX] {
         assert!(rt;
-            table.uninstall(state).err() == Some(TableError::Invalid),
+            remove(table, state).err() == Some(TableError::Invalid),
             "at {state}"
         );
         assert!(rt;
@@ -176,7 +210,7 @@ fn refuses(rt: &impl Abort, table: &mut Table<ScriptHook>) -> Result<(), Fail> {
     assert!(rt; table.add_instance(20, 5) == Err(TableError::Busy));
     assert!(rt; table.remove_instance(20, 6) == Err(TableError::Invalid));
     assert!(rt; table.remove_instance(10, 0) == Err(TableError::Invalid));
-    assert!(rt; table.uninstall(20).err() == Some(TableError::Busy));
+    assert!(rt; remove(table, 20).err() == Some(TableError::Busy));
     assert!(rt; table.instances(20) == [5].as_slice());
     assert!(rt; !table.is_named(201) && !table.is_named(u32::MAX));
     Ok(())
@@ -201,7 +235,7 @@ fn gives_slots(rt: &impl Abort, table: &mut Table<ScriptHook>) -> Result<(), Fai
     }
     assert!(rt; table.slot(Range::Prepare) == Err(TableError::NoSpace));
     assert!(rt; table.slot(Range::Online) == Err(TableError::NoSpace));
-    table.uninstall(150)?;
+    remove(table, 150)?;
     assert!(rt; table.slot(Range::Online) == Ok(150));
     assert!(rt; table.slot(Range::Prepare) == Err(TableError::NoSpace));
     Ok(())

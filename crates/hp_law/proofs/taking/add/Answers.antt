@@ -1,8 +1,12 @@
 use Rattle.std.proofs.Common.{[], ◌∷◌, ◌++◌, sym, subst}
+use Rattle.hp_table.specs.Step.{AllHome}
 use Rattle.hp_ledger.specs.Table.{IsTableOf}
 use Rattle.hp_ledger.proofs.TableMore.{LeavesTable, table_same}
 use Rattle.hp_ledger.proofs.TableOfEvent.{always}
 use Rattle.hp_law.proofs.taking.add.Goals as goal
+
+pub returns-in-Admit-clause-home : goal.returns-in-Admit-clause-home
+returns-in-Admit-clause-home c = always c.admit.result (AllHome c.args.table.now) c.requires.home
 
 pub returns-in-Admit-clause-table : goal.returns-in-Admit-clause-table
 returns-in-Admit-clause-table c =

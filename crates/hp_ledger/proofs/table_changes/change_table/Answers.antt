@@ -1,4 +1,4 @@
-use Rattle.std.proofs.Common.{true, ◌≡◌, [], ◌∷◌, ◌++◌, ◌∙◌, sym, subst, refl}
+use Rattle.std.proofs.Common.{true, ◌≡◌, [], ◌∷◌, ◌++◌, ◌∙◌, sym, ap, subst, refl}
 use Rattle.std.proofs.lemmas.Bool.{true≢false}
 use Rattle.hp_event.specs.declared.head.Head.{Head}
 use Rattle.hp_model.specs.Lawful.{Stands}
@@ -18,11 +18,15 @@ add_to_table-requires-clause-can g c =
     subst (λ (h : Head). CanChange h b.op b.state c.args.table.now) head
     (can_change l.head l.events c.args.table.now b.seat b.op b.state c.requires.table c.sound.ensures stands.0)
 
-pub take_from_table-requires : goal.take_from_table-requires
-take_from_table-requires g c =
+pub take_from_table-requires-clause-can : goal.take_from_table-requires-clause-can
+take_from_table-requires-clause-can g c =
     let l = c.args.ledger.now in
     let f = flies l.events c.in-Some.op c.in-Some.state (sym c.in-Some.is ∙ c.registration.ensures.there) in
     takes_out l.head l.events c.args.table.now c.in-Some.op c.in-Some.state c.requires.table c.in-Some.ensures.op f
+
+pub take_from_table-requires-clause-home : goal.take_from_table-requires-clause-home
+take_from_table-requires-clause-home g c =
+    c.requires.home (ap is_registering c.in-RegEnd.is) c.in-Some.state
 
 pub returns-in-RegBegin-clause-table : goal.returns-in-RegBegin-clause-table
 returns-in-RegBegin-clause-table g c =

@@ -5,6 +5,7 @@ use Rattle.std.proofs.lemmas.Bool.{eq-eqb}
 use Rattle.std.proofs.lemmas.Option.{slice_get_read}
 use Rattle.std.specs.Vec.{with_item}
 use Rattle.hp_board.specs.Turns.{goes_on}
+use Rattle.hp_board.proofs.Homes.{idle_home, turn_home}
 use Rattle.hp_ledger.specs.TableChanges.{is_setup}
 use Rattle.hp_model.specs.Seats.{is_busy}
 use Rattle.hp_actors.proofs.Asked.{asked_turned, not_answered, turn_of}
@@ -36,9 +37,12 @@ turned g c at answered is =
       answered = answered;
       waits = c.args.self.now.waits;
     })
-    c.index_mut.result.now c.turn.new.ask c.in_ok-turn.turn c.requires.lawful c.sound.ensures.table c.sound.ensures.places
+    c.index_mut.result.now c.turn.new.ask c.in_ok-turn.turn c.requires.lawful c.sound.ensures.table c.sound.ensures.places c.requires.home
     (c.requires.allowed c.index_mut.result.now at) c.requires.hooks at c.in_ok-turn.ensures.turn c.in_ok-turn.ensures.op
     c.in_ok-turn.ensures.has_hook c.in_ok-turn.ensures.again refl is
+
+pub turn-requires-clause-nothing : goal.turn-requires-clause-nothing
+turn-requires-clause-nothing g c = idle_home c.args.board.now c.args.seat c.requires.home
 
 pub turn-requires-clause-allowed : goal.turn-requires-clause-allowed
 turn-requires-clause-allowed g c = c.requires.allowed c.index_mut.result.now (first_ask g c)
@@ -74,6 +78,10 @@ returns-in-Answered-clause-hooks g c =
     let at = goal.at.returns-in-Answered-clause-hooks g c in
     (turned g at.In_ok-turn (first_ask g at.After-index_mut) (c.args.self.now.answered + 1) (one_more g at.In-Answered)).hooks
 
+pub returns-in-Answered-clause-home : goal.returns-in-Answered-clause-home
+returns-in-Answered-clause-home g c =
+    turn_home c.args.seat c.index_mut.result.now.op c.args.board.now c.turn.new.self c.in_ok-turn.turn c.in_ok-turn.ensures.turn c.requires.home
+
 pub returns-in-Answered-clause-kept : goal.returns-in-Answered-clause-kept
 returns-in-Answered-clause-kept g c =
     let at = goal.at.returns-in-Answered-clause-kept g c in
@@ -91,6 +99,8 @@ returns-in-Made g c =
       turn = turn_of c.args.seat c.args.self.now.asks.items n c.index_mut.result.now c.args.board.now c.turn.new.self c.in_ok-turn.turn at
           c.in_ok-turn.ensures.turn;
       head = t.head_is;
+      home = turn_home c.args.seat c.index_mut.result.now.op c.args.board.now c.turn.new.self c.in_ok-turn.turn
+          c.in_ok-turn.ensures.turn c.requires.home;
       events = t.events_are;
       answered = t.answered_is;
       ops = t.ops_are;

@@ -9,6 +9,9 @@ use Rattle.hp_script.specs.Playable.{setups_in}
 use Rattle.hp_actors.specs.Positions.{Position}
 use Rattle.hp_actors.proofs.run.Run.finish.Goals as goal
 
+pub retire-requires : goal.retire-requires
+retire-requires g c = c.self.invariant.home
+
 pub returns-in-Ok : goal.returns-in-Ok
 returns-in-Ok g c =
     let free =

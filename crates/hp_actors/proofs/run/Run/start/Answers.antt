@@ -2,6 +2,7 @@
 use Rattle.std.proofs.Common.{[], length, replicate, ap, ◌∙◌}
 use Rattle.hp_model.specs.Processors.{present}
 use Rattle.hp_model.specs.Run.{admissions}
+use Rattle.hp_board.proofs.Homes.{none_home}
 use Rattle.hp_actors.proofs.Knowing.{none_known}
 use Rattle.hp_actors.proofs.Opening.{Opened, opened_position, opened_playing}
 use Rattle.hp_actors.proofs.run.Run.start.Goals as goal
@@ -27,6 +28,7 @@ invariant_of-result g c =
           c.args.script.now.actors o;
       waits =
           none_known c.in_ok-board.board c.present_count-threads.result c.in_ok-actors.actors.items c.in_ok-actors.ensures.unmarked;
+      home = none_home c.in_ok-board.board.places c.in_ok-board.ensures.none;
     }
 
 pub returns-clause-started : goal.returns-clause-started

@@ -65,6 +65,7 @@ invariant_of-self g c =
           turn_knows c.turn.result c.self.inside.board c.turn.new.board actors threads c.self.inside.last_end c.turn.new.last_end place
           c.args.seat c.index_mut.result.now c.turn.new.self here c.turn.ensures.head c.turn.ensures.events c.turn.ensures.err
           c.turn.ensures.last_end c.turn.ensures.ends c.turn.ensures.waits c.self.invariant.waits;
+      home = c.turn.ensures.home;
     }
 
 pub returns-clause-ok : goal.returns-clause-ok

@@ -1,4 +1,4 @@
-use Rattle.std.proofs.Common.{◌≡◌, ◌∙◌, refl, ap, sym, subst, is_some, Some, Option, List, [], ◌∷◌, ◌++◌, length, true, false}
+use Rattle.std.proofs.Common.{◌≡◌, ◌∙◌, refl, ap, sym, subst, is_some, Some, None, Option, List, [], ◌∷◌, ◌++◌, length, true, false}
 use Rattle.std.proofs.lemmas.Bool.{true≢false}
 use Rattle.hp_model.specs.Events.{answer_by}
 use Rattle.hp_model.specs.NextEvent.{next_event}
@@ -13,6 +13,13 @@ use Rattle.hp_board.specs.Contents.{Contents, with_event}
 use Rattle.hp_board.specs.Hooks.{has_hook, has_hook_after, leaves_hook}
 use Rattle.hp_board.specs.Turns.{IsTurn, goes_on}
 use Rattle.hp_board.proofs.TurnsMade.{no_admission, brought, turn_made, hook_after, hook_same, kept, unanswered}
+use Rattle.hp_model.proofs.DueGives.{due_gives}
+use Rattle.hp_board.specs.Loans.{loan, IsCalm}
+use Rattle.hp_board.proofs.Homes.{idle_home}
+use Rattle.hp_board.proofs.LoansStay.{loans_stay}
+use Rattle.hp_board.proofs.Loans.{home_due}
+use Rattle.hp_table.specs.Step.{AllHome}
+use Rattle.hp_ledger.proofs.Homes.{home_after}
 use Rattle.hp_board.proofs.Busy.{hook_again}
 use Rattle.hp_board.proofs.board.Board.turn.Goals as goal
 
@@ -29,14 +36,14 @@ make-requires-clause-no_admission g c =
     let l = c.self.inside.ledger in
     let p : Pending = record { seat = c.args.by; op = c.args.ask.now.op } in
     let allowed = subst (λ (b : Contents). IsAllowed b.head b.events p) (sym c.self.view_is) c.requires.allowed in
-    no_admission l.head l.events p c.in-Event.event c.self.invariant.lawful allowed c.in-Event.ensures.0
+    no_admission l.head l.events p c.in-Event.event c.self.invariant.machine.lawful allowed c.in-Event.ensures.0
 
 pub make-requires-clause-brings : goal.make-requires-clause-brings
 make-requires-clause-brings g c =
     let l = c.self.inside.ledger in
     let inside : Contents = record { head = l.head; events = l.events; places = c.self.inside.table } in
     brought inside c.args.self.now (record { seat = c.args.by; op = c.args.ask.now.op }) c.in-Event.event (is_some c.args.ask.now.hook)
-    c.self.view_is c.self.invariant.lawful c.requires.allowed c.requires.hook c.in-Event.ensures.0
+    c.self.view_is c.self.invariant.machine.lawful c.requires.allowed c.requires.hook c.in-Event.ensures.0
 
 pub make_entry-requires-clause-stands : goal.make_entry-requires-clause-stands
 make_entry-requires-clause-stands g c =
@@ -71,7 +78,7 @@ returns-in_ok-make-in-Event-clause-has_hook g c =
     let inside : Contents = record { head = l.head; events = l.events; places = c.self.inside.table } in
     let brings =
     brought inside c.args.self.now (record { seat = c.args.by; op = op }) e (is_some c.args.ask.now.hook) c.self.view_is
-    c.self.invariant.lawful c.requires.allowed c.requires.hook c.in-Event.ensures.0 in
+    c.self.invariant.machine.lawful c.requires.allowed c.requires.hook c.in-Event.ensures.0 in
     let made = c.in_ok-make-in-Event.ensures in
     let after =
     hook_after l.events e c.args.ask.now.hook c.make.new.hook brings made.hands made.left in
@@ -86,7 +93,7 @@ returns-in_ok-make-in-Event-clause-same_hook g c = λ leaves.
     let inside : Contents = record { head = l.head; events = l.events; places = c.self.inside.table } in
     let brings =
     brought inside c.args.self.now (record { seat = c.args.by; op = op }) e (is_some c.args.ask.now.hook) c.self.view_is
-    c.self.invariant.lawful c.requires.allowed c.requires.hook c.in-Event.ensures.0 in
+    c.self.invariant.machine.lawful c.requires.allowed c.requires.hook c.in-Event.ensures.0 in
     let made = c.in_ok-make-in-Event.ensures in
     let here =
     subst (λ (b : Contents). leaves_hook b.events (next_event b.head b.events c.args.by op) ≡ true) (sym c.self.view_is) leaves in
@@ -121,7 +128,7 @@ returns-in_ok-make-in-Event-clause-again g c = λ on.
     let inside : Contents = record { head = l.head; events = l.events; places = c.self.inside.table } in
     let brings =
     brought inside c.args.self.now (record { seat = k; op = op }) e (is_some c.args.ask.now.hook) c.self.view_is
-    c.self.invariant.lawful c.requires.allowed c.requires.hook c.in-Event.ensures.0 in
+    c.self.invariant.machine.lawful c.requires.allowed c.requires.hook c.in-Event.ensures.0 in
     let made = c.in_ok-make-in-Event.ensures in
     let after = hook_after l.events e c.args.ask.now.hook c.make.new.hook brings made.hands made.left in
     let had : is_some c.args.ask.now.hook ≡ has_hook l.events k op =
@@ -140,3 +147,55 @@ returns-in-Entry-clause-again g c = λ on.
     c.requires.hook ∙ ap (λ (b : Contents). has_hook b.events k op) (sym c.self.view_is) in
     had ∙ sym (kept (has_hook l.events k op)) ∙ hook_again l.head l.events k op e c.in-Entry.ensures refl
     ∙ ap (λ (x : Entries). has_hook x.events k op) (sym c.make_entry.ensures.made)
+
+pub make-requires-clause-calm : goal.make-requires-clause-calm
+make-requires-clause-calm g c = subst (λ (b : Contents). IsCalm b c.in-Event.event) (sym c.self.view_is) c.in_default.ensures.calm
+
+pub make-requires-clause-idle : goal.make-requires-clause-idle
+make-requires-clause-idle g c =
+    let l = c.self.inside.ledger in
+    let b : Contents = record { head = l.head; events = l.events; places = c.self.inside.table } in
+    let nothing = subst (λ (b : Contents). loan b c.args.by ≡ None) (sym c.self.view_is) c.requires.nothing in
+    let by_is = (next_stands l.head l.events c.args.by c.args.ask.now.op c.in-Event.event c.in-Event.ensures.0).1 in
+    subst (λ k. loan b k ≡ None) (sym by_is) nothing
+
+pub make_entry-requires-clause-home : goal.make_entry-requires-clause-home
+make_entry-requires-clause-home g c =
+    let l = c.self.inside.ledger in
+    let b : Contents = record { head = l.head; events = l.events; places = c.self.inside.table } in
+    let e = entry_event l.head l.events c.in-Entry.entry in
+    let nothing = subst (λ (b : Contents). loan b c.args.by ≡ None) (sym c.self.view_is) c.requires.nothing in
+    let s = next_stands l.head l.events c.args.by c.args.ask.now.op e c.in-Entry.ensures in
+    let due = due_gives l.head l.events c.args.by e c.self.invariant.machine.lawful s.0 refl s.1 in
+    home_due b c.args.by e c.self.invariant.machine.lawful c.self.invariant.out due nothing
+
+pub returns-in-Entry-clause-stays : goal.returns-in-Entry-clause-stays
+returns-in-Entry-clause-stays g c = λ k.
+    let l = c.self.inside.ledger in
+    let e = entry_event l.head l.events c.in-Entry.entry in
+    let b : Contents = record { head = l.head; events = l.events; places = c.self.inside.table } in
+    let nothing = subst (λ (b : Contents). loan b c.args.by ≡ None) (sym c.self.view_is) c.requires.nothing in
+    let s = next_stands l.head l.events c.args.by c.args.ask.now.op e c.in-Entry.ensures in
+    let due = due_gives l.head l.events c.args.by e c.self.invariant.machine.lawful s.0 refl s.1 in
+    let home = home_due b c.args.by e c.self.invariant.machine.lawful c.self.invariant.out due nothing in
+    let ledger = c.make_entry.new.ledger in
+    let new : Contents = record { head = ledger.head; events = ledger.events; places = c.make_entry.new.table } in
+    idle_home new k (subst AllHome (sym c.make_entry.ensures.changed) (home_after l.head l.events e c.self.inside.table home))
+    ∙ (sym (idle_home b k home) ∙ ap (λ (z : Contents). loan z k) c.self.view_is)
+
+pub returns-in_ok-make-in-Event-clause-stays : goal.returns-in_ok-make-in-Event-clause-stays
+returns-in_ok-make-in-Event-clause-stays g c = λ k.
+    let l = c.self.inside.ledger in
+    let e = c.in-Event.event in
+    let b : Contents = record { head = l.head; events = l.events; places = c.self.inside.table } in
+    let ledger = c.make.new.ledger in
+    let made = c.in_ok-make-in-Event.ensures in
+    let new : Contents = record { head = ledger.head; events = ledger.events; places = c.make.new.table } in
+    let is : new ≡ with_event b e =
+    ap (λ (x : Entries). record { head = x.head; events = x.events; places = c.make.new.table }) made.made
+    ∙ ap (λ (p : List (Option Step)). record { head = l.head; events = l.events ++ e ∷ []; places = p }) made.changed in
+    let nothing = subst (λ (b : Contents). loan b c.args.by ≡ None) (sym c.self.view_is) c.requires.nothing in
+    let calm = subst (λ (b : Contents). IsCalm b e) (sym c.self.view_is) c.in_default.ensures.calm in
+    let s = next_stands l.head l.events c.args.by c.args.ask.now.op e c.in-Event.ensures.0 in
+    let stay = loans_stay b c.args.by e c.self.invariant.machine.lawful c.self.invariant.out s.0 s.1 nothing calm k in
+    ap (λ (z : Contents). loan z k) is ∙ (stay ∙ ap (λ (z : Contents). loan z k) c.self.view_is)

@@ -14,7 +14,7 @@ returns-then-not-is_client c =
     let e = c.args.event.now in
     let other = ap is_client (sym c.role-role.ensures) ∙ sym c.is_client.ensures ∙ c.if-not-is_client.true in
     subst (λ (t : Taken). IsRoomOf t.head t.events e None) c.self.view_is
-    (no_room l.head l.events e (not_client l.head l.events c.seat-seat.result e c.self.invariant.lawful c.requires c.seat-seat.ensures other))
+    (no_room l.head l.events e (not_client l.head l.events c.seat-seat.result e c.self.invariant.0.lawful c.requires c.seat-seat.ensures other))
 
 pub returns-then-not-names_sub : goal.returns-then-not-names_sub
 returns-then-not-names_sub c =
@@ -23,7 +23,7 @@ returns-then-not-names_sub c =
     let head = sym (c.head.ensures ∙ c.journal.ensures.head) in
     let other = ap (λ h. names_sub h c.asked_by-op.result) head ∙ sym c.names_sub.ensures ∙ c.if-not-names_sub.true in
     subst (λ (t : Taken). IsRoomOf t.head t.events e None) c.self.view_is
-    (no_room l.head l.events e (not_named l.head l.events c.asked_by-op.result e c.self.invariant.lawful c.requires c.asked_by-op.ensures other))
+    (no_room l.head l.events e (not_named l.head l.events c.asked_by-op.result e c.self.invariant.0.lawful c.requires c.asked_by-op.ensures other))
 
 pub returns-in-Event : goal.returns-in-Event
 returns-in-Event c =
@@ -32,7 +32,7 @@ returns-in-Event c =
     let k = c.seat-seat.result in
     let op = c.asked_by-op.result in
     let next = subst (IsNext l.head l.events k op) c.in-Event.is c.next.ensures in
-    let room = room_next l.head l.events k op e c.in-Event.next c.in-Event.need c.same.result c.self.invariant.lawful c.requires c.seat-seat.ensures
+    let room = room_next l.head l.events k op e c.in-Event.next c.in-Event.need c.same.result c.self.invariant.0.lawful c.requires c.seat-seat.ensures
     c.asked_by-op.ensures next c.same.ensures in
     subst (λ (t : Taken). IsRoomOf t.head t.events e c.then_some.result) c.self.view_is
     (subst (IsRoomOf l.head l.events e) (sym c.then_some.ensures) room)
@@ -44,5 +44,5 @@ returns-in_default c =
     let k = c.seat-seat.result in
     let op = c.asked_by-op.result in
     subst (λ (t : Taken). IsRoomOf t.head t.events e None) c.self.view_is
-    (no_room l.head l.events e (comes_other l.head l.events k op e c.next.result c.self.invariant.lawful c.requires c.seat-seat.ensures c.asked_by-op.ensures
+    (no_room l.head l.events e (comes_other l.head l.events k op e c.next.result c.self.invariant.0.lawful c.requires c.seat-seat.ensures c.asked_by-op.ensures
     c.next.ensures c.in_default.not-Event))

@@ -34,7 +34,7 @@ pub returns-in-Some : goal.returns-in-Some
 returns-in-Some c =
     let t = c.args.self.now in
     let e = c.args.event.now in
-    let lawful = subst (λ (t : Taken). IsLawful t.head t.events) c.self.view_is c.self.invariant.lawful in
+    let lawful = subst (λ (t : Taken). IsLawful t.head t.events) c.self.view_is c.self.invariant.0.lawful in
     let stands = some_due t.head t.events c.in-Call.seat e c.in-Some.entry c.same.result lawful (ap is_call c.in-Call.is) (ap seat_of c.in-Call.is)
     (sym c.in-Some.is ∙ c.due.ensures) c.same.ensures in
     let room = room_by t.head t.events e c.same.result 0 stands (λ _. sym (ap (λ x. taken (need t.head t.events x)) c.in-Call.is)) in
@@ -44,7 +44,7 @@ pub returns-in-None : goal.returns-in-None
 returns-in-None c =
     let t = c.args.self.now in
     let e = c.args.event.now in
-    let lawful = subst (λ (t : Taken). IsLawful t.head t.events) c.self.view_is c.self.invariant.lawful in
+    let lawful = subst (λ (t : Taken). IsLawful t.head t.events) c.self.view_is c.self.invariant.0.lawful in
     no_room t.head t.events e
     (none_due t.head t.events c.in-Call.seat e lawful (ap is_call c.in-Call.is) (ap seat_of c.in-Call.is)
     (sym c.in-None.is ∙ c.due.ensures))

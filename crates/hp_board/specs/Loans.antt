@@ -1,0 +1,108 @@
+-- What is lent of a board: the hook of the entry that is due from a seat, while it is out. This project's own.
+use Rattle.std.specs.Prelude.{◌≡◌, ℕ, Bool, true, false, if◌then◌else◌, Option, Some, None, List, length}
+use Rattle.hp_states.specs.declared.dir.Dir.{Dir}
+use Rattle.hp_states.specs.declared.plan.Rule.{Rule}
+use Rattle.hp_states.specs.Rules.{counts_of}
+use Rattle.hp_event.specs.declared.aside.Aside.{Aside}
+use Rattle.hp_event.specs.declared.head.Head.{Head}
+use Rattle.hp_event.specs.declared.how.How.{How}
+use Rattle.hp_event.specs.declared.event.Event.{Event}
+use Rattle.hp_event.specs.declared.event.Event.TheVariants.{Call}
+use Rattle.hp_event.specs.declared.op.Op.{Op}
+use Rattle.hp_event.specs.Hows.{is_called}
+use Rattle.hp_model.specs.Calls.{sites, sub_at}
+use Rattle.hp_model.specs.Lent.{arms_walker}
+use Rattle.hp_model.specs.NextEvent.{next_event, due_entry}
+use Rattle.hp_model.specs.Subsystems.{plan_of}
+use Rattle.hp_table.specs.Kept.{Kept}
+use Rattle.hp_table.specs.Step.{Step, step_at, is_home, AllHome}
+use Rattle.hp_locks.specs.declared.why.Why.TheVariants.{ApTurn}
+use Rattle.hp_ledger.specs.declared.entry.Means.{Means}
+use Rattle.hp_ledger.specs.declared.entry.Means.TheVariants.{Hook}
+use Rattle.hp_ledger.specs.Ledger.{Entries}
+use Rattle.hp_ledger.specs.Machine.{IsMachine}
+use Rattle.hp_ledger.specs.Next.{IsKept}
+use Rattle.hp_board.specs.Contents.{Contents}
+
+-- an entry, and what the hook of its state has counted
+abbrev pub aside_by : (cpu state inst : ℕ) → Dir → Kept → Aside
+aside_by c s i d kept =
+    record {
+      cpu = c;
+      key = record { state = s; inst = i };
+      dir = d;
+      base = kept.made;
+      plan = kept.plan;
+      seen = kept.seen;
+      faults = kept.faults;
+    }
+
+abbrev pub aside_at : (cpu state inst : ℕ) → Dir → Option Step → Option Aside
+aside_at c s i d None = None
+aside_at c s i d (Some step) = if step.kept.home then None else Some (aside_by c s i d step.kept)
+
+abbrev pub loan_of : Option Event → List (Option Step) → Option Aside
+loan_of (Some (Call seat cpu state inst dir how)) places = aside_at cpu state inst dir (step_at places state)
+loan_of _ places = None
+
+-- what is lent to a seat, if anything is
+abbrev pub loan : Contents → (seat : ℕ) → Option Aside
+loan b k = loan_of (due_entry b.head b.events k) b.places
+
+-- whether an entry is made by the answer of its hook
+abbrev pub asks_hook : Option Event → Bool
+asks_hook (Some (Call seat cpu state inst dir how)) = is_called how
+asks_hook _ = false
+
+abbrev pub is_hook : Means → Bool
+is_hook Hook = true
+is_hook _ = false
+
+-- the hook of a state is out for an entry that is due and that its answer makes
+pub record IsOutFor (head : Head) (events : List Event) (state : ℕ) : Type 0 where
+  pub seat : ℕ
+  pub cpu : ℕ
+  pub inst : ℕ
+  pub dir : Dir
+  pub how : How
+  pub due : due_entry head events seat ≡ Some (Call seat cpu state inst dir how)
+  pub called : is_called how ≡ true
+
+abbrev pub AreOut : Head → List Event → List (Option Step) → Type 0
+AreOut head events places = (s : ℕ) → is_home (step_at places s) ≡ false → IsOutFor head events s
+
+-- what is so of the parts of a board
+pub record IsBoard (ledger : Entries) (places : List (Option Step)) : Type 0 where
+  pub machine : IsMachine ledger places
+  pub out : AreOut ledger.head ledger.events places
+
+-- The five facts of what is lent to a seat: it is the entry that is due from the seat; no armed fault is taken in its place; and
+-- the hook has the plan of the state's subsystem, the counts of that plan over the state's calls since its setup began, and the
+-- number of these calls.
+pub record IsLoan (head : Head) (events : List Event) (seat : ℕ) (a : Aside) : Type 0 where
+  pub how : How
+  pub due : due_entry head events seat ≡ Some (Call seat a.cpu a.key.state a.key.inst a.dir how)
+  pub called : is_called how ≡ true
+  pub plan_is : a.plan ≡ plan_of (sub_at head a.key.state events)
+  pub seen_is : a.seen ≡ counts_of a.plan (sites a.key.state events)
+  pub base_is : a.base ≡ length (sites a.key.state events)
+
+-- a client waits for the thread whose hook is lent
+pub record WaitsForThread (b : Contents) (seat : ℕ) (op : Op) : Type 0 where
+  pub cpu : ℕ
+  pub kept : IsKept b.head b.events seat op (ApTurn cpu)
+
+-- a write of `fail` can stand, in the middle of the walk whose entry the hook is lent for
+pub record WaitsToArm (b : Contents) (seat : ℕ) (op : Op) : Type 0 where
+  pub event : Event
+  pub next_is : next_event b.head b.events seat op ≡ Some event
+  pub other : ℕ
+  pub entry : Event
+  pub due : due_entry b.head b.events other ≡ Some entry
+  pub arms : arms_walker b.events entry event ≡ true
+
+-- an event doesn't arm a processor in the middle of a walk whose hook is out
+abbrev pub IsCalm : Contents → Event → Type 0
+IsCalm b e =
+    (s : ℕ) (o : IsOutFor b.head b.events s) → is_home (step_at b.places s) ≡ false →
+    arms_walker b.events (Call o.seat o.cpu s o.inst o.dir o.how) e ≡ false
