@@ -1,4 +1,3 @@
-pub mod Entries
 pub mod TurnsMade
 pub mod Admitted
 pub mod Busy
@@ -6,7 +5,6 @@ pub mod HooksRetired
 pub mod AskAgain
 pub mod HooksCounted
 pub mod Complete
-pub mod LentTable
 pub mod Loans
 pub mod Waiting
 pub mod Homes

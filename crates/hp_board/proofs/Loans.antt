@@ -1,5 +1,5 @@
 -- What is lent stays so: no event of another seat changes the entry that a hook is lent for, and none of its own comes.
-use Rattle.std.proofs.Common.{◌≡◌, ◌≢◌, ℕ, ◌<◌, ◌≤◌, Bool, true, false, ◌&&◌, not, is_some, is_none, cond, eqb, Option, Some, None, IfSome, List, [], ◌∷◌, ◌++◌, refl, ap, sym, ◌∙◌, subst, inl, inr, ◌⊎◌, ⊎_elim, arith}
+use Rattle.std.proofs.Common.{◌≡◌, ◌≢◌, ℕ, Bool, true, false, ◌&&◌, not, is_some, is_none, cond, Option, Some, None, IfSome, List, [], ◌∷◌, ◌++◌, refl, ap, sym, ◌∙◌, subst, inl, inr, ◌⊎◌, ⊎_elim, arith}
 use Rattle.std.proofs.lemmas.Bool.{true≢false, false≢true}
 use Rattle.hp_states.specs.declared.dir.Dir.{Dir}
 use Rattle.hp_states.specs.Rules.{site_at, counts_of}
@@ -11,11 +11,10 @@ use Rattle.hp_ledger.specs.Table.{IsTableOf, IsStepOf}
 use Rattle.hp_ledger.proofs.HookAnswers.{sub_there}
 use Rattle.hp_ledger.proofs.TableMore.{answered_called}
 use Rattle.hp_event.specs.declared.aside.Aside.{Aside}
-use Rattle.hp_event.specs.declared.event.Role.{Role}
 use Rattle.hp_event.specs.declared.how.How.{How}
 use Rattle.hp_event.specs.declared.head.Head.{Head}
 use Rattle.hp_event.specs.declared.event.Event.{Event}
-use Rattle.hp_event.specs.declared.event.Event.TheVariants.{Admit, Leave, Call, RegBegin, RegEnd}
+use Rattle.hp_event.specs.declared.event.Event.TheVariants.{Call, RegBegin, RegEnd}
 use Rattle.hp_event.specs.Hows.{is_called, how_answered}
 use Rattle.hp_model.specs.Events.{seat_of, is_call}
 use Rattle.hp_model.specs.Lawful.{Stands, IsLawful}
@@ -28,7 +27,6 @@ use Rattle.hp_model.specs.Registrations.{Registration, registration}
 use Rattle.hp_model.proofs.EntryStays.{due_stays, due_alone, due_calls, caller_below, walk_or_registration, no_registration_begins, no_registration_ends}
 use mathlib.Core.Logic.{dite}
 use native.Mathlib.Decide.{ℕ_discrete}
-use Rattle.hp_hook.specs.Counted.{faults_after}
 use Rattle.hp_states.specs.declared.plan.Rule.{Rule}
 use Rattle.hp_table.specs.Kept.{Kept, called, answer_at, IsHookOf}
 use Rattle.hp_table.specs.Step.{Step, step_at, changed, changed_at, called_step, lent_step, is_home, AllHome}

@@ -1,5 +1,5 @@
 -- What is lent to any seat stays so while a seat that nothing is lent to makes an event.
-use Rattle.std.proofs.Common.{◌≡◌, ◌≢◌, ℕ, Bool, true, false, cond, Option, Some, None, List, [], ◌∷◌, ◌++◌, refl, ap, sym, ◌∙◌, subst}
+use Rattle.std.proofs.Common.{◌≡◌, ◌≢◌, ℕ, Bool, true, false, cond, Option, Some, None, refl, ap, sym, ◌∙◌, subst}
 use Rattle.hp_states.specs.declared.dir.Dir.{Dir}
 use Rattle.hp_states.specs.Rules.{site_at}
 use Rattle.hp_event.specs.declared.aside.Aside.{Aside}
@@ -13,12 +13,11 @@ use Rattle.hp_model.specs.NextEvent.{due_entry}
 use Rattle.hp_model.proofs.DueGives.{due_stands}
 use Rattle.hp_model.proofs.EntryStays.{due_stays, due_alone}
 use Rattle.hp_model.proofs.HeadlineProof.{lawful_more}
-use Rattle.hp_table.specs.Step.{Step, step_at, changed_at, called_step, is_home}
+use Rattle.hp_table.specs.Step.{step_at, changed_at, called_step, is_home}
 use Rattle.hp_ledger.specs.TableChanges.{table_after}
 use Rattle.hp_board.specs.Contents.{Contents, with_event}
-use Rattle.hp_board.specs.Loans.{aside_at, loan_of, loan, IsOutFor, AreOut, IsCalm}
-use Rattle.hp_board.proofs.Homes.{idle_home}
-use Rattle.hp_board.proofs.Loans.{not_mine, other_entry, home_beside_begin, home_beside_end, away_before, out_stays, lent_of, lent_at}
+use Rattle.hp_board.specs.Loans.{loan_of, loan, AreOut, IsCalm}
+use Rattle.hp_board.proofs.Loans.{not_mine, other_entry, home_beside_begin, home_beside_end, away_before, lent_of}
 use Rattle.hp_ledger.proofs.Homes.{home_after}
 
 none_some : {A : Type 0} (x : A) → None ≡ Some x → ⊥

@@ -1,12 +1,12 @@
 -- A turn that waits: nothing of the operation comes next, or a write of `fail` that is kept out.
-use Rattle.std.proofs.Common.{◌≡◌, ℕ, Bool, true, false, ◌&&◌, ◌||◌, not, is_some, Option, Some, None, List, refl, sym, ap, ◌∙◌, inl, inr, ◌⊎◌, ⊎_elim}
+use Rattle.std.proofs.Common.{◌≡◌, ℕ, Bool, true, false, ◌&&◌, ◌||◌, is_some, Some, None, List, refl, sym, ◌∙◌, inl, inr, ◌⊎◌, ⊎_elim}
 use Rattle.std.proofs.lemmas.Bool.{false≢true, true≢false}
 use Rattle.hp_table.specs.Step.{AllHome}
 use Rattle.hp_ledger.specs.Next.{IsKept}
 use Rattle.hp_event.specs.declared.op.Op.{Op}
 use Rattle.hp_event.specs.declared.event.Event.{Event}
 use Rattle.hp_event.specs.declared.event.Event.TheVariants.{Armed, Call}
-use Rattle.hp_model.specs.Lent.{arms, arms_walker}
+use Rattle.hp_model.specs.Lent.{arms_walker}
 use Rattle.hp_model.specs.NextEvent.{next_event}
 use Rattle.hp_model.specs.Walks.{walk}
 use Rattle.hp_locks.specs.declared.why.Why.{Why}

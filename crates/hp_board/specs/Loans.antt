@@ -1,7 +1,6 @@
 -- What is lent of a board: the hook of the entry that is due from a seat, while it is out. This project's own.
 use Rattle.std.specs.Prelude.{◌≡◌, ℕ, Bool, true, false, if◌then◌else◌, Option, Some, None, List, length}
 use Rattle.hp_states.specs.declared.dir.Dir.{Dir}
-use Rattle.hp_states.specs.declared.plan.Rule.{Rule}
 use Rattle.hp_states.specs.Rules.{counts_of}
 use Rattle.hp_event.specs.declared.aside.Aside.{Aside}
 use Rattle.hp_event.specs.declared.head.Head.{Head}
@@ -15,12 +14,10 @@ use Rattle.hp_model.specs.Lent.{arms_walker}
 use Rattle.hp_model.specs.NextEvent.{next_event, due_entry}
 use Rattle.hp_model.specs.Subsystems.{plan_of}
 use Rattle.hp_table.specs.Kept.{Kept}
-use Rattle.hp_table.specs.Step.{Step, step_at, is_home, AllHome}
+use Rattle.hp_table.specs.Step.{Step, step_at, is_home}
 use Rattle.hp_locks.specs.declared.why.Why.TheVariants.{ApTurn}
 use Rattle.hp_ledger.specs.declared.entry.Means.{Means}
 use Rattle.hp_ledger.specs.declared.entry.Means.TheVariants.{Hook}
-use Rattle.hp_ledger.specs.Ledger.{Entries}
-use Rattle.hp_ledger.specs.Machine.{IsMachine}
 use Rattle.hp_ledger.specs.Next.{IsKept}
 use Rattle.hp_board.specs.Contents.{Contents}
 
@@ -70,11 +67,6 @@ pub record IsOutFor (head : Head) (events : List Event) (state : ℕ) : Type 0 w
 
 abbrev pub AreOut : Head → List Event → List (Option Step) → Type 0
 AreOut head events places = (s : ℕ) → is_home (step_at places s) ≡ false → IsOutFor head events s
-
--- what is so of the parts of a board
-pub record IsBoard (ledger : Entries) (places : List (Option Step)) : Type 0 where
-  pub machine : IsMachine ledger places
-  pub out : AreOut ledger.head ledger.events places
 
 -- The five facts of what is lent to a seat: it is the entry that is due from the seat; no armed fault is taken in its place; and
 -- the hook has the plan of the state's subsystem, the counts of that plan over the state's calls since its setup began, and the

@@ -7,7 +7,7 @@ use Rattle.hp_event.specs.declared.event.Event.{Event}
 use Rattle.hp_event.specs.declared.head.Head.{Head}
 use Rattle.hp_event.specs.declared.op.Op.{Op}
 use Rattle.hp_locks.specs.declared.why.Why.{Why}
-use Rattle.hp_locks.specs.declared.why.Why.TheVariants.{MapsHeld, WriterIn, ReadersIn, RegIn, ApTurn, HookOut, Idle}
+use Rattle.hp_locks.specs.declared.why.Why.TheVariants.{ApTurn, HookOut, Idle}
 use Rattle.hp_model.specs.Events.{answer_by}
 use Rattle.hp_model.specs.Needs.{need}
 use Rattle.hp_model.specs.NextEvent.{next_event, due_entry, is_full}

@@ -8,9 +8,9 @@ ghost use Rattle.hp_model.specs.Lawful.{Stands};
 ghost use Rattle.hp_model.specs.Seats.{admits};
 
 use crate::board::Board;
-use hp_event::{Event, JournalError, Role};
+use hp_event::Role;
 use hp_hook::Hook;
-use hp_ledger::Ledger;
+use hp_machine::Machine;
 use hp_states::{MAX_SEATS, NoMemory};
 
 /// Why a seat isn't let in.
@@ -50,21 +50,13 @@ impl<H: Hook> Board<H> {
             refusal_of self.old.head self.old.events role ≡ None) }
         ensures err { OnErr result (self.new ≡ self.old) }
     {
-        if let Some(error) = refusal(&self.ledger, role) {
+        self.machine.sound();
+        if let Some(error) = refusal(&self.machine, role) {
             return Err(error);
         }
-        let seat = self.ledger.admitted();
-        match self.ledger.reserve(2) {
-            Ok(()) => {}
-            Err(JournalError::NoMemory) => return Err(AdmitError::NoMemory),
-            Err(JournalError::Full) => unreachable!(),
-        }
-        match self.ledger.admit(&self.table, role) {
-            Ok(()) => Ok(seat),
-            Err(NoMemory) => {
-                self.ledger.release();
-                Err(AdmitError::NoMemory)
-            }
+        match self.machine.admit(role) {
+            Ok(seat) => Ok(seat),
+            Err(NoMemory) => Err(AdmitError::NoMemory),
         }
     }
 
@@ -75,9 +67,7 @@ impl<H: Hook> Board<H> {
     pub fn can_leave(&self, by: u32) -> bool
         ensures { IsTrue result ↔ Stands self.now.head self.now.events (Leave by) }
     {
-        // what is so of every board
-        let _ = &self.table;
-        self.ledger.can_leave(by)
+        self.machine.can_leave(by)
     }
 
     /// Lets a seat go, and answers the place of the event.
@@ -89,28 +79,27 @@ impl<H: Hook> Board<H> {
         ensures place { result ≡ length self.old.events }
         ensures left { self.new ≡ with_event self.old (Leave by) }
     {
-        let at = self.ledger.journal().len();
-        self.ledger.append(&self.table, Event::Leave { seat: by });
-        at
+        self.machine.sound();
+        self.machine.leave(by)
     }
 }
 
 /// Why a seat with this role isn't let in, if it isn't.
-fn refusal(ledger: &Ledger, role: Role) -> Option<AdmitError>
-    ensures { result ≡ refusal_of ledger.now.head ledger.now.events role }
+fn refusal<H: Hook>(machine: &Machine<H>, role: Role) -> Option<AdmitError>
+    ensures { result ≡ refusal_of machine.now.head machine.now.events role }
 {
-    if ledger.admitted() >= MAX_SEATS {
+    if machine.admitted() >= MAX_SEATS {
         return Some(AdmitError::Full);
     }
     if let Role::Ap(cpu) = role {
-        if !ledger.journal().head().is_present(cpu) {
+        if !machine.journal().head().is_present(cpu) {
             return Some(AdmitError::NotPresent);
         }
-        if ledger.thread(cpu).is_some() {
+        if machine.thread(cpu).is_some() {
             return Some(AdmitError::ApTaken);
         }
     }
-    if ledger.room() < 2 {
+    if machine.room() < 2 {
         return Some(AdmitError::LogFull);
     }
     None

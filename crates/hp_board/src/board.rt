@@ -13,10 +13,9 @@ ghost use Rattle.hp_model.specs.Suspend.{disabled, frozen};
 
 use hp_event::{Journal, Keys};
 use hp_hook::Hook;
-use hp_ledger::Ledger;
+use hp_machine::Machine;
 use hp_model::net_of;
 use hp_states::{NoMemory, TEARDOWN_CPU};
-use hp_table::Table;
 use std::alloc::Global;
 use std::marker::Model;
 
@@ -29,19 +28,18 @@ use std::marker::Model;
 /// that is due.
 #[derive(Drop)]
 pub struct Board<H: Hook> {
-    pub(crate) ledger: Ledger,
-    pub(crate) table: Table<H>,
+    pub(crate) machine: Machine<H>,
 }
 
 impl<H: Hook> Model for Board<H> {
-    ghost use Rattle.hp_board.specs.Loans.{IsBoard};
-    ghost use Rattle.hp_board.specs.Contents.{Contents};
+    ghost use Rattle.hp_board.specs.Loans.{AreOut};
+    ghost use Rattle.hp_machine.specs.Contents.{Contents};
 
     ghost Value = { Contents };
 
-    ghost view = { λ b. record { head = b.ledger.head; events = b.ledger.events; places = b.table } };
+    ghost view = { λ b. b.machine };
 
-    ghost invariant = { λ b. IsBoard b.ledger b.table };
+    ghost invariant = { λ b. AreOut b.machine.head b.machine.events b.machine.places };
 }
 
 impl<H: Hook> Board<H> {
@@ -50,9 +48,7 @@ impl<H: Hook> Board<H> {
         ensures head { result.now.head ≡ self.now.head }
         ensures events { result.now.events ≡ self.now.events }
     {
-        // what is so of every board
-        let _ = &self.table;
-        self.ledger.journal()
+        self.machine.journal()
     }
 
     /// The state where a processor was left by its last walk.
@@ -62,7 +58,7 @@ impl<H: Hook> Board<H> {
         requires { cpu < self.now.head.possible }
         ensures { result ≡ settled cpu self.now.events }
     {
-        self.ledger.state(cpu)
+        self.machine.state(cpu)
     }
 
     /// Whether a processor is online: it stands above the state at which it is taken down.
@@ -72,7 +68,7 @@ impl<H: Hook> Board<H> {
         requires { cpu < self.now.head.possible }
         ensures { result ≡ is_online cpu self.now.events }
     {
-        self.ledger.state(cpu) >= TEARDOWN_CPU
+        self.machine.state(cpu) >= TEARDOWN_CPU
     }
 
     /// The seat that an entry is due from, if one is: there is at most one at any time. `serve` makes it
@@ -82,9 +78,7 @@ impl<H: Hook> Board<H> {
     pub fn due_seat(&self) -> Option<u32>
         ensures { (k : ℕ) → IsSome (due_entry self.now.head self.now.events k) ↔ (result ≡ Some k) }
     {
-        // what is so of every board
-        let _ = &self.table;
-        self.ledger.due_seat()
+        self.machine.due_seat()
     }
 
     /// Whether an operation of a seat is in flight: it holds the map lock, or registers.
@@ -93,9 +87,7 @@ impl<H: Hook> Board<H> {
     pub fn is_busy(&self, seat: u32) -> bool
         ensures { result ≡ is_busy seat self.now.events }
     {
-        // what is so of every board
-        let _ = &self.table;
-        self.ledger.is_busy(seat)
+        self.machine.is_busy(seat)
     }
 
     /// The seat that holds the map lock, if one does.
@@ -104,9 +96,7 @@ impl<H: Hook> Board<H> {
     pub fn holder(&self) -> Option<u32>
         ensures { result ≡ option_map (λ (o : Operation). o.seat) (operation self.now.events) }
     {
-        // what is so of every board
-        let _ = &self.table;
-        self.ledger.holder()
+        self.machine.holder()
     }
 
     /// The seat whose registration is in flight, if one is.
@@ -115,9 +105,7 @@ impl<H: Hook> Board<H> {
     pub fn registrar(&self) -> Option<u32>
         ensures { result ≡ option_map (λ (r : Registration). r.seat) (registration self.now.events) }
     {
-        // what is so of every board
-        let _ = &self.table;
-        self.ledger.registrar()
+        self.machine.registrar()
     }
 
     /// How many clients are in.
@@ -126,9 +114,7 @@ impl<H: Hook> Board<H> {
     pub fn clients(&self) -> u32
         ensures { result ≡ clients self.now.events }
     {
-        // what is so of every board
-        let _ = &self.table;
-        self.ledger.clients()
+        self.machine.clients()
     }
 
     /// How often hotplug is disabled.
@@ -137,9 +123,7 @@ impl<H: Hook> Board<H> {
     pub fn disabled(&self) -> u32
         ensures { result ≡ disabled self.now.events }
     {
-        // what is so of every board
-        let _ = &self.table;
-        self.ledger.disabled()
+        self.machine.disabled()
     }
 
     /// Whether a processor is frozen: the last freeze took it down, and no thaw has ended since.
@@ -149,7 +133,7 @@ impl<H: Hook> Board<H> {
         requires { cpu < self.now.head.possible }
         ensures { result ≡ among cpu (frozen self.now.events) }
     {
-        self.ledger.is_frozen(cpu)
+        self.machine.is_frozen(cpu)
     }
 
     /// The keys that are in force on a processor, in rising order.
@@ -159,6 +143,6 @@ impl<H: Hook> Board<H> {
     pub fn net(&self, alloc: Global, cpu: u32) -> Result<Keys, NoMemory>
         ensures { IfOk result (λ keys. keys ≡ keys_in_force cpu self.now.events) }
     {
-        net_of(alloc, self.ledger.journal(), cpu)
+        net_of(alloc, self.machine.journal(), cpu)
     }
 }

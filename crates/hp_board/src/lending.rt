@@ -9,7 +9,6 @@ ghost use Rattle.hp_table.specs.Step.{AllHome};
 
 use crate::board::Board;
 use crate::loan::{Back, Loan};
-use crate::making::restore_entry;
 use hp_hook::Hook;
 use hp_ledger::{Entry, Means};
 
@@ -20,10 +19,8 @@ impl<H: Hook> Board<H> {
     pub fn has_lent(&self, by: u32) -> bool
         ensures { result ≡ is_some (loan self.now by) }
     {
-        // what is so of every board
-        let _ = &self.table;
-        match self.ledger.due(by) {
-            Some(entry) => !self.table.is_home(entry.key.state),
+        match self.machine.due(by) {
+            Some(entry) => !self.machine.table().is_home(entry.key.state),
             None => false,
         }
     }
@@ -53,11 +50,12 @@ impl<H: Hook> Board<H> {
         ensures events { (self.new.head ≡ self.old.head) × (self.new.events ≡ self.old.events) }
         ensures none { IfNone result (self.new ≡ self.old) }
     {
-        let entry = self.ledger.due(by)?;
+        self.machine.sound();
+        let entry = self.machine.due(by)?;
         if !is_by_hook(&entry) {
             return None;
         }
-        match self.table.lend(entry.key.state) {
+        match self.machine.lend(entry.key.state) {
             Some(hook) => Some(Loan {
                 hook,
                 cpu: entry.cpu,
@@ -85,10 +83,11 @@ impl<H: Hook> Board<H> {
             key: _,
             dir: _,
         } = back;
-        match self.ledger.due(by) {
+        match self.machine.due(by) {
             Some(entry) => {
-                let at = self.ledger.journal().len();
-                restore_entry(&mut self.ledger, &mut self.table, &entry, hook, answer);
+                self.machine.sound();
+                let at = self.machine.journal().len();
+                self.machine.make_answered(&entry, hook, answer);
                 at
             }
             None => unreachable!(),

@@ -20,7 +20,6 @@ mod hook_laws;
 mod laws;
 mod lending;
 mod loan;
-mod making;
 mod retiring;
 mod sound;
 mod start;

@@ -47,10 +47,10 @@ impl<H: Hook> Board<H> {
         if rack.hooks.try_reserve(STATES).is_err() {
             return Err((NoMemory, self));
         }
-        let Board { ledger, table } = self;
-        table.sound();
+        self.machine.sound();
+        let (journal, table) = self.machine.into_parts();
         move_hooks(table, &mut rack.hooks);
-        Ok(ledger.into_journal())
+        Ok(journal)
     }
 }
 

@@ -24,7 +24,7 @@ impl<H: Hook> Board<H> {
         ensures loans { (k : ℕ) (a : AnAside) → loan self.now k ≡ Some a → IsLoan self.now.head self.now.events k a }
     {
         // what is so of every board
-        let _ = &self.ledger;
-        self.table.sound();
+        let _ = &self.machine;
+        self.machine.sound();
     }
 }

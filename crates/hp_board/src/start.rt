@@ -9,9 +9,9 @@ ghost use Rattle.hp_states.specs.declared.limits.TheConstants.{ONLINE};
 use crate::board::Board;
 use hp_event::{Head, Numbers, Subs};
 use hp_hook::Hook;
-use hp_ledger::{Ledger, are_absent};
+use hp_ledger::are_absent;
+use hp_machine::Machine;
 use hp_states::{MAX_CPUS, MAX_SUBS, NoMemory};
-use hp_table::Table;
 use std::alloc::Global;
 
 /// The processors of a board.
@@ -99,7 +99,6 @@ fn begin<H: Hook>(alloc: Global, head: Head) -> Result<Board<H>, NoMemory>
     requires { IsHead head }
     ensures { IfOk result (λ board. board ≡ record { head = head; events = []; places = replicate (ONLINE + 1) None }) }
 {
-    let table = Table::new(alloc)?;
-    let ledger = Ledger::new(alloc, head)?;
-    Ok(Board { ledger, table })
+    let machine = Machine::start(alloc, head)?;
+    Ok(Board { machine })
 }

@@ -25,6 +25,7 @@ impl<H: Hook> Board<H> {
         ensures journal { registration self.now.events ≡ None →
             IfOk result (λ text. text.items ≡ states self.now.head self.now.events) }
     {
-        hp_files::show_states(alloc, self.ledger.journal().head(), &self.table)
+        self.machine.sound();
+        hp_files::show_states(alloc, self.machine.journal().head(), self.machine.table())
     }
 }

@@ -19,7 +19,6 @@ ghost use Rattle.hp_event.specs.declared.op.Op.{Op as AnOp};
 ghost use Rattle.hp_model.specs.Registrations.{registration};
 
 use crate::board::Board;
-use crate::making::{make, make_entry};
 use hp_event::{Answer, Event, Op, Role};
 use hp_hook::Hook;
 use hp_ledger::{Entry, Next, names_sub};
@@ -89,24 +88,19 @@ impl<H: Hook> Board<H> {
         ensures memory { OnErr result (TakesRoom self.old.head self.old.events
             (next_event self.old.head self.old.events by ask.old.op)) }
     {
-        match self.ledger.next(&self.table, by, ask.op) {
+        self.machine.sound();
+        match self.machine.next(by, ask.op) {
             Next::Event { event, need } => {
                 if let Some(state) = self.keeps_out(&event) {
                     return Ok(Turn::NotYet(Why::HookOut(state)));
                 }
-                let at = self.ledger.journal().len();
-                make(
-                    &mut self.ledger,
-                    &mut self.table,
-                    event,
-                    need,
-                    &mut ask.hook,
-                )?;
+                let at = self.machine.journal().len();
+                self.machine.make(event, need, &mut ask.hook)?;
                 Ok(turn_of(event, at))
             }
             Next::Entry(entry) => {
-                let at = self.ledger.journal().len();
-                make_entry(&mut self.ledger, &mut self.table, &entry);
+                let at = self.machine.journal().len();
+                self.machine.make_entry(&entry);
                 Ok(Turn::Made { at })
             }
             Next::Full => Ok(Turn::Answered {
@@ -124,8 +118,9 @@ impl<H: Hook> Board<H> {
             × (arms_walker self.now.events (Call o.seat o.cpu s o.inst o.dir o.how) event.now ≡ true))) }
         ensures calm { IfNone result (IsCalm self.now event.now) }
     {
+        self.machine.sound();
         let entry = self.out()?;
-        if self.ledger.registrar().is_none() && arms(event, entry.cpu) {
+        if self.machine.registrar().is_none() && arms(event, entry.cpu) {
             Some(entry.key.state)
         } else {
             None
@@ -153,9 +148,9 @@ impl<H: Hook> Board<H> {
             × (is_home (step_at self.now.places x.key.state) ≡ false)) }
         ensures none { IfNone result (AllHome self.now.places) }
     {
-        let seat = self.ledger.due_seat()?;
-        let entry = self.ledger.due(seat)?;
-        if self.table.is_home(entry.key.state) {
+        let seat = self.machine.due_seat()?;
+        let entry = self.machine.due(seat)?;
+        if self.machine.table().is_home(entry.key.state) {
             return None;
         }
         Some(entry)
@@ -177,19 +172,19 @@ impl<H: Hook> Board<H> {
             return false;
         }
         if !self.is_client(by)
-            || !names_sub(self.ledger.journal().head(), ask.op)
+            || !names_sub(self.machine.journal().head(), ask.op)
             || !self.is_of(by, ask.op)
         {
             return false;
         }
-        ask.hook.is_some() == (is_setup(ask.op) && !self.ledger.is_busy(by))
+        ask.hook.is_some() == (is_setup(ask.op) && !self.machine.is_busy(by))
     }
 
     /// Whether a seat is in as a client.
     fn is_client(&self, seat: u32) -> bool
         ensures { IsTrue result ↔ (role_of seat self.now.events ≡ Some Client) }
     {
-        matches!(self.ledger.role(seat), Some(Role::Client))
+        matches!(self.machine.role(seat), Some(Role::Client))
     }
 
     /// Whether a seat has no other operation than this in flight.
@@ -197,7 +192,7 @@ impl<H: Hook> Board<H> {
         ensures { IsTrue result
             ↔ ((x : AnOp) → IsInFlight self.now.events (record { seat = seat; op = x }) → x ≡ op) }
     {
-        match self.ledger.op(seat) {
+        match self.machine.op(seat) {
             Some(in_flight) => is_same(in_flight, op),
             None => true,
         }
@@ -215,10 +210,11 @@ impl<H: Hook> Board<H> {
         ensures served { IsServed by self.old self.new result }
         ensures stays { (k : ℕ) → loan self.new k ≡ loan self.old k }
     {
-        match self.ledger.due(by) {
+        self.machine.sound();
+        match self.machine.due(by) {
             Some(entry) => {
-                let at = self.ledger.journal().len();
-                make_entry(&mut self.ledger, &mut self.table, &entry);
+                let at = self.machine.journal().len();
+                self.machine.make_entry(&entry);
                 Turn::Made { at }
             }
             None => Turn::NotYet(Why::Idle),

@@ -1,16 +1,12 @@
 -- The room that an event takes, by what decides whether it stands.
-use Rattle.std.proofs.Common.{◌≡◌, ℕ, ◌+◌, ◌≤◌, length, ltb, arith, Bool, true, false, IsTrue, ◌↔◌, None, List, refl, ap, ◌∙◌}
+use Rattle.std.proofs.Common.{◌≡◌, ℕ, Bool, true, false, IsTrue, ◌↔◌, None, List, refl, ap, ◌∙◌}
 use Rattle.std.specs.Bool.{then_some}
-use Rattle.std.proofs.lemmas.Bool.{ltb-true, ltb-false}
 use Rattle.hp_event.specs.declared.head.Head.{Head}
 use Rattle.hp_event.specs.declared.event.Event.{Event}
 use Rattle.hp_ledger.specs.declared.next.Next.TheVariants as answer
 use Rattle.hp_ledger.specs.Next.{IsNext}
 use Rattle.hp_model.specs.Lawful.{Stands, IsLawful}
 use Rattle.hp_model.specs.Needs.{need, taken}
-use Rattle.hp_model.specs.Promised.{promised}
-use Rattle.hp_states.specs.declared.limits.TheConstants.{MAX_EVENTS}
-use Rattle.hp_ledger.proofs.MachineGoes.{room_for}
 use Rattle.hp_model.specs.Events.{seat_of}
 use Rattle.hp_event.specs.declared.op.Op.{Op}
 use Rattle.hp_law.specs.Asked.{asked_by, IsOfOperation}
@@ -34,12 +30,3 @@ room_next head es k op e next takes same lawful of k_is op_is is decides =
     let stands = comes_event head es k op e next takes same lawful of k_is op_is is decides in
     room_by head es e same takes stands
     (λ s. is.1 ∙ ap (λ (x : Event). taken (need head es x)) (decides.0 (stands.1 s)))
-
--- the room of an event that stands is there
-pub room_fits : (head : Head) (es : List Event) (e : Event) (n : ℕ) → IsLawful head es → Stands head es e → n ≡ taken (need head es e) →
-    length es + promised head es + n ≤ MAX_EVENTS
-room_fits head es e n lawful stands is = by_test (ltb MAX_EVENTS (length es + promised head es + n)) refl
-  where
-    by_test : (t : Bool) → ltb MAX_EVENTS (length es + promised head es + n) ≡ t → length es + promised head es + n ≤ MAX_EVENTS
-    by_test true past = absurd (room_for head es e lawful stands (omega (arith, is, ltb-true _ _ past)))
-    by_test false past = ltb-false _ _ past

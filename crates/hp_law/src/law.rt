@@ -1,6 +1,7 @@
 //! The machine of a journal's checker.
 
-ghost use Rattle.std.specs.Prelude.{◌≡◌, ◌↔◌, ◌++◌, ◌∷◌, [], true, false, IsTrue, IfOk, OnOk, OnErr, length};
+ghost use Rattle.std.specs.Prelude.{◌≡◌, ◌↔◌, ◌++◌, ◌∷◌, [], true, false, IsTrue, IfOk, OnOk, OnErr, length, is_some};
+ghost use Rattle.hp_ledger.specs.TableChanges.{brings_hook};
 ghost use Rattle.hp_event.specs.declared.event.Event.TheVariants.{Admit};
 ghost use Rattle.hp_model.specs.Heads.{IsHead};
 ghost use Rattle.hp_model.specs.How.{answer_at};
@@ -13,12 +14,11 @@ ghost use Rattle.hp_law.specs.RoomOf.{IsRoomOf};
 
 use crate::asked::asked_by;
 use crate::same::same;
-use crate::taking::{add, make_room};
-use hp_event::{Event, Head, Journal, Role};
+use hp_event::{Event, Head, Journal, Op, Role};
 use hp_hook::ScriptHook;
-use hp_ledger::{Entry, Ledger, Next, names_sub};
+use hp_ledger::{Entry, Next, names_sub};
+use hp_machine::Machine;
 use hp_states::{MAX_SEATS, NoMemory};
-use hp_table::Table;
 use std::alloc::Global;
 use std::marker::Model;
 
@@ -28,20 +28,18 @@ use std::marker::Model;
 /// hook for each registered state, which answers by its subsystem's plan, and no hook of anybody else's.
 #[derive(Drop)]
 pub struct Law {
-    ledger: Ledger,
-    table: Table<ScriptHook>,
+    machine: Machine<ScriptHook>,
 }
 
 impl Model for Law {
-    ghost use Rattle.hp_ledger.specs.Machine.{IsMachine};
     ghost use Rattle.hp_table.specs.Step.{AllHome};
     ghost use Rattle.hp_law.specs.Law.{Taken};
 
     ghost Value = { Taken };
 
-    ghost view = { λ l. record { head = l.ledger.head; events = l.ledger.events } };
+    ghost view = { λ l. record { head = l.machine.head; events = l.machine.events } };
 
-    ghost invariant = { λ l. IsMachine l.ledger l.table × AllHome l.table };
+    ghost invariant = { λ l. AllHome l.machine.places };
 }
 
 impl Law {
@@ -53,9 +51,8 @@ impl Law {
         requires { IsHead head.now }
         ensures { IfOk result (λ law. law ≡ record { head = head.now; events = [] }) }
     {
-        let table = Table::new(alloc)?;
-        let ledger = Ledger::new(alloc, head.copy()?)?;
-        Ok(Law { ledger, table })
+        let machine = Machine::start(alloc, head.copy()?)?;
+        Ok(Law { machine })
     }
 
     /// Whether an event can stand next: it is where the rules let it come, and there is room for what it
@@ -80,7 +77,7 @@ impl Law {
             ≡ record { head = self.old.head; events = self.old.events ++ event.now ∷ [] }) }
         ensures err { OnErr result (self.new ≡ self.old) }
     {
-        let need = self.ledger.need(&self.table, *event);
+        let need = self.machine.need(*event);
         self.take_with_room(event, need)
     }
 
@@ -111,18 +108,14 @@ impl Law {
     pub fn len(&self) -> u32
         ensures { result ≡ length self.now.events }
     {
-        // what is so of every law
-        let _ = &self.table;
-        self.ledger.journal().len()
+        self.machine.journal().len()
     }
 
     /// The journal of the events that it took, with nothing promised. Takes no memory.
     pub fn into_journal(self) -> Journal
         ensures { result ≡ record { head = self.head; events = self.events; promised = 0 } }
     {
-        // what is so of every law
-        let _ = &self.table;
-        let mut journal = self.ledger.into_journal();
+        let (mut journal, _) = self.machine.into_parts();
         journal.give_back(journal.promised());
         journal
     }
@@ -135,13 +128,20 @@ impl Law {
             ≡ record { head = self.old.head; events = self.old.events ++ event.now ∷ [] }) }
         ensures err { OnErr result (self.new ≡ self.old) }
     {
-        make_room(&mut self.ledger, need)?;
-        match add(&mut self.ledger, &mut self.table, event) {
-            Ok(()) => Ok(()),
-            Err(NoMemory) => {
-                self.ledger.release();
-                Err(NoMemory)
-            }
+        self.machine.sound();
+        match *event {
+            Event::Admit { role, .. } => match self.machine.admit(role) {
+                Ok(_) => Ok(()),
+                Err(NoMemory) => Err(NoMemory),
+            },
+            Event::Call { seat, .. } => match self.machine.due(seat) {
+                Some(entry) => {
+                    self.machine.make_entry(&entry);
+                    Ok(())
+                }
+                None => unreachable!(),
+            },
+            _ => self.machine.make(*event, need, &mut hook_for(event)),
         }
     }
 
@@ -149,11 +149,10 @@ impl Law {
     fn room_of(&self, event: &Event) -> Option<u32>
         ensures { IsRoomOf self.now.head self.now.events event.now result }
     {
-        // what is so of every law
-        let _ = &self.table;
+        self.machine.sound();
         match *event {
             Event::Admit { seat, role } => self.comes_in(seat, role).then_some(2),
-            Event::Leave { seat } => self.ledger.can_leave(seat).then_some(0),
+            Event::Leave { seat } => self.machine.can_leave(seat).then_some(0),
             Event::Call { seat, .. } => match self.due(seat) {
                 Some(entry) => same(&entry, event).then_some(0),
                 None => None,
@@ -170,18 +169,18 @@ impl Law {
         let sits = match role {
             Role::Client => true,
             Role::Ap(cpu) => {
-                let head = self.ledger.journal().head();
-                head.is_present(cpu) && self.ledger.thread(cpu).is_none()
+                let head = self.machine.journal().head();
+                head.is_present(cpu) && self.machine.thread(cpu).is_none()
             }
         };
-        seat == self.ledger.admitted() && seat < MAX_SEATS && sits && self.ledger.room() >= 2
+        seat == self.machine.admitted() && seat < MAX_SEATS && sits && self.machine.room() >= 2
     }
 
     /// The entry that is due from a seat, as it is made.
     fn due(&self, seat: u32) -> Option<Event>
         ensures { result ≡ due_entry self.now.head self.now.events seat }
     {
-        match self.ledger.due(seat) {
+        match self.machine.due(seat) {
             Some(entry) => Some(entry.event(entry.how(self.answer_to(&entry)))),
             None => None,
         }
@@ -192,7 +191,8 @@ impl Law {
         ensures { result
             ≡ answer_at self.now.head self.now.events entry.now.cpu entry.now.key.state entry.now.key.inst entry.now.dir }
     {
-        match self.table.step(entry.key.state) {
+        self.machine.sound();
+        match self.machine.table().step(entry.key.state) {
             Some(record) => record
                 .home_hook()
                 .answer_to(entry.cpu, entry.key.inst, entry.dir),
@@ -206,16 +206,17 @@ impl Law {
         requires { IsOfOperation event.now }
         ensures { IsRoomOf self.now.head self.now.events event.now result }
     {
+        self.machine.sound();
         let seat = event.seat();
         let op = asked_by(event);
-        let role = self.ledger.role(seat);
+        let role = self.machine.role(seat);
         if !is_client(role) {
             return None;
         }
-        if !names_sub(self.ledger.journal().head(), op) {
+        if !names_sub(self.machine.journal().head(), op) {
             return None;
         }
-        match self.ledger.next(&self.table, seat, op) {
+        match self.machine.next(seat, op) {
             Next::Event { event: next, need } => same(&next, event).then_some(need),
             _ => None,
         }
@@ -227,4 +228,17 @@ fn is_client(role: Option<Role>) -> bool
     ensures { result ≡ is_client role }
 {
     matches!(role, Some(Role::Client))
+}
+
+/// The hook that an event brings: that of a setup which begins.
+fn hook_for(event: &Event) -> Option<ScriptHook>
+    ensures { is_some result ≡ brings_hook event.now }
+{
+    match event {
+        Event::RegBegin {
+            op: Op::Setup { .. },
+            ..
+        } => Some(ScriptHook::new()),
+        _ => None,
+    }
 }

@@ -16,7 +16,6 @@ mod asked;
 mod heads;
 mod law;
 mod same;
-mod taking;
 
 pub use heads::is_head;
 pub use law::Law;

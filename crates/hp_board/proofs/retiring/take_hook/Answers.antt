@@ -1,4 +1,4 @@
-use Rattle.std.proofs.Common.{◌≡◌, Option, Some, None, refl, ap, subst, sym, ◌∙◌}
+use Rattle.std.proofs.Common.{◌≡◌, Option, Some, None, refl, ap, ◌∙◌}
 use Rattle.hp_table.specs.Step.{Step, step_at, bare, changed, is_home}
 use Rattle.hp_table.proofs.Places.{step_at-changed_same}
 use Rattle.hp_board.proofs.retiring.take_hook.Goals as goal

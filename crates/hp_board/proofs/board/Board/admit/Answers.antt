@@ -1,32 +1,29 @@
-use Rattle.std.proofs.Common.{◌∷◌, ◌++◌, [], refl, ◌∙◌, ap, sym, subst}
+use Rattle.std.proofs.Common.{◌≡◌, Result, Ok, Err, OnOk, OnErr, refl, ◌∙◌, sym, subst}
 use Rattle.hp_event.specs.declared.event.Event.TheVariants.{Admit}
 use Rattle.hp_model.specs.Seats.{admits}
-use Rattle.hp_ledger.specs.Ledger.{Entries}
-use Rattle.hp_ledger.proofs.MachineGoes.{machine_goes_on}
-use Rattle.hp_ledger.proofs.TableMore.{table_same}
-use Rattle.hp_board.specs.Contents.{Contents}
+use Rattle.hp_board.specs.Contents.{Contents, with_event}
 use Rattle.hp_board.specs.Loans.{AreOut}
 use Rattle.hp_board.proofs.Admitted.{admission_stands}
 use Rattle.hp_board.proofs.Loans.{next_idle, out_stays, disarms_not}
 use Rattle.hp_board.proofs.board.Board.admit.Goals as goal
 
-pub invariant_of-self-in-Ok-admit : goal.invariant_of-self-in-Ok-admit
-invariant_of-self-in-Ok-admit g c =
-    let l = c.self.inside.ledger in
-    let role = c.args.role in
-    let b : Contents = record { head = l.head; events = l.events; places = c.self.inside.table } in
-    let e = Admit (admits l.events) role in
-    let stands = admission_stands l.head l.events role (sym c.refusal.ensures ∙ c.in_default.is) in
-    let is =
-    c.in-Ok-admit.ensures.ok
-    ∙ ap (λ (x : Entries). record { head = x.head; events = x.events ++ Admit (admits x.events) role ∷ []; reserved = 0 }) c.in-Ok.ensures.ok in
-    record {
-      machine =
-          machine_goes_on l c.admit.new.self e c.self.inside.table c.self.invariant.machine.lawful stands is
-          (table_same l.head l.events c.self.inside.table e tt c.self.invariant.machine.table_is);
-      out =
-          subst (λ (x : Entries). AreOut x.head x.events c.self.inside.table) (sym is)
-          (out_stays b (admits l.events) e c.self.invariant.machine.lawful c.self.invariant.out stands refl
-          (next_idle b c.self.invariant.machine.lawful c.self.invariant.out)
-          (λ s o away. disarms_not l.events o.seat o.cpu s o.inst o.dir o.how e refl));
-    }
+pub admit-requires : goal.admit-requires
+admit-requires g c =
+    let l = c.self.inside.machine in
+    admission_stands l.head l.events c.args.role (sym c.refusal.ensures ∙ c.in_default.is)
+
+either : {T E : Type 0} (r : Result T E) (A B P : Type 0) → OnOk r A → OnErr r B → (A → P) → (B → P) → P
+either (Ok x) A B P a b f g = f a
+either (Err e) A B P a b f g = g b
+
+pub invariant_of-self : goal.invariant_of-self
+invariant_of-self g c =
+    let b = c.self.inside.machine in
+    let e = Admit (admits b.events) c.args.role in
+    let new = c.admit.new.self in
+    let stands = admission_stands b.head b.events c.args.role (sym c.refusal.ensures ∙ c.in_default.is) in
+    either c.admit.result (new ≡ with_event b e) (new ≡ b) (AreOut new.head new.events new.places) c.admit.ensures.ok c.admit.ensures.err
+    (λ is. subst (λ (x : Contents). AreOut x.head x.events x.places) (sym is)
+    (out_stays b (admits b.events) e c.sound.ensures.lawful c.self.invariant stands refl (next_idle b c.sound.ensures.lawful c.self.invariant)
+    (λ s o away. disarms_not b.events o.seat o.cpu s o.inst o.dir o.how e refl)))
+    (λ is. subst (λ (x : Contents). AreOut x.head x.events x.places) (sym is) c.self.invariant)

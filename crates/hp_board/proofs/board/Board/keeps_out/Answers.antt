@@ -12,8 +12,8 @@ use Rattle.hp_board.proofs.board.Board.keeps_out.Goals.{else-is_none-via-then-is
 pub returns-then-arms-clause-out : goal.returns-then-arms-clause-out
 returns-then-arms-clause-out g c =
     let b = c.args.self.now in
-    let lawful = subst (λ (b : Contents). IsLawful b.head b.events) c.self.view_is c.self.invariant.machine.lawful in
-    let out = subst (λ (b : Contents). AreOut b.head b.events b.places) c.self.view_is c.self.invariant.out in
+    let lawful = subst (λ (b : Contents). IsLawful b.head b.events) c.self.view_is c.sound.ensures.lawful in
+    let out = subst (λ (b : Contents). AreOut b.head b.events b.places) c.self.view_is c.self.invariant in
     let none =
     subst (λ (b : Contents). is_none (option_map (λ (r : Registration). r.seat) (registration b.events)) ≡ true) c.self.view_is
     (ap is_none (sym c.registrar.ensures) ∙ (none_is c.registrar.result c.is_none.result c.is_none.ensures ∙ c.if-is_none.true)) in
@@ -23,7 +23,7 @@ returns-then-arms-clause-out g c =
 pub returns-else-is_none-clause-calm : goal.returns-else-is_none-clause-calm
 returns-else-is_none-clause-calm g c =
     let b = c.args.self.now in
-    let lawful = subst (λ (b : Contents). IsLawful b.head b.events) c.self.view_is c.self.invariant.machine.lawful in
+    let lawful = subst (λ (b : Contents). IsLawful b.head b.events) c.self.view_is c.sound.ensures.lawful in
     calm_by b c.in_ok-entry.entry c.args.event.now lawful c.in_ok-entry.ensures.some.0
     (λ none armed. elim c.else-is_none.branch [
       | else-is_none-via-then-is_none+else-arms w ↦ true≢false (sym armed ∙ (sym w.arms.ensures ∙ w.if-arms.false))

@@ -1,28 +1,26 @@
-use Rattle.std.proofs.Common.{◌≡◌, ◌<◌, ◌∙◌, true, Some, None, IsSome, IfSome, List, Option, refl, ap, sym, subst}
+use Rattle.std.proofs.Common.{◌≡◌, ◌<◌, ◌∙◌, Some, None, IsSome, IfSome, refl, ap, sym, subst}
 use Rattle.std.proofs.lemmas.Bool.{false≢true}
 use Rattle.hp_states.specs.declared.limits.TheConstants.{MAX_EVENTS}
 use Rattle.hp_model.proofs.DueGives.{due_stands}
 use Rattle.hp_table.specs.Kept.{IsHookOf}
 use Rattle.hp_table.specs.Step.{Step, step_at}
 use Rattle.hp_ledger.specs.Entries.{entry_event}
-use Rattle.hp_ledger.specs.Table.{IsTableOf}
 use Rattle.hp_board.specs.Contents.{Contents}
 use Rattle.hp_board.specs.Loans.{AreOut, loan}
-use Rattle.hp_board.proofs.Entries.{IsByHook, by_hook}
-use Rattle.hp_board.proofs.LentTable.{table_lent}
+use Rattle.hp_machine.proofs.Entries.{IsByHook, by_hook}
 use Rattle.hp_board.proofs.Loans.{hook_is, out_by, lent_out, lent_aside, same_aside, home_of_entry}
 use Rattle.hp_board.proofs.board.Board.lend.Goals as goal
 use Rattle.hp_board.proofs.board.Board.lend.Goals.{After-lend, In-Some}
 use Rattle.hp_board.proofs.board.Board.lend.Given as given
 
 found : (g : given.Over) (c : After-lend g) →
-    IsByHook c.self.inside.ledger.head c.self.inside.ledger.events c.self.inside.table c.in_ok-entry.entry
+    IsByHook c.self.inside.machine.head c.self.inside.machine.events c.self.inside.machine.places c.in_ok-entry.entry
 found g c =
-    let l = c.self.inside.ledger in
+    let l = c.self.inside.machine in
     let x = c.in_ok-entry.entry in
     let means = hook_is x.means (sym c.is_by_hook.ensures ∙ c.if-not-is_by_hook.false) in
     let stands = (due_stands l.head l.events c.args.by (entry_event l.head l.events x) c.in_ok-entry.ensures).0 in
-    by_hook l.head l.events c.self.inside.table x c.self.invariant.machine.lawful c.self.invariant.machine.table_is stands means
+    by_hook l.head l.events c.self.inside.machine.places x c.sound.ensures.lawful c.sound.ensures.table stands means
 
 pub invariant_of-result : goal.invariant_of-result
 invariant_of-result g c =
@@ -37,10 +35,10 @@ pub unreachable-requires : goal.unreachable-requires
 unreachable-requires g c =
     let at = goal.at.unreachable-requires g c in
     let h = found g at.After-lend in
-    let l = c.self.inside.ledger in
-    let b : Contents = record { head = l.head; events = l.events; places = c.self.inside.table } in
+    let l = c.self.inside.machine in
+    let b = c.self.inside.machine in
     let nothing = subst (λ (b : Contents). loan b c.args.by ≡ None) (sym c.self.view_is) c.requires in
-    let there : IsSome (step_at c.self.inside.table c.in_ok-entry.entry.key.state) = subst (λ o. IsSome o) (sym h.there) refl in
+    let there : IsSome (step_at c.self.inside.machine.places c.in_ok-entry.entry.key.state) = subst (λ o. IsSome o) (sym h.there) refl in
     let home = home_of_entry b c.args.by c.in_ok-entry.entry c.in_ok-entry.ensures nothing in
     false≢true (subst (λ r. IsSome r) c.in-None.is (c.lend.ensures.some.1 (there, home)))
 
@@ -48,35 +46,24 @@ pub invariant_of-self : goal.invariant_of-self
 invariant_of-self g c =
     let at = goal.at.invariant_of-self g c in
     let h = found g at.After-lend in
-    let l = c.self.inside.ledger in
+    let l = c.self.inside.machine in
     let x = c.in_ok-entry.entry in
-    let b : Contents = record { head = l.head; events = l.events; places = c.self.inside.table } in
+    let b = c.self.inside.machine in
     let means = hook_is x.means (sym c.is_by_hook.ensures ∙ c.if-not-is_by_hook.false) in
     let lent = c.lend.ensures.lent in
-    record {
-      machine =
-          record {
-            lawful = c.self.invariant.machine.lawful;
-            table_is =
-                subst (IsTableOf l.head l.events) (sym lent)
-                (table_lent l.head l.events c.self.inside.table x.key.state h.step h.there c.self.invariant.machine.table_is);
-            nothing_reserved = c.self.invariant.machine.nothing_reserved;
-          };
-      out =
-          subst (AreOut l.head l.events) (sym lent)
-          (lent_out l.head l.events c.self.inside.table x.key.state (out_by b c.args.by x c.in_ok-entry.ensures means) c.self.invariant.out);
-    }
+    subst (λ (x : Contents). AreOut x.head x.events x.places) (sym lent)
+    (lent_out l.head l.events l.places x.key.state (out_by b c.args.by x c.in_ok-entry.ensures means) c.self.invariant)
 
 pub returns-clause-lent : goal.returns-clause-lent
 returns-clause-lent g c =
     let at = goal.at.returns-clause-lent g c in
     let h = found g at.After-lend in
-    let l = c.self.inside.ledger in
+    let l = c.self.inside.machine in
     let x = c.in_ok-entry.entry in
-    let b : Contents = record { head = l.head; events = l.events; places = c.self.inside.table } in
+    let b = c.self.inside.machine in
     let hook =
     subst (λ o. IfSome o (λ (step : Step). IsHookOf (g.H.Hook.plan c.in-Some.hook) (g.H.Hook.seen c.in-Some.hook) (g.H.Hook.made c.in-Some.hook)
     (g.H.Hook.faults c.in-Some.hook) step.kept)) h.there c.in-Some.ensures.hook in
     let aside = lent_aside b c.args.by x h.step c.in_ok-entry.ensures h.there
     ∙ ap Some (same_aside x.cpu x.key.state x.key.inst x.dir h.step.kept _ _ _ _ hook) in
-    ap (λ (t : List (Option Step)). loan (record { head = l.head; events = l.events; places = t }) c.args.by) c.lend.ensures.lent ∙ aside
+    ap (λ (z : Contents). loan z c.args.by) c.lend.ensures.lent ∙ aside

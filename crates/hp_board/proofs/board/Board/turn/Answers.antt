@@ -1,12 +1,10 @@
-use Rattle.std.proofs.Common.{◌≡◌, ◌∙◌, refl, ap, sym, subst, is_some, Some, None, Option, List, [], ◌∷◌, ◌++◌, length, true, false}
+use Rattle.std.proofs.Common.{◌≡◌, ◌∙◌, refl, ap, sym, subst, is_some, Some, None, List, length, true, false}
 use Rattle.std.proofs.lemmas.Bool.{true≢false}
 use Rattle.hp_model.specs.Events.{answer_by}
 use Rattle.hp_model.specs.NextEvent.{next_event}
 use Rattle.hp_model.specs.Pending.{Pending, IsAllowed}
 use Rattle.hp_model.proofs.NextStands.{next_stands}
 use Rattle.hp_event.specs.declared.event.Event.{Event}
-use Rattle.hp_table.specs.Step.{Step}
-use Rattle.hp_ledger.specs.Ledger.{Entries}
 use Rattle.hp_ledger.specs.Entries.{entry_event}
 use Rattle.hp_ledger.proofs.FullNone.{full_none}
 use Rattle.hp_board.specs.Contents.{Contents, with_event}
@@ -14,10 +12,10 @@ use Rattle.hp_board.specs.Hooks.{has_hook, has_hook_after, leaves_hook}
 use Rattle.hp_board.specs.Turns.{IsTurn, goes_on}
 use Rattle.hp_board.proofs.TurnsMade.{no_admission, brought, turn_made, hook_after, hook_same, kept, unanswered}
 use Rattle.hp_model.proofs.DueGives.{due_gives}
-use Rattle.hp_board.specs.Loans.{loan, IsCalm}
+use Rattle.hp_board.specs.Loans.{loan, AreOut, IsCalm}
 use Rattle.hp_board.proofs.Homes.{idle_home}
 use Rattle.hp_board.proofs.LoansStay.{loans_stay}
-use Rattle.hp_board.proofs.Loans.{home_due}
+use Rattle.hp_board.proofs.Loans.{home_due, home_beside, out_stays, none_out}
 use Rattle.hp_table.specs.Step.{AllHome}
 use Rattle.hp_ledger.proofs.Homes.{home_after}
 use Rattle.hp_board.proofs.Busy.{hook_again}
@@ -25,7 +23,7 @@ use Rattle.hp_board.proofs.board.Board.turn.Goals as goal
 
 pub make-requires-clause-stands : goal.make-requires-clause-stands
 make-requires-clause-stands g c =
-    let l = c.self.inside.ledger in
+    let l = c.self.inside.machine in
     (next_stands l.head l.events c.args.by c.args.ask.now.op c.in-Event.event c.in-Event.ensures.0).0
 
 pub make-requires-clause-no_entry : goal.make-requires-clause-no_entry
@@ -33,36 +31,33 @@ make-requires-clause-no_entry g c = c.in-Event.ensures.2
 
 pub make-requires-clause-no_admission : goal.make-requires-clause-no_admission
 make-requires-clause-no_admission g c =
-    let l = c.self.inside.ledger in
+    let l = c.self.inside.machine in
     let p : Pending = record { seat = c.args.by; op = c.args.ask.now.op } in
     let allowed = subst (λ (b : Contents). IsAllowed b.head b.events p) (sym c.self.view_is) c.requires.allowed in
-    no_admission l.head l.events p c.in-Event.event c.self.invariant.machine.lawful allowed c.in-Event.ensures.0
+    no_admission l.head l.events p c.in-Event.event c.sound.ensures.lawful allowed c.in-Event.ensures.0
 
 pub make-requires-clause-brings : goal.make-requires-clause-brings
 make-requires-clause-brings g c =
-    let l = c.self.inside.ledger in
-    let inside : Contents = record { head = l.head; events = l.events; places = c.self.inside.table } in
+    let l = c.self.inside.machine in
+    let inside = c.self.inside.machine in
     brought inside c.args.self.now (record { seat = c.args.by; op = c.args.ask.now.op }) c.in-Event.event (is_some c.args.ask.now.hook)
-    c.self.view_is c.self.invariant.machine.lawful c.requires.allowed c.requires.hook c.in-Event.ensures.0
+    c.self.view_is c.sound.ensures.lawful c.requires.allowed c.requires.hook c.in-Event.ensures.0
 
 pub make_entry-requires-clause-stands : goal.make_entry-requires-clause-stands
 make_entry-requires-clause-stands g c =
-    let l = c.self.inside.ledger in
+    let l = c.self.inside.machine in
     (next_stands l.head l.events c.args.by c.args.ask.now.op (entry_event l.head l.events c.in-Entry.entry) c.in-Entry.ensures).0
 
 pub returns-in_ok-make-in-Event-clause-turn : goal.returns-in_ok-make-in-Event-clause-turn
 returns-in_ok-make-in-Event-clause-turn g c =
-    let l = c.self.inside.ledger in
+    let l = c.self.inside.machine in
     let e = c.in-Event.event in
     let k = c.args.by in
     let op = c.args.ask.now.op in
-    let old : Contents = record { head = l.head; events = l.events; places = c.self.inside.table } in
-    let ledger = c.make.new.ledger in
-    let new : Contents = record { head = ledger.head; events = ledger.events; places = c.make.new.table } in
+    let old = c.self.inside.machine in
+    let new = c.make.new.self in
     let made = c.in_ok-make-in-Event.ensures in
-    let is : new ≡ with_event old e =
-    ap (λ (x : Entries). record { head = x.head; events = x.events; places = c.make.new.table }) made.made
-    ∙ ap (λ (p : List (Option Step)). record { head = l.head; events = l.events ++ e ∷ []; places = p }) made.changed in
+    let is : new ≡ with_event old e = made.made in
     let place : c.len-at.result ≡ length old.events =
     c.len-at.ensures.count ∙ ap (λ (es : List Event). length es) c.journal.ensures.events in
     let turn = turn_made old new k c.len-at.result op e c.in-Event.ensures.0 is place in
@@ -71,14 +66,14 @@ returns-in_ok-make-in-Event-clause-turn g c =
 
 pub returns-in_ok-make-in-Event-clause-has_hook : goal.returns-in_ok-make-in-Event-clause-has_hook
 returns-in_ok-make-in-Event-clause-has_hook g c =
-    let l = c.self.inside.ledger in
+    let l = c.self.inside.machine in
     let e = c.in-Event.event in
     let op = c.args.ask.now.op in
     let had = is_some c.args.ask.now.hook in
-    let inside : Contents = record { head = l.head; events = l.events; places = c.self.inside.table } in
+    let inside = c.self.inside.machine in
     let brings =
     brought inside c.args.self.now (record { seat = c.args.by; op = op }) e (is_some c.args.ask.now.hook) c.self.view_is
-    c.self.invariant.machine.lawful c.requires.allowed c.requires.hook c.in-Event.ensures.0 in
+    c.sound.ensures.lawful c.requires.allowed c.requires.hook c.in-Event.ensures.0 in
     let made = c.in_ok-make-in-Event.ensures in
     let after =
     hook_after l.events e c.args.ask.now.hook c.make.new.hook brings made.hands made.left in
@@ -87,13 +82,13 @@ returns-in_ok-make-in-Event-clause-has_hook g c =
 
 pub returns-in_ok-make-in-Event-clause-same_hook : goal.returns-in_ok-make-in-Event-clause-same_hook
 returns-in_ok-make-in-Event-clause-same_hook g c = λ leaves.
-    let l = c.self.inside.ledger in
+    let l = c.self.inside.machine in
     let e = c.in-Event.event in
     let op = c.args.ask.now.op in
-    let inside : Contents = record { head = l.head; events = l.events; places = c.self.inside.table } in
+    let inside = c.self.inside.machine in
     let brings =
     brought inside c.args.self.now (record { seat = c.args.by; op = op }) e (is_some c.args.ask.now.hook) c.self.view_is
-    c.self.invariant.machine.lawful c.requires.allowed c.requires.hook c.in-Event.ensures.0 in
+    c.sound.ensures.lawful c.requires.allowed c.requires.hook c.in-Event.ensures.0 in
     let made = c.in_ok-make-in-Event.ensures in
     let here =
     subst (λ (b : Contents). leaves_hook b.events (next_event b.head b.events c.args.by op) ≡ true) (sym c.self.view_is) leaves in
@@ -102,7 +97,7 @@ returns-in_ok-make-in-Event-clause-same_hook g c = λ leaves.
 
 pub returns-in-Full-clause-has_hook : goal.returns-in-Full-clause-has_hook
 returns-in-Full-clause-has_hook g c =
-    let l = c.self.inside.ledger in
+    let l = c.self.inside.machine in
     let op = c.args.ask.now.op in
     let had = is_some c.args.ask.now.hook in
     let none = full_none l.head l.events c.args.by op c.in-Full.ensures in
@@ -112,7 +107,7 @@ returns-in-Full-clause-has_hook g c =
 
 pub returns-in-Full-clause-handed : goal.returns-in-Full-clause-handed
 returns-in-Full-clause-handed g c = λ leaves.
-    let l = c.self.inside.ledger in
+    let l = c.self.inside.machine in
     let op = c.args.ask.now.op in
     let none = full_none l.head l.events c.args.by op c.in-Full.ensures in
     let here =
@@ -121,81 +116,94 @@ returns-in-Full-clause-handed g c = λ leaves.
 
 pub returns-in_ok-make-in-Event-clause-again : goal.returns-in_ok-make-in-Event-clause-again
 returns-in_ok-make-in-Event-clause-again g c = λ on.
-    let l = c.self.inside.ledger in
+    let l = c.self.inside.machine in
     let e = c.in-Event.event in
     let op = c.args.ask.now.op in
     let k = c.args.by in
-    let inside : Contents = record { head = l.head; events = l.events; places = c.self.inside.table } in
+    let inside = c.self.inside.machine in
     let brings =
     brought inside c.args.self.now (record { seat = k; op = op }) e (is_some c.args.ask.now.hook) c.self.view_is
-    c.self.invariant.machine.lawful c.requires.allowed c.requires.hook c.in-Event.ensures.0 in
+    c.sound.ensures.lawful c.requires.allowed c.requires.hook c.in-Event.ensures.0 in
     let made = c.in_ok-make-in-Event.ensures in
     let after = hook_after l.events e c.args.ask.now.hook c.make.new.hook brings made.hands made.left in
     let had : is_some c.args.ask.now.hook ≡ has_hook l.events k op =
     c.requires.hook ∙ ap (λ (b : Contents). has_hook b.events k op) (sym c.self.view_is) in
     let none = unanswered (answer_by e) c.len-at.result (ap goes_on (sym c.turn_of.ensures) ∙ on) in
     after ∙ ap (has_hook_after l.events (Some e)) had ∙ hook_again l.head l.events k op e c.in-Event.ensures.0 none
-    ∙ ap (λ (x : Entries). has_hook x.events k op) (sym made.made)
+    ∙ ap (λ (x : Contents). has_hook x.events k op) (sym made.made)
 
 pub returns-in-Entry-clause-again : goal.returns-in-Entry-clause-again
 returns-in-Entry-clause-again g c = λ on.
-    let l = c.self.inside.ledger in
+    let l = c.self.inside.machine in
     let e = entry_event l.head l.events c.in-Entry.entry in
     let op = c.args.ask.now.op in
     let k = c.args.by in
     let had : is_some c.args.ask.now.hook ≡ has_hook l.events k op =
     c.requires.hook ∙ ap (λ (b : Contents). has_hook b.events k op) (sym c.self.view_is) in
     had ∙ sym (kept (has_hook l.events k op)) ∙ hook_again l.head l.events k op e c.in-Entry.ensures refl
-    ∙ ap (λ (x : Entries). has_hook x.events k op) (sym c.make_entry.ensures.made)
-
-pub make-requires-clause-calm : goal.make-requires-clause-calm
-make-requires-clause-calm g c = subst (λ (b : Contents). IsCalm b c.in-Event.event) (sym c.self.view_is) c.in_default.ensures.calm
-
-pub make-requires-clause-idle : goal.make-requires-clause-idle
-make-requires-clause-idle g c =
-    let l = c.self.inside.ledger in
-    let b : Contents = record { head = l.head; events = l.events; places = c.self.inside.table } in
-    let nothing = subst (λ (b : Contents). loan b c.args.by ≡ None) (sym c.self.view_is) c.requires.nothing in
-    let by_is = (next_stands l.head l.events c.args.by c.args.ask.now.op c.in-Event.event c.in-Event.ensures.0).1 in
-    subst (λ k. loan b k ≡ None) (sym by_is) nothing
+    ∙ ap (λ (x : Contents). has_hook x.events k op) (sym c.make_entry.ensures)
 
 pub make_entry-requires-clause-home : goal.make_entry-requires-clause-home
 make_entry-requires-clause-home g c =
-    let l = c.self.inside.ledger in
-    let b : Contents = record { head = l.head; events = l.events; places = c.self.inside.table } in
+    let l = c.self.inside.machine in
+    let b = c.self.inside.machine in
     let e = entry_event l.head l.events c.in-Entry.entry in
     let nothing = subst (λ (b : Contents). loan b c.args.by ≡ None) (sym c.self.view_is) c.requires.nothing in
     let s = next_stands l.head l.events c.args.by c.args.ask.now.op e c.in-Entry.ensures in
-    let due = due_gives l.head l.events c.args.by e c.self.invariant.machine.lawful s.0 refl s.1 in
-    home_due b c.args.by e c.self.invariant.machine.lawful c.self.invariant.out due nothing
+    let due = due_gives l.head l.events c.args.by e c.sound.ensures.lawful s.0 refl s.1 in
+    home_due b c.args.by e c.sound.ensures.lawful c.self.invariant due nothing c.in-Entry.entry.key.state
 
 pub returns-in-Entry-clause-stays : goal.returns-in-Entry-clause-stays
 returns-in-Entry-clause-stays g c = λ k.
-    let l = c.self.inside.ledger in
+    let l = c.self.inside.machine in
     let e = entry_event l.head l.events c.in-Entry.entry in
-    let b : Contents = record { head = l.head; events = l.events; places = c.self.inside.table } in
+    let b = c.self.inside.machine in
     let nothing = subst (λ (b : Contents). loan b c.args.by ≡ None) (sym c.self.view_is) c.requires.nothing in
     let s = next_stands l.head l.events c.args.by c.args.ask.now.op e c.in-Entry.ensures in
-    let due = due_gives l.head l.events c.args.by e c.self.invariant.machine.lawful s.0 refl s.1 in
-    let home = home_due b c.args.by e c.self.invariant.machine.lawful c.self.invariant.out due nothing in
-    let ledger = c.make_entry.new.ledger in
-    let new : Contents = record { head = ledger.head; events = ledger.events; places = c.make_entry.new.table } in
-    idle_home new k (subst AllHome (sym c.make_entry.ensures.changed) (home_after l.head l.events e c.self.inside.table home))
+    let due = due_gives l.head l.events c.args.by e c.sound.ensures.lawful s.0 refl s.1 in
+    let home = home_due b c.args.by e c.sound.ensures.lawful c.self.invariant due nothing in
+    let new = c.make_entry.new.self in
+    idle_home new k (subst (λ (z : Contents). AllHome z.places) (sym c.make_entry.ensures) (home_after l.head l.events e l.places home))
     ∙ (sym (idle_home b k home) ∙ ap (λ (z : Contents). loan z k) c.self.view_is)
 
 pub returns-in_ok-make-in-Event-clause-stays : goal.returns-in_ok-make-in-Event-clause-stays
 returns-in_ok-make-in-Event-clause-stays g c = λ k.
-    let l = c.self.inside.ledger in
+    let l = c.self.inside.machine in
     let e = c.in-Event.event in
-    let b : Contents = record { head = l.head; events = l.events; places = c.self.inside.table } in
-    let ledger = c.make.new.ledger in
+    let b = c.self.inside.machine in
     let made = c.in_ok-make-in-Event.ensures in
-    let new : Contents = record { head = ledger.head; events = ledger.events; places = c.make.new.table } in
-    let is : new ≡ with_event b e =
-    ap (λ (x : Entries). record { head = x.head; events = x.events; places = c.make.new.table }) made.made
-    ∙ ap (λ (p : List (Option Step)). record { head = l.head; events = l.events ++ e ∷ []; places = p }) made.changed in
+    let new = c.make.new.self in
+    let is : new ≡ with_event b e = made.made in
     let nothing = subst (λ (b : Contents). loan b c.args.by ≡ None) (sym c.self.view_is) c.requires.nothing in
     let calm = subst (λ (b : Contents). IsCalm b e) (sym c.self.view_is) c.in_default.ensures.calm in
     let s = next_stands l.head l.events c.args.by c.args.ask.now.op e c.in-Event.ensures.0 in
-    let stay = loans_stay b c.args.by e c.self.invariant.machine.lawful c.self.invariant.out s.0 s.1 nothing calm k in
+    let stay = loans_stay b c.args.by e c.sound.ensures.lawful c.self.invariant s.0 s.1 nothing calm k in
     ap (λ (z : Contents). loan z k) is ∙ (stay ∙ ap (λ (z : Contents). loan z k) c.self.view_is)
+
+pub make-requires-clause-home : goal.make-requires-clause-home
+make-requires-clause-home g c = λ is.
+    let l = c.self.inside.machine in
+    let stands = (next_stands l.head l.events c.args.by c.args.ask.now.op c.in-Event.event c.in-Event.ensures.0).0 in
+    home_beside l.head l.events l.places c.in-Event.event c.sound.ensures.lawful c.self.invariant stands is
+
+pub invariant_of-self-in-Event : goal.invariant_of-self-in-Event
+invariant_of-self-in-Event g c =
+    let b = c.self.inside.machine in
+    let e = c.in-Event.event in
+    let nothing = subst (λ (b : Contents). loan b c.args.by ≡ None) (sym c.self.view_is) c.requires.nothing in
+    let calm = subst (λ (b : Contents). IsCalm b e) (sym c.self.view_is) c.in_default.ensures.calm in
+    let s = next_stands b.head b.events c.args.by c.args.ask.now.op e c.in-Event.ensures.0 in
+    subst (λ (z : Contents). AreOut z.head z.events z.places) (sym c.in_ok-make-in-Event.ensures.made)
+    (out_stays b c.args.by e c.sound.ensures.lawful c.self.invariant s.0 s.1 nothing calm)
+
+pub invariant_of-self-in-Entry : goal.invariant_of-self-in-Entry
+invariant_of-self-in-Entry g c =
+    let b = c.self.inside.machine in
+    let e = entry_event b.head b.events c.in-Entry.entry in
+    let nothing = subst (λ (b : Contents). loan b c.args.by ≡ None) (sym c.self.view_is) c.requires.nothing in
+    let s = next_stands b.head b.events c.args.by c.args.ask.now.op e c.in-Entry.ensures in
+    let due = due_gives b.head b.events c.args.by e c.sound.ensures.lawful s.0 refl s.1 in
+    let home = home_due b c.args.by e c.sound.ensures.lawful c.self.invariant due nothing in
+    let new = c.make_entry.new.self in
+    none_out new.head new.events new.places
+    (subst (λ (z : Contents). AllHome z.places) (sym c.make_entry.ensures) (home_after b.head b.events e b.places home))

@@ -1,27 +1,29 @@
 use Rattle.std.proofs.Common.{◌≡◌, ◌∙◌, ap, sym, subst}
 use Rattle.std.specs.Option.{option_copied}
 use Rattle.hp_states.specs.Rules.{site_at, counted_answer, raised}
-use Rattle.hp_table.specs.Kept.{Kept, answer_at}
+use Rattle.hp_table.specs.Kept.{answer_at}
 use Rattle.hp_model.specs.How.{answer_at as answer_of_plan}
 use Rattle.hp_ledger.proofs.HookAnswers.{kept_answers, unkept_answers}
-use Rattle.hp_table.specs.Step.{step_at}
+use Rattle.hp_table.specs.Step.{step_at, kept_of}
 use Rattle.hp_table.proofs.Placed.{home_of}
 use Rattle.hp_law.specs.Law.{Taken}
 use Rattle.hp_law.proofs.law.Law.answer_to.Goals as goal
 
 pub home_hook-requires : goal.home_hook-requires
 home_hook-requires c =
-    let there = sym (ap option_copied c.in-Some.is) ∙ c.step.ensures.record_there in
-    home_of (step_at c.self.inside.table c.args.entry.now.key.state) c.in-Some.record.now there
-    (c.self.invariant.1 c.args.entry.now.key.state)
+    let there = sym (ap option_copied c.in-Some.is) ∙ (c.step.ensures.record_there
+    ∙ ap (λ t. kept_of (step_at t c.args.entry.now.key.state)) c.table.ensures) in
+    home_of (step_at c.self.inside.machine.places c.args.entry.now.key.state) c.in-Some.record.now there
+    (c.self.invariant c.args.entry.now.key.state)
 
 pub returns-in-Some : goal.returns-in-Some
 returns-in-Some c =
-    let l = c.self.inside.ledger in
+    let l = c.self.inside.machine in
     let x = c.args.entry.now in
-    let there = sym (ap option_copied c.in-Some.is) ∙ c.step.ensures.record_there in
+    let there = sym (ap option_copied c.in-Some.is) ∙ (c.step.ensures.record_there
+    ∙ ap (λ t. kept_of (step_at t c.args.entry.now.key.state)) c.table.ensures) in
     let is =
-    kept_answers l.head l.events c.self.inside.table x.cpu x.key.state x.key.inst x.dir c.in-Some.record.now c.self.invariant.0.table_is there in
+    kept_answers l.head l.events c.self.inside.machine.places x.cpu x.key.state x.key.inst x.dir c.in-Some.record.now c.sound.ensures.table there in
     let site = site_at x.cpu x.key.inst x.dir in
     let h = c.home_hook.ensures in
     let same : c.answer_to.result ≡ answer_at c.in-Some.record.now site =
@@ -33,8 +35,9 @@ returns-in-Some c =
 
 pub returns-in-None : goal.returns-in-None
 returns-in-None c =
-    let l = c.self.inside.ledger in
+    let l = c.self.inside.machine in
     let x = c.args.entry.now in
-    let none = sym (ap option_copied c.in-None.is) ∙ c.step.ensures.record_there in
-    let is = unkept_answers l.head l.events c.self.inside.table x.cpu x.key.state x.key.inst x.dir c.self.invariant.0.table_is none in
+    let none = sym (ap option_copied c.in-None.is) ∙ (c.step.ensures.record_there
+    ∙ ap (λ t. kept_of (step_at t c.args.entry.now.key.state)) c.table.ensures) in
+    let is = unkept_answers l.head l.events c.self.inside.machine.places x.cpu x.key.state x.key.inst x.dir c.sound.ensures.table none in
     subst (λ (t : Taken). 0 ≡ answer_of_plan t.head t.events x.cpu x.key.state x.key.inst x.dir) c.self.view_is (sym is)

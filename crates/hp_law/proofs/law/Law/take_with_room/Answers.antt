@@ -1,30 +1,77 @@
-use Rattle.std.proofs.Common.{◌≡◌, ◌∷◌, [], ◌++◌, ◌∙◌, ap, sym, subst}
+use Rattle.std.proofs.Common.{◌≡◌, [], ◌∷◌, ◌++◌, Some, None, Result, Ok, Err, OnOk, OnErr, ◌∙◌, ap, sym, subst}
+use Rattle.std.specs.Prelude.{List}
+use Rattle.hp_event.specs.declared.head.Head.{Head}
+use Rattle.hp_event.specs.declared.event.Event.{Event}
+use Rattle.hp_event.specs.declared.event.Event.TheVariants.{Admit}
+use Rattle.hp_model.specs.Events.{is_call, seat_of}
 use Rattle.hp_model.specs.Lawful.{Stands}
-use Rattle.hp_model.specs.Needs.{need, taken}
-use Rattle.hp_ledger.specs.Ledger.{Entries}
-use Rattle.hp_ledger.specs.Table.{IsTableOf}
+use Rattle.hp_model.proofs.DueGives.{due_gives, due_stands}
+use Rattle.hp_table.specs.Step.{AllHome}
+use Rattle.hp_ledger.specs.Entries.{entry_event}
+use Rattle.hp_ledger.proofs.Homes.{home_after}
+use Rattle.hp_machine.specs.Contents.{Contents, with_event}
 use Rattle.hp_law.specs.Law.{Taken}
-use Rattle.hp_ledger.proofs.MachineGoes.{machine_goes_on}
-use Rattle.hp_law.proofs.Rooms.{room_fits}
 use Rattle.hp_law.proofs.law.Law.take_with_room.Goals as goal
 
-pub make_room-requires-clause-fits : goal.make_room-requires-clause-fits
-make_room-requires-clause-fits c =
-    let l = c.self.inside.ledger in
-    let e = c.args.event.now in
-    let stands = subst (λ (t : Taken). Stands t.head t.events e) (sym c.self.view_is) c.requires.stands in
-    let need = subst (λ (t : Taken). c.args.need ≡ taken (need t.head t.events e)) (sym c.self.view_is) c.requires.need in
-    room_fits l.head l.events e c.args.need c.self.invariant.0.lawful stands need
+abbrev seen_taken : Head → List Event → Taken
+seen_taken head es = record { head = head; events = es }
 
-pub invariant_of-self-in-Ok : goal.invariant_of-self-in-Ok
-invariant_of-self-in-Ok c =
-    let l = c.self.inside.ledger in
+-- every hook is home after any event
+still : (m new : Contents) (e : Event) → AllHome m.places → new ≡ with_event m e → AllHome new.places
+still m new e home is = subst (λ (x : Contents). AllHome x.places) (sym is) (home_after m.head m.events e m.places home)
+
+pub admit-requires : goal.admit-requires
+admit-requires c =
+    let m = c.self.inside.machine in
+    let stands = subst (λ (t : Taken). Stands t.head t.events c.args.event.now) (sym c.self.view_is) c.requires.stands in
+    let here = subst (Stands m.head m.events) c.in-Admit.is stands in
+    subst (λ k. Stands m.head m.events (Admit k c.in-Admit.role)) here.0.seat_is here
+
+either : {T E : Type 0} (r : Result T E) (A B P : Type 0) → OnOk r A → OnErr r B → (A → P) → (B → P) → P
+either (Ok x) A B P a b f g = f a
+either (Err e) A B P a b f g = g b
+
+none_some : (e : Event) → None ≡ Some e → ⊥
+none_some e h = cc
+
+same : (a b : Event) → Some a ≡ Some b → a ≡ b
+same a b h = cc
+
+pub make_entry-requires-clause-stands : goal.make_entry-requires-clause-stands
+make_entry-requires-clause-stands c =
+    let m = c.self.inside.machine in
+    (due_stands m.head m.events c.in-Call.seat (entry_event m.head m.events c.in-Some.entry) c.in-Some.ensures).0
+
+pub invariant_of-self-in-Some : goal.invariant_of-self-in-Some
+invariant_of-self-in-Some c =
+    let m = c.self.inside.machine in
+    still m c.make_entry.new.self (entry_event m.head m.events c.in-Some.entry) c.self.invariant c.make_entry.ensures
+
+pub unreachable-requires : goal.unreachable-requires
+unreachable-requires c =
+    let m = c.self.inside.machine in
     let e = c.args.event.now in
     let stands = subst (λ (t : Taken). Stands t.head t.events e) (sym c.self.view_is) c.requires.stands in
-    let mid = c.in_ok-make_room.ensures.ok in
-    let added = c.in-Ok.ensures.added in (
-      machine_goes_on l c.add.new.ledger e c.add.new.table c.self.invariant.0.lawful stands
-          (added ∙ ap (λ (x : Entries). record { head = x.head; events = x.events ++ e ∷ []; reserved = 0 }) mid)
-          (subst (λ (x : Entries). IsTableOf x.head (x.events ++ e ∷ []) c.add.new.table) mid c.in-Ok.ensures.table),
-      c.in-Ok.ensures.home,
-    )
+    let due = due_gives m.head m.events c.in-Call.seat e c.sound.ensures.lawful stands (ap is_call c.in-Call.is) (ap seat_of c.in-Call.is) in
+    none_some e (sym c.in-None.ensures ∙ due)
+
+pub returns-in-Some-clause-ok : goal.returns-in-Some-clause-ok
+returns-in-Some-clause-ok c =
+    let m = c.self.inside.machine in
+    let e = c.args.event.now in
+    let stands = subst (λ (t : Taken). Stands t.head t.events e) (sym c.self.view_is) c.requires.stands in
+    let due = due_gives m.head m.events c.in-Call.seat e c.sound.ensures.lawful stands (ap is_call c.in-Call.is) (ap seat_of c.in-Call.is) in
+    let is = same (entry_event m.head m.events c.in-Some.entry) e (sym c.in-Some.ensures ∙ due) in
+    let taken = ap (λ (x : Contents). seen_taken x.head x.events) c.make_entry.ensures
+    ∙ ap (λ x. seen_taken m.head (m.events ++ x ∷ [])) is in
+    subst (λ (t : Taken). seen_taken c.make_entry.new.self.head c.make_entry.new.self.events
+    ≡ seen_taken t.head (t.events ++ e ∷ [])) c.self.view_is taken
+
+pub invariant_of-self-in_default : goal.invariant_of-self-in_default
+invariant_of-self-in_default c =
+    let m = c.self.inside.machine in
+    let e = c.args.event.now in
+    let new = c.make.new.self in
+    either c.make.result (new ≡ with_event m e) ((new ≡ m) × (c.make.new.hook ≡ c.hook_for.result)) (AllHome new.places) c.make.ensures.made c.make.ensures.err
+    (λ is. still m new e c.self.invariant is)
+    (λ is. subst (λ (x : Contents). AllHome x.places) (sym is.0) c.self.invariant)

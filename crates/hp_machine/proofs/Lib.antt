@@ -1,0 +1,3 @@
+pub mod Entries
+pub mod LentTable
+pub mod Made

@@ -1,0 +1,52 @@
+use Rattle.std.proofs.Common.{◌≡◌, ◌∙◌, IfSome, ap, sym, subst}
+use Rattle.hp_states.specs.Rules.{site_at}
+use Rattle.hp_model.specs.Lawful.{Stands}
+use Rattle.hp_table.specs.Kept.{answer_at, called, IsHookOf}
+use Rattle.hp_table.specs.Step.{Step, step_at}
+use Rattle.hp_ledger.specs.Entries.{entry_event, entry_made, how_by}
+use Rattle.hp_ledger.specs.Table.{IsTableOf}
+use Rattle.hp_ledger.specs.TableChanges.{table_after}
+use Rattle.hp_machine.specs.Contents.{Contents, with_event}
+use Rattle.hp_machine.proofs.Entries.{by_hook}
+use Rattle.hp_machine.proofs.LentTable.{restored}
+use Rattle.hp_machine.proofs.Made.{Makes, makes, seen}
+use Rattle.hp_machine.proofs.machine.Machine.make_answered.Given as given
+use Rattle.hp_machine.proofs.machine.Machine.make_answered.Goals as goal
+use Rattle.hp_machine.proofs.machine.Machine.make_answered.Goals.{After-event}
+
+home : (g : given.Over) (c : After-event g) →
+    Makes c.self.inside.ledger c.self.inside.table c.restore.new.self
+    (entry_event c.self.inside.ledger.head c.self.inside.ledger.events c.args.entry.now) c.event.result
+home g c =
+    let l = c.self.inside.ledger in
+    let x = c.args.entry.now in
+    let e = entry_event l.head l.events x in
+    let site = site_at x.cpu x.key.inst x.dir in
+    let table = c.self.inside.table in
+    let stands = subst (λ (m : Contents). Stands m.head m.events (entry_event m.head m.events x)) (sym c.self.view_is) c.requires.stands in
+    let h = by_hook l.head l.events table x c.self.invariant.lawful c.self.invariant.table_is stands c.requires.by_hook in
+    let there = ap (λ (m : Contents). step_at m.places x.key.state) (sym c.self.view_is) ∙ h.there in
+    let answer = subst (λ o. IfSome o (λ (step : Step). c.args.answer ≡ answer_at step.kept site)) there c.requires.answer in
+    let back =
+    subst (λ o. IfSome o (λ (step : Step). IsHookOf (g.H.Hook.plan c.args.hook) (g.H.Hook.seen c.args.hook) (g.H.Hook.made c.args.hook)
+    (g.H.Hook.faults c.args.hook) (called step.kept site))) there c.requires.back in
+    let same = c.event.ensures ∙ (ap (entry_made x) c.how.ensures ∙ (ap (λ n. entry_made x (how_by x n)) answer ∙ h.event_is)) in
+    let changed : c.restore.new.self ≡ table_after l.head l.events e table =
+    c.restore.ensures ∙ (restored table x.key.state h.step site _ _ _ _ h.there back ∙ sym h.changed_is) in
+    makes l table c.restore.new.self e c.event.result c.self.invariant stands same changed
+    (subst (IsTableOf l.head (with_event (seen l table) e).events) (sym changed) h.after)
+
+pub append-requires-clause-stands : goal.append-requires-clause-stands
+append-requires-clause-stands g c = (home g (goal.at.append-requires-clause-stands g c).After-event).stands
+
+pub append-requires-clause-table : goal.append-requires-clause-table
+append-requires-clause-table g c = (home g (goal.at.append-requires-clause-table g c).After-event).table
+
+pub invariant_of-self : goal.invariant_of-self
+invariant_of-self g c = (home g (goal.at.invariant_of-self g c).After-event).goes_on c.append.new.self c.append.ensures
+
+pub returns : goal.returns
+returns g c =
+    let x = c.args.entry.now in
+    subst (λ (m : Contents). seen c.append.new.self c.restore.new.self ≡ with_event m (entry_event m.head m.events x)) c.self.view_is
+    ((home g (goal.at.returns g c).After-event).is c.append.new.self c.append.ensures)

@@ -1,0 +1,10 @@
+use Rattle.std.proofs.Common.{sym, subst}
+use Rattle.hp_ledger.specs.Ledger.{Entries}
+use Rattle.hp_ledger.specs.Machine.{IsMachine}
+use Rattle.hp_ledger.proofs.MachineBegins.{machine_begins}
+use Rattle.hp_machine.proofs.machine.Machine.start.Goals as goal
+
+pub invariant_of-result : goal.invariant_of-result
+invariant_of-result g c =
+    subst (λ (l : Entries). IsMachine l c.in_ok-table.table) (sym c.in_ok-ledger.ensures)
+    (machine_begins c.args.head c.in_ok-table.table c.requires c.in_ok-table.ensures)

@@ -1,0 +1,16 @@
+-- What contracts see of a machine: its head, its events, oldest first, and what stands at each state; and what one event more makes
+-- of it. This project's own.
+use Rattle.std.specs.Prelude.{Option, List, [], ◌∷◌, ◌++◌}
+use Rattle.hp_event.specs.declared.head.Head.{Head}
+use Rattle.hp_event.specs.declared.event.Event.{Event}
+use Rattle.hp_table.specs.Step.{Step}
+use Rattle.hp_ledger.specs.TableChanges.{table_after}
+
+pub record Contents : Type 0 where
+  pub head : Head
+  pub events : List Event
+  pub places : List (Option Step)
+
+abbrev pub with_event : Contents → Event → Contents
+with_event m e =
+    record { head = m.head; events = m.events ++ e ∷ []; places = table_after m.head m.events e m.places }

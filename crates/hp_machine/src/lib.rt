@@ -1,0 +1,18 @@
+//! The machine: a lawful journal with what its events amount to, and the table of what is registered.
+//!
+//! `next` says what comes next of a seat and its operation, and `due` which entry a seat has to make; both
+//! change nothing. `make` makes an event that they say, `make_entry` an entry by the hook that stands there,
+//! and `make_answered` one by the answer of a hook that was lent. `admit` and `leave` let seats in and go.
+//! Each reserves room, changes the table, and appends or gives the room back.
+//!
+//! Contracts see the head, the events and what stands at each state (`specs/Contents.antt`). The journal is
+//! lawful at any time and the table is the journal's, so that no call has that as a condition. Only `start`,
+//! `make` and `admit` take memory, and no call looks at the events.
+#![tactic(auto)]
+
+mod admission;
+mod lending;
+mod machine;
+mod making;
+
+pub use machine::Machine;

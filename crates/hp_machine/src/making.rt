@@ -1,0 +1,120 @@
+//! How one event is made.
+
+ghost use Rattle.std.specs.Prelude.{◌≡◌, ◌+◌, ◌<◌, length, true, false, OnOk, OnErr, IfSome, IsSome, is_some};
+ghost use Rattle.hp_ledger.specs.Entries.{entry_event};
+ghost use Rattle.hp_ledger.specs.Ledger.{NoAdmission};
+ghost use Rattle.hp_ledger.specs.TableChanges.{is_registering, brings_hook, hands_hook, registering_step, IsHookOf};
+ghost use Rattle.hp_ledger.specs.declared.entry.Means.TheVariants.{Hook as ByHook};
+ghost use Rattle.hp_machine.specs.Contents.{with_event};
+ghost use Rattle.hp_model.specs.Events.{is_call};
+ghost use Rattle.hp_model.specs.Lawful.{Stands};
+ghost use Rattle.hp_model.specs.Needs.{need as need_of, taken};
+ghost use Rattle.hp_model.specs.Promised.{promised};
+ghost use Rattle.hp_model.specs.Registrations.{registration};
+ghost use Rattle.hp_states.specs.Rules.{site_at};
+ghost use Rattle.hp_states.specs.declared.limits.TheConstants.{MAX_EVENTS};
+ghost use Rattle.hp_table.specs.Kept.{answer_at, called};
+ghost use Rattle.hp_table.specs.Step.{step_at, is_home, AllHome};
+
+use crate::machine::Machine;
+use hp_event::{Event, JournalError};
+use hp_hook::Hook;
+use hp_ledger::{Entry, Ledger, Means, change_table};
+use hp_states::NoMemory;
+
+impl<H: Hook> Machine<H> {
+    /// Makes an event that stands and is no entry and no admission. `need` is the room that it takes.
+    ///
+    /// The begin of a setup takes its hook, and where the end of a registration hands a hook out it is in
+    /// `hook` then. Where a registration begins or ends no hook is lent. Takes memory where the event takes
+    /// room, if the journal or the state's instances have no spare place; where that is wanting nothing has
+    /// changed: `NoMemory`.
+    pub fn make(&mut self, event: Event, need: u32, hook: &mut Option<H>) -> Result<(), NoMemory>
+        requires stands { Stands self.old.head self.old.events event }
+        requires no_entry { is_call event ≡ false }
+        requires no_admission { NoAdmission event }
+        requires need { need ≡ taken (need_of self.old.head self.old.events event) }
+        requires brings { is_registering event ≡ true → is_some hook.old ≡ brings_hook event }
+        requires home { is_registering event ≡ true → AllHome self.old.places }
+        ensures made { OnOk result (self.new ≡ with_event self.old event) }
+        ensures hands { OnOk result (is_registering event ≡ true → is_some hook.new ≡ hands_hook self.old.events event) }
+        ensures hook { OnOk result (is_registering event ≡ true →
+            IfSome hook.new (λ h. IfSome (registering_step (registration self.old.events) self.old.places)
+            (λ step. IsHookOf (H.plan h) (H.seen h) (H.made h) (H.faults h) step.kept))) }
+        ensures left { OnOk result (is_registering event ≡ false → hook.new ≡ hook.old) }
+        ensures err { OnErr result ((self.new ≡ self.old) × (hook.new ≡ hook.old)) }
+        ensures memory { OnErr result (IsSome (need_of self.old.head self.old.events event)) }
+    {
+        reserve(&mut self.ledger, need)?;
+        match change_table(&mut self.table, &self.ledger, event, hook) {
+            Ok(()) => {
+                self.ledger.append(&self.table, event);
+                Ok(())
+            }
+            Err(NoMemory) => {
+                self.ledger.release();
+                Err(NoMemory)
+            }
+        }
+    }
+
+    /// Makes an entry that is due: where its hook decides, that is called once.
+    ///
+    /// That hook isn't lent. Takes no memory. After `cpuhp_invoke_callback` of `kernel/cpu.c`.
+    pub fn make_entry(&mut self, entry: &Entry)
+        requires stands { Stands self.old.head self.old.events (entry_event self.old.head self.old.events entry.now) }
+        requires home { is_home (step_at self.old.places entry.now.key.state) ≡ true }
+        ensures { self.new ≡ with_event self.old (entry_event self.old.head self.old.events entry.now) }
+    {
+        match entry.means {
+            Means::Hook => {
+                let state = entry.key.state;
+                let answer = self.table.call(state, entry.cpu, entry.key.inst, entry.dir);
+                self.ledger
+                    .append(&self.table, entry.event(entry.how(answer)));
+            }
+            _ => self.ledger.append(&self.table, entry.event(entry.how(0))),
+        }
+    }
+
+    /// Makes an entry that is due by the answer of its hook, which was lent, and puts the hook home.
+    ///
+    /// The hook has counted the call since, and this is its answer. Takes no memory. After
+    /// `cpuhp_invoke_callback` of `kernel/cpu.c`; that hooks are lent is this project's own.
+    pub fn make_answered(&mut self, entry: &Entry, hook: H, answer: u32)
+        requires stands { Stands self.old.head self.old.events (entry_event self.old.head self.old.events entry.now) }
+        requires by_hook { entry.now.means ≡ ByHook }
+        requires lent { is_home (step_at self.old.places entry.now.key.state) ≡ false }
+        requires back { IfSome (step_at self.old.places entry.now.key.state) (λ step.
+            IsHookOf (H.plan hook) (H.seen hook) (H.made hook) (H.faults hook)
+            (called step.kept (site_at entry.now.cpu entry.now.key.inst entry.now.dir))) }
+        requires answer { IfSome (step_at self.old.places entry.now.key.state) (λ step.
+            answer ≡ answer_at step.kept (site_at entry.now.cpu entry.now.key.inst entry.now.dir)) }
+        ensures { self.new ≡ with_event self.old (entry_event self.old.head self.old.events entry.now) }
+    {
+        self.table.restore(entry.key.state, hook);
+        self.ledger
+            .append(&self.table, entry.event(entry.how(answer)));
+    }
+}
+
+/// Reserves the room that an event takes, of which there is enough.
+///
+/// Takes memory where that is some and the journal has not so many spare places; where that is wanting
+/// nothing has changed: `NoMemory`.
+pub(crate) fn reserve(ledger: &mut Ledger, need: u32) -> Result<(), NoMemory>
+    requires fits { MAX_EVENTS
+        < length ledger.old.events + promised ledger.old.head ledger.old.events + ledger.old.reserved + need → ⊥ }
+    ensures ok { OnOk result (ledger.new ≡ record ledger.old { reserved = ledger.old.reserved + need }) }
+    ensures memory { OnErr result (0 < need) }
+    ensures err { OnErr result (ledger.new ≡ ledger.old) }
+{
+    if need == 0 {
+        return Ok(());
+    }
+    match ledger.reserve(need) {
+        Ok(()) => Ok(()),
+        Err(JournalError::NoMemory) => Err(NoMemory),
+        Err(JournalError::Full) => unreachable!(),
+    }
+}
