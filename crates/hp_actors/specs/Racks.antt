@@ -3,7 +3,7 @@ use Rattle.std.specs.Prelude.{◌≡◌, ℕ, ◌+◌, is_some, Option, List, �
 use Rattle.std.specs.List.{sum_by}
 use Rattle.hp_board.specs.HookCount.{hook_count, held}
 use Rattle.hp_board.specs.declared.turn.Ask.{Ask}
-use Rattle.hp_hook.specs.Counted.{Kept as Counts}
+use Rattle.hp_hook.specs.Counted.{Counts}
 use Rattle.hp_table.specs.Step.{Step}
 use Rattle.hp_ledger.specs.TableChanges.{is_setup}
 use Rattle.hp_actors.specs.declared.actor.Actor.{Actor}

@@ -44,7 +44,7 @@ impl<H: Hook> Run<H> {
     pub fn finish(self, rack: &mut Rack<H>) -> Result<(), NoMemory>
         requires { is_over self.actors self.progress ≡ true }
         ensures last { OnOk result (EndsWith
-            (λ h. record { plan = H.plan h; seen = H.seen h; made = H.made h; faults = H.faults h })
+            H.counts
             rack.new.hooks.items (registered_hooks self.head self.progress.events)) }
         ensures all { OnOk result (
             length rack.new.hooks.items ≡ length rack.old.hooks.items + sum_by setups_in self.actors) }

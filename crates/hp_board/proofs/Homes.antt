@@ -10,7 +10,8 @@ use Rattle.hp_table.specs.Step.{Step, step_at, is_home, AllHome}
 use Rattle.hp_ledger.proofs.Homes.{home_after}
 use Rattle.hp_board.specs.Contents.{Contents}
 use Rattle.hp_board.specs.HookCount.{hook_count, held}
-use Rattle.hp_board.specs.Loans.{aside_at, aside_by, loan_of, loan}
+use Rattle.hp_board.specs.Answered.{aside_of}
+use Rattle.hp_board.specs.Loans.{aside_at, loan_of, loan}
 use Rattle.hp_board.specs.declared.turn.Turn.{Turn}
 use Rattle.hp_board.specs.declared.turn.Turn.TheVariants.{Made, Answered, NotYet}
 use Rattle.hp_locks.specs.declared.why.Why.TheVariants.{Idle}
@@ -18,7 +19,7 @@ use Rattle.hp_board.specs.Turns.{IsTurn, IsServed}
 
 at_home : (c i s : ℕ) (d : Dir) (place : Option Step) → is_home place ≡ true → aside_at c s i d place ≡ None
 at_home c i s d None h = refl
-at_home c i s d (Some step) h = ap (λ b. cond b None (Some (aside_by c s i d step.kept))) h
+at_home c i s d (Some step) h = ap (λ b. cond b None (Some (aside_of c (record { state = s; inst = i }) d step.kept.counts))) h
 
 pub idle_home : (b : Contents) (k : ℕ) → AllHome b.places → loan b k ≡ None
 idle_home b k home = go (due_entry b.head b.events k)

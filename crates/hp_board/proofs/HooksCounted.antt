@@ -14,7 +14,7 @@ use Rattle.hp_event.specs.declared.event.Event.{Event}
 use Rattle.hp_event.specs.declared.event.Event.TheVariants.{RegBegin, RegEnd, Call}
 use Rattle.hp_event.specs.Hows.{is_called}
 use Rattle.hp_event.specs.Heads.{sub_numbered}
-use Rattle.hp_hook.specs.Counted.{Kept as Counts}
+use Rattle.hp_hook.specs.Counted.{Counts}
 use Rattle.hp_locks.specs.declared.why.Why.TheVariants.{Idle}
 use Rattle.hp_model.specs.Events.{is_call, is_registration_op}
 use Rattle.hp_model.specs.Lawful.{IsLawful}

@@ -6,7 +6,7 @@ use Rattle.std.proofs.Math.Seq.{take-length}
 use Rattle.hp_states.specs.declared.limits.TheConstants.{ONLINE}
 use Rattle.hp_event.specs.declared.head.Head.{Head}
 use Rattle.hp_event.specs.declared.event.Event.{Event}
-use Rattle.hp_hook.specs.Counted.{Kept as Counts}
+use Rattle.hp_hook.specs.Counted.{Counts}
 use Rattle.hp_model.specs.Lists.{numbers}
 use Rattle.hp_model.specs.Registered.{Registered, registered}
 use Rattle.hp_model.specs.Registrations.{Registration, registration}
@@ -49,11 +49,8 @@ hook_is : (head : Head) (events : List Event) (s : ℕ) (place : Option Step) �
 hook_is head events s None is of = rw is refl
 hook_is head events s (Some step) is of =
     let sub = of.sub_is in
-    let plan = of.plan_is in
-    let seen = of.seen_is in
-    let made = of.made_is in
-    let faults = of.faults_are in
-    rw (is, sub, plan, seen, made, faults) refl
+    let counts = of.counts_are in
+    rw (is, sub, counts) refl
 
 resting : (head : Head) (events : List Event) (places : List (Option Step)) → IsTableOf head events places → registration events ≡ None →
     (s : ℕ) → registered head s events ≡ registered_by (step_at places s)

@@ -8,7 +8,7 @@ use Rattle.hp_model.specs.Calls.{sites}
 use Rattle.hp_model.specs.How.{answer_at as answer_of_plan}
 use Rattle.hp_model.specs.Subsystems.{plan_of}
 use Rattle.hp_ledger.specs.Table.{IsTableOf, IsStepOf}
-use Rattle.hp_ledger.proofs.HookAnswers.{sub_there}
+use Rattle.hp_ledger.proofs.HookAnswers.{sub_there, answers_there}
 use Rattle.hp_ledger.proofs.TableMore.{answered_called}
 use Rattle.hp_event.specs.declared.aside.Aside.{Aside}
 use Rattle.hp_event.specs.declared.how.How.{How}
@@ -27,8 +27,7 @@ use Rattle.hp_model.specs.Registrations.{Registration, registration}
 use Rattle.hp_model.proofs.EntryStays.{due_stays, due_alone, due_calls, caller_below, walk_or_registration, no_registration_begins, no_registration_ends}
 use mathlib.Core.Logic.{dite}
 use native.Mathlib.Decide.{ℕ_discrete}
-use Rattle.hp_states.specs.declared.plan.Rule.{Rule}
-use Rattle.hp_table.specs.Kept.{Kept, called, answer_at, IsHookOf}
+use Rattle.hp_hook.specs.Counted.{Counts}
 use Rattle.hp_table.specs.Step.{Step, step_at, changed, changed_at, called_step, lent_step, is_home, AllHome}
 use Rattle.hp_table.proofs.Places.{step_at-changed_same, step_at-set_other}
 use Rattle.hp_ledger.specs.TableChanges.{table_after, is_registering}
@@ -38,9 +37,9 @@ use Rattle.hp_ledger.specs.declared.entry.Means.TheVariants.{Presumed, Empty, In
 use Rattle.hp_ledger.specs.Entries.{entry_event, how_by, how_of_means}
 use Rattle.hp_ledger.proofs.Homes.{home_after}
 use Rattle.hp_board.specs.Contents.{Contents}
-use Rattle.hp_board.specs.Answered.{IsAnswered}
+use Rattle.hp_board.specs.Answered.{aside_of}
 use Rattle.std.specs.Prelude.{option_map}
-use Rattle.hp_board.specs.Loans.{IsLoan, IsCalm, is_hook, aside_at, aside_by, loan_of, loan, IsOutFor, AreOut}
+use Rattle.hp_board.specs.Loans.{IsLoan, IsCalm, is_hook, aside_at, loan_of, loan, IsOutFor, AreOut}
 
 none_some : {A : Type 0} (x : A) → None ≡ Some x → ⊥
 none_some x e = cc e
@@ -58,7 +57,7 @@ pub lent_at : (c i s : ℕ) (d : Dir) (place : Option Step) → is_home place �
 lent_at c i s d None away none = true≢false away
 lent_at c i s d (Some step) away none = go step.kept.home away none
   where
-    go : (b : Bool) → b ≡ false → cond b None (Some (aside_by c s i d step.kept)) ≡ None → ⊥
+    go : (b : Bool) → b ≡ false → cond b None (Some (aside_of c (record { state = s; inst = i }) d step.kept.counts)) ≡ None → ⊥
     go true away none = true≢false away
     go false away none = none_some _ (sym none)
 
@@ -227,20 +226,20 @@ pub record IsLentBy (b : Contents) (x : Entry) (a : Aside) : Type 0 where
   pub step : Step
   pub there : step_at b.places x.key.state ≡ Some step
   pub away : step.kept.home ≡ false
-  pub aside_is : a ≡ aside_by x.cpu x.key.state x.key.inst x.dir step.kept
+  pub aside_is : a ≡ aside_of x.cpu x.key x.dir step.kept.counts
 
 pub lent_of : (c i s : ℕ) (d : Dir) (place : Option Step) (a : Aside) → aside_at c s i d place ≡ Some a →
-    (step : Step) × (place ≡ Some step) × (step.kept.home ≡ false) × (a ≡ aside_by c s i d step.kept)
+    (step : Step) × (place ≡ Some step) × (step.kept.home ≡ false) × (a ≡ aside_of c (record { state = s; inst = i }) d step.kept.counts)
 lent_of c i s d None a is = absurd (none_some a is)
 lent_of c i s d (Some step) a is = go step.kept.home refl is
   where
     same : (x y : Aside) → Some x ≡ Some y → x ≡ y
     same x y e = cc
 
-    go : (b : Bool) → step.kept.home ≡ b → cond b None (Some (aside_by c s i d step.kept)) ≡ Some a →
-        (step' : Step) × (Some step ≡ Some step') × (step'.kept.home ≡ false) × (a ≡ aside_by c s i d step'.kept)
+    go : (b : Bool) → step.kept.home ≡ b → cond b None (Some (aside_of c (record { state = s; inst = i }) d step.kept.counts)) ≡ Some a →
+        (step' : Step) × (Some step ≡ Some step') × (step'.kept.home ≡ false) × (a ≡ aside_of c (record { state = s; inst = i }) d step'.kept.counts)
     go true e is = absurd (none_some a is)
-    go false e is = (step, refl, e, sym (same (aside_by c s i d step.kept) a is))
+    go false e is = (step, refl, e, sym (same (aside_of c (record { state = s; inst = i }) d step.kept.counts) a is))
 
 pub lent_by : (b : Contents) (by : ℕ) (x : Entry) (a : Aside) → due_entry b.head b.events by ≡ Some (entry_event b.head b.events x) →
     loan b by ≡ Some a → IsLentBy b x a
@@ -248,13 +247,6 @@ lent_by b by x a due is =
     let at = sym (ap (λ e. loan_of e b.places) due) ∙ is in
     let l = lent_of x.cpu x.key.inst x.key.state x.dir (step_at b.places x.key.state) a at in
     record { step = l.0; there = l.1; away = l.2; aside_is = l.3 }
-
--- a hook that comes back has counted one call more, and answered it
-pub came_back : (kept : Kept) (c s i : ℕ) (d : Dir) (plan : List Rule) (seen : List ℕ) (made faults answer : ℕ) →
-    IsAnswered (aside_by c s i d kept) plan seen made faults answer →
-    IsHookOf plan seen made faults (called kept (site_at c i d)) × (answer ≡ answer_at kept (site_at c i d))
-came_back kept c s i d plan seen made faults answer h =
-    (record { plan_is = h.plan_is; seen_is = h.seen_is; made_is = h.made_is; faults_are = h.faults_are }, h.answer_is)
 
 -- an event that arms nobody
 pub disarms_not : (es : List Event) (k c s i : ℕ) (d : Dir) (how : How) (e : Event) → arms c e ≡ false →
@@ -293,18 +285,11 @@ asks_by Hook answered a = a
 pub lent_aside : (b : Contents) (by : ℕ) (x : Entry) (step : Step) → due_entry b.head b.events by ≡ Some (entry_event b.head b.events x) →
     step_at b.places x.key.state ≡ Some step →
     loan (record { head = b.head; events = b.events; places = changed_at b.places x.key.state lent_step }) by
-    ≡ Some (aside_by x.cpu x.key.state x.key.inst x.dir step.kept)
+    ≡ Some (aside_of x.cpu x.key x.dir step.kept.counts)
 lent_aside b by x step due there =
     ap (λ e. loan_of e (changed_at b.places x.key.state lent_step)) due
     ∙ ap (aside_at x.cpu x.key.state x.key.inst x.dir)
     (step_at-changed_same b.places x.key.state lent_step ∙ ap (changed lent_step) there)
-
--- a loan whose hook has what the record keeps
-pub same_aside : (c s i : ℕ) (d : Dir) (kept : Kept) (plan : List Rule) (seen : List ℕ) (made faults : ℕ) →
-    IsHookOf plan seen made faults kept →
-    aside_by c s i d kept
-    ≡ record { cpu = c; key = record { state = s; inst = i }; dir = d; base = made; plan = plan; seen = seen; faults = faults }
-same_aside c s i d kept plan seen made faults h = rw (h.plan_is, h.seen_is, h.made_is, h.faults_are) refl
 
 -- the five facts of what is lent
 pub loan_facts : (b : Contents) (by : ℕ) (a : Aside) → IsLawful b.head b.events → IsTableOf b.head b.events b.places →
@@ -320,13 +305,15 @@ loan_facts b by a lawful t out is = go (due_entry b.head b.events by) refl (is)
         let of = subst (λ p. IfSome p (IsStepOf b.head b.events s)) l.1 (t.steps s) in
         let sub = sub_there b.head b.events b.places s l.0 t l.1 ∙ of.sub_is in
         let seat : k ≡ by = (due_stands b.head b.events by (Call k c s i d how) due).2 in
-        let facts : IsLoan b.head b.events by (aside_by c s i d l.0.kept) = record {
+        let plan = ap (λ (x : Counts). x.plan) of.counts_are in
+        let facts : IsLoan b.head b.events by (aside_of c (record { state = s; inst = i }) d l.0.kept.counts) = record {
           how = how;
           due = due ∙ ap (λ z. Some (Call z c s i d how)) seat;
           called = sym (ap called_in same) ∙ o.called;
-          plan_is = of.plan_is ∙ ap plan_of (sym sub);
-          seen_is = of.seen_is ∙ ap (λ p. counts_of p (sites s b.events)) (sym of.plan_is);
-          base_is = of.made_is;
+          plan_is = plan ∙ ap plan_of (sym sub);
+          seen_is = ap (λ (x : Counts). x.seen) of.counts_are ∙ ap (λ p. counts_of p (sites s b.events)) (sym plan);
+          base_is = ap (λ (x : Counts). x.made) of.counts_are;
+          answer_is = answers_there b.head b.events b.places c s i d l.0 t l.1;
         } in
         subst (IsLoan b.head b.events by) (sym l.3) facts
     go (Some e) due is = absurd (none_some a is)
@@ -337,7 +324,7 @@ pub lent_or_home : (c i s : ℕ) (d : Dir) (place : Option Step) → is_some (as
 lent_or_home c i s d None = refl
 lent_or_home c i s d (Some step) = go step.kept.home
   where
-    go : (b : Bool) → is_some (cond b None (Some (aside_by c s i d step.kept))) ≡ not b
+    go : (b : Bool) → is_some (cond b None (Some (aside_of c (record { state = s; inst = i }) d step.kept.counts))) ≡ not b
     go true = refl
     go false = refl
 

@@ -10,33 +10,22 @@ use Rattle.hp_event.specs.declared.event.Event.TheVariants.{Call}
 use Rattle.hp_event.specs.declared.op.Op.{Op}
 use Rattle.hp_event.specs.Hows.{is_called}
 use Rattle.hp_model.specs.Calls.{sites, sub_at}
+use Rattle.hp_model.specs.How.{answer_at}
 use Rattle.hp_model.specs.Lent.{arms_walker}
 use Rattle.hp_model.specs.NextEvent.{next_event, due_entry}
 use Rattle.hp_model.specs.Subsystems.{plan_of}
-use Rattle.hp_table.specs.Kept.{Kept}
 use Rattle.hp_table.specs.Step.{Step, step_at, is_home}
 use Rattle.hp_locks.specs.declared.why.Why.TheVariants.{ApTurn}
 use Rattle.hp_ledger.specs.declared.entry.Means.{Means}
 use Rattle.hp_ledger.specs.declared.entry.Means.TheVariants.{Hook}
 use Rattle.hp_ledger.specs.Next.{IsKept}
+use Rattle.hp_board.specs.Answered.{aside_of, answer_of_loan}
 use Rattle.hp_board.specs.Contents.{Contents}
 
--- an entry, and what the hook of its state has counted
-abbrev pub aside_by : (cpu state inst : ℕ) → Dir → Kept → Aside
-aside_by c s i d kept =
-    record {
-      cpu = c;
-      key = record { state = s; inst = i };
-      dir = d;
-      base = kept.made;
-      plan = kept.plan;
-      seen = kept.seen;
-      faults = kept.faults;
-    }
-
+-- the hook of what stands at a state, as it was lent for an entry there, if it is away
 abbrev pub aside_at : (cpu state inst : ℕ) → Dir → Option Step → Option Aside
 aside_at c s i d None = None
-aside_at c s i d (Some step) = if step.kept.home then None else Some (aside_by c s i d step.kept)
+aside_at c s i d (Some step) = if step.kept.home then None else Some (aside_of c (record { state = s; inst = i }) d step.kept.counts)
 
 abbrev pub loan_of : Option Event → List (Option Step) → Option Aside
 loan_of (Some (Call seat cpu state inst dir how)) places = aside_at cpu state inst dir (step_at places state)
@@ -70,7 +59,7 @@ AreOut head events places = (s : ℕ) → is_home (step_at places s) ≡ false �
 
 -- The five facts of what is lent to a seat: it is the entry that is due from the seat; no armed fault is taken in its place; and
 -- the hook has the plan of the state's subsystem, the counts of that plan over the state's calls since its setup began, and the
--- number of these calls.
+-- number of these calls. So it answers what the definitions say of the entry, though it was away.
 pub record IsLoan (head : Head) (events : List Event) (seat : ℕ) (a : Aside) : Type 0 where
   pub how : How
   pub due : due_entry head events seat ≡ Some (Call seat a.cpu a.key.state a.key.inst a.dir how)
@@ -78,6 +67,7 @@ pub record IsLoan (head : Head) (events : List Event) (seat : ℕ) (a : Aside) :
   pub plan_is : a.plan ≡ plan_of (sub_at head a.key.state events)
   pub seen_is : a.seen ≡ counts_of a.plan (sites a.key.state events)
   pub base_is : a.base ≡ length (sites a.key.state events)
+  pub answer_is : answer_of_loan a ≡ answer_at head events a.cpu a.key.state a.key.inst a.dir
 
 -- a client waits for the thread whose hook is lent
 pub record WaitsForThread (b : Contents) (seat : ℕ) (op : Op) : Type 0 where

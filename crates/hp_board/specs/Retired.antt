@@ -3,42 +3,24 @@
 use Rattle.std.specs.Prelude.{◌≡◌, ℕ, ◌+◌, Option, Some, None, List, [], ◌∷◌, ◌++◌, map, length}
 use Rattle.std.specs.List.{flat_map}
 use Rattle.hp_states.specs.declared.limits.TheConstants.{ONLINE}
-use Rattle.hp_states.specs.declared.plan.Rule.{Rule}
-use Rattle.hp_states.specs.Rules.{counts_of}
 use Rattle.hp_event.specs.declared.event.Event.{Event}
 use Rattle.hp_event.specs.declared.head.Head.{Head}
-use Rattle.hp_event.specs.declared.head.Sub.{Sub}
-use Rattle.hp_hook.specs.Counted.{Kept as Counts}
+use Rattle.hp_hook.specs.Counted.{Counts}
 use Rattle.hp_model.specs.Calls.{sites}
 use Rattle.hp_model.specs.Lists.{numbers}
 use Rattle.hp_model.specs.Registered.{Registered, registered}
-use Rattle.hp_model.specs.Subsystems.{sub_numbered}
-use Rattle.hp_model.specs.Summary.{hook_faults}
+use Rattle.hp_model.specs.Subsystems.{sub_numbered, plan_of}
+use Rattle.hp_ledger.specs.Table.{counts_by}
 use Rattle.hp_table.specs.Step.{Step}
 
 -- what the hook of a place has counted
 abbrev pub hook_at : Option Step → List Counts
 hook_at None = []
-hook_at (Some step) =
-    record { plan = step.kept.plan; seen = step.kept.seen; made = step.kept.made; faults = step.kept.faults } ∷ []
+hook_at (Some step) = step.kept.counts ∷ []
 
 -- and those of all places, in rising state
 abbrev pub hooks_of : List (Option Step) → List Counts
 hooks_of places = flat_map hook_at places
-
-abbrev pub plan_of : Option Sub → List Rule
-plan_of None = []
-plan_of (Some sub) = sub.plan
-
--- what a hook with this plan has counted of the calls at a state since its setup began
-abbrev pub counts_by : (plan : List Rule) → List Event → (state : ℕ) → Counts
-counts_by plan events s =
-    record {
-      plan = plan;
-      seen = counts_of plan (sites s events);
-      made = length (sites s events);
-      faults = hook_faults s events;
-    }
 
 abbrev pub hook_if : Head → List Event → (state : ℕ) → Option Registered → List Counts
 hook_if head events s None = []

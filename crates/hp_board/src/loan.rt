@@ -1,6 +1,7 @@
 //! Hooks that are lent, and that come back.
 
 ghost use Rattle.std.specs.Prelude.{◌≡◌};
+ghost use Rattle.hp_board.specs.Answered.{answer_of_loan};
 
 use hp_event::Key;
 use hp_hook::Hook;
@@ -21,22 +22,15 @@ pub struct Loan<H: Hook> {
 
 impl<H: Hook> Model for Loan<H> {
     ghost use Rattle.std.specs.Prelude.{◌<◌};
+    ghost use Rattle.hp_board.specs.Answered.{aside_of};
     ghost use Rattle.hp_event.specs.declared.aside.Aside.{Aside};
     ghost use Rattle.hp_states.specs.declared.limits.TheConstants.{MAX_EVENTS};
 
     ghost Value = { Aside };
 
-    ghost view = { λ l. record {
-      cpu = l.cpu;
-      key = l.key;
-      dir = l.dir;
-      base = H.made l.hook;
-      plan = H.plan l.hook;
-      seen = H.seen l.hook;
-      faults = H.faults l.hook;
-    } };
+    ghost view = { λ l. aside_of l.cpu l.key l.dir (H.counts l.hook) };
 
-    ghost invariant = { λ l. H.made l.hook < MAX_EVENTS };
+    ghost invariant = { λ l. (H.counts l.hook).made < MAX_EVENTS };
 }
 
 /// A hook that has answered the call that it was lent for.
@@ -55,31 +49,13 @@ pub struct Back<H: Hook> {
 
 impl<H: Hook> Model for Back<H> {
     ghost use Rattle.hp_event.specs.declared.aside.Aside.{Aside};
-    ghost use Rattle.hp_board.specs.Answered.{IsAnswered};
+    ghost use Rattle.hp_board.specs.Answered.{IsAnswered, aside_of};
 
     ghost Value = { Aside };
 
-    ghost view = { λ b. record {
-      cpu = b.cpu;
-      key = b.key;
-      dir = b.dir;
-      base = H.made b.was.value;
-      plan = H.plan b.was.value;
-      seen = H.seen b.was.value;
-      faults = H.faults b.was.value;
-    } };
+    ghost view = { λ b. aside_of b.cpu b.key b.dir (H.counts b.was.value) };
 
-    ghost invariant = { λ b. IsAnswered
-        (record {
-          cpu = b.cpu;
-          key = b.key;
-          dir = b.dir;
-          base = H.made b.was.value;
-          plan = H.plan b.was.value;
-          seen = H.seen b.was.value;
-          faults = H.faults b.was.value;
-        })
-        (H.plan b.hook) (H.seen b.hook) (H.made b.hook) (H.faults b.hook) b.answer };
+    ghost invariant = { λ b. IsAnswered (aside_of b.cpu b.key b.dir (H.counts b.was.value)) (H.counts b.hook) b.answer };
 }
 
 impl<H: Hook> Loan<H> {
@@ -104,5 +80,17 @@ impl<H: Hook> Loan<H> {
             dir,
             answer,
         }
+    }
+}
+
+impl<H: Hook> Back<H> {
+    /// What the hook answered: 0, or the code of a fault. Takes no memory.
+    ///
+    /// While the hook was away no call at its state was made, so that this is what the subsystem's plan
+    /// answers by the journal (`Board::sound`). That hooks are lent is this project's own.
+    pub fn answer(&self) -> u32
+        ensures { result ≡ answer_of_loan self.now }
+    {
+        self.answer
     }
 }

@@ -32,15 +32,13 @@ impl<H: Hook> Board<H> {
         requires { AllHome self.places }
         ensures head { IfOk result (λ journal. journal.head ≡ self.head) }
         ensures events { IfOk result (λ journal. journal.events ≡ self.events) }
-        ensures hooks { OnOk result (IsRacked
-            (λ h. record { plan = H.plan h; seen = H.seen h; made = H.made h; faults = H.faults h })
+        ensures hooks { OnOk result (IsRacked H.counts
             rack.old.hooks.items rack.new.hooks.items (hooks_of self.places)) }
-        ensures registered { OnOk result (registration self.events ≡ None → IsRacked
-            (λ h. record { plan = H.plan h; seen = H.seen h; made = H.made h; faults = H.faults h })
+        ensures registered { OnOk result (registration self.events ≡ None → IsRacked H.counts
             rack.old.hooks.items rack.new.hooks.items (registered_hooks self.head self.events)) }
         ensures made { OnOk result (registration self.events ≡ None →
-            map (λ h. H.made h) rack.new.hooks.items
-            ≡ map (λ h. H.made h) rack.old.hooks.items ++ calls_of_registered self.head self.events) }
+            map (λ h. (H.counts h).made) rack.new.hooks.items
+            ≡ map (λ h. (H.counts h).made) rack.old.hooks.items ++ calls_of_registered self.head self.events) }
         ensures err { IfErr result (λ refused. refused.1 ≡ self) }
         ensures rack { OnErr result (rack.new.hooks.items ≡ rack.old.hooks.items) }
     {
@@ -58,8 +56,7 @@ impl<H: Hook> Board<H> {
 fn move_hooks<H: Hook>(table: Table<H>, hooks: &mut Vec<H>)
     requires room { vec_len hooks.old + (ONLINE + 1) ≤ vec_capacity hooks.old }
     requires home { AllHome table }
-    ensures { IsRacked
-        (λ h. record { plan = H.plan h; seen = H.seen h; made = H.made h; faults = H.faults h })
+    ensures { IsRacked H.counts
         hooks.old.items hooks.new.items (hooks_of table) }
 {
     table.sound();
@@ -85,9 +82,7 @@ fn put<H: Hook>(hooks: &mut Vec<H>, hook: Option<H>)
 /// Takes the hook of a state out of a table, with its instances, if one is registered there.
 fn take_hook<H: Hook>(table: &mut Table<H>, state: u32) -> Option<H>
     requires { is_home (step_at table.old state) ≡ true }
-    ensures hook { IfSome result (λ h.
-        hook_at (step_at table.old state)
-        ≡ record { plan = H.plan h; seen = H.seen h; made = H.made h; faults = H.faults h } ∷ []) }
+    ensures hook { IfSome result (λ h. hook_at (step_at table.old state) ≡ H.counts h ∷ []) }
     ensures none { IfNone result (hook_at (step_at table.old state) ≡ []) }
     ensures others { (s : ℕ) → s ≢ state → step_at table.new s ≡ step_at table.old s }
 {

@@ -7,9 +7,9 @@ ghost use Rattle.hp_board.specs.Turns.{IsTurn, IsServed, IsNotYet, TakesRoom, tu
 ghost use Rattle.hp_ledger.specs.Entries.{entry_event};
 ghost use Rattle.hp_ledger.specs.Next.{IsKept};
 ghost use Rattle.hp_model.specs.Lent.{arms, arms_walker};
-ghost use Rattle.hp_table.specs.Step.{step_at, is_home, AllHome};
+ghost use Rattle.hp_table.specs.Step.{step_at, is_home, AllHome, HasCounted};
 ghost use Rattle.hp_event.specs.declared.event.Event.TheVariants.{Call};
-ghost use Rattle.hp_ledger.specs.TableChanges.{is_setup, registering_step, IsHookOf};
+ghost use Rattle.hp_ledger.specs.TableChanges.{is_setup, registering_step};
 ghost use Rattle.hp_model.specs.Events.{answer_by};
 ghost use Rattle.hp_model.specs.NextEvent.{next_event, due_entry};
 ghost use Rattle.hp_model.specs.Pending.{IsAllowed, IsInFlight};
@@ -79,8 +79,7 @@ impl<H: Hook> Board<H> {
             ask.new.hook ≡ ask.old.hook) }
         ensures handed { OnOk result (
             leaves_hook self.old.events (next_event self.old.head self.old.events by ask.old.op) ≡ false →
-            IfSome ask.new.hook (λ h. IfSome (registering_step (registration self.old.events) self.old.places)
-            (λ step. IsHookOf (H.plan h) (H.seen h) (H.made h) (H.faults h) step.kept))) }
+            IfSome ask.new.hook (λ h. HasCounted (H.counts h) (registering_step (registration self.old.events) self.old.places))) }
         ensures again { IfOk result (λ turn. goes_on turn ≡ true →
             is_some ask.new.hook ≡ has_hook self.new.events by ask.old.op) }
         ensures stays { OnOk result ((k : ℕ) → loan self.new k ≡ loan self.old k) }

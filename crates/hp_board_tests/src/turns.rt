@@ -20,13 +20,7 @@ pub(crate) struct Marked {
 }
 
 impl Hook for Marked {
-    ghost plan = { λ m. m.hook.plan };
-
-    ghost seen = { λ m. m.hook.seen };
-
-    ghost made = { λ m. m.hook.made };
-
-    ghost faults = { λ m. m.hook.faults };
+    ghost counts = { λ m. m.hook };
 
     fn load(&mut self, rules: HookPlan) {
         self.hook.load(rules);

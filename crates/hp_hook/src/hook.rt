@@ -1,9 +1,8 @@
 //! What a hook is.
 
-ghost use Rattle.std.specs.Prelude.{◌≡◌, ◌+◌, ◌<◌, ℕ, List, []};
-ghost use Rattle.hp_states.specs.declared.plan.Rule.{Rule};
-ghost use Rattle.hp_states.specs.Rules.{counted_answer, counts_of, raised, site_at};
-ghost use Rattle.hp_hook.specs.Counted.{faults_after};
+ghost use Rattle.std.specs.Prelude.{◌≡◌, ◌<◌};
+ghost use Rattle.hp_states.specs.Rules.{site_at};
+ghost use Rattle.hp_hook.specs.Counted.{Counts, answer_to, counted, loaded};
 
 use hp_states::{Dir, HookPlan, MAX_EVENTS};
 
@@ -14,24 +13,16 @@ use hp_states::{Dir, HookPlan, MAX_EVENTS};
 /// In the machine's terms it stands for the `startup` and `teardown` functions of a `cpuhp_step`
 /// (`core-api/cpu_hotplug.rst`); that it answers by a plan of rules is this project's own.
 pub trait Hook: Drop {
-    /// The rules by which it answers, in the order in which they are tried.
-    ghost plan: { Self → List Rule };
-    /// For each rule, how many calls it has matched since the plan was set.
-    ghost seen: { Self → List ℕ };
-    /// How many calls were made since the plan was set.
-    ghost made: { Self → ℕ };
-    /// How many of them were answered by another code than 0.
-    ghost faults: { Self → ℕ };
+    /// Its plan, for each rule how many calls it has matched since the plan was set, how many calls were
+    /// made since, and how many of them were answered by another code than 0.
+    ghost counts: { Self → Counts };
 
     /// Sets the plan, and begins all counts again at 0.
     ///
     /// There is no condition: any plan may be set at any time, and the one before is gone. Takes
     /// no memory. This project's own.
     fn load(&mut self, rules: HookPlan)
-        ensures plan { plan self.new ≡ rules }
-        ensures seen { seen self.new ≡ counts_of rules [] }
-        ensures made { made self.new ≡ 0 }
-        ensures faults { faults self.new ≡ 0 };
+        ensures { counts self.new ≡ loaded rules };
 
     /// One call, for a processor, an instance and a direction: the answer is 0 or a fault's code.
     ///
@@ -46,33 +37,23 @@ pub trait Hook: Drop {
     /// As in `cpuhp_invoke_callback` of `kernel/cpu.c`, 0 says that the callback succeeded; which
     /// calls fail is for the plan to say, which is this project's own.
     fn call(&mut self, cpu: u32, inst: u32, dir: Dir) -> u32
-        requires { made self.old < MAX_EVENTS }
-        ensures answer { let site = site_at cpu inst dir in
-            result ≡ counted_answer (plan self.old) (raised (plan self.old) (seen self.old) site) site }
-        ensures plan { plan self.new ≡ plan self.old }
-        ensures seen { seen self.new ≡ raised (plan self.old) (seen self.old) (site_at cpu inst dir) }
-        ensures made { made self.new ≡ made self.old + 1 }
-        ensures faults { faults self.new ≡ faults_after (faults self.old) result };
+        requires { (counts self.old).made < MAX_EVENTS }
+        ensures answer { result ≡ answer_to (counts self.old) (site_at cpu inst dir) }
+        ensures counted { counts self.new ≡ counted (counts self.old) (site_at cpu inst dir) };
 
     /// How many calls were made since the plan was set. Takes no memory. This project's own.
     fn made(&self) -> u64
-        ensures { result ≡ made self.now };
+        ensures { result ≡ (counts self.now).made };
 
     /// How many calls since the plan was set were answered by another code than 0. Takes no
     /// memory. This project's own.
     fn faults(&self) -> u64
-        ensures { result ≡ faults self.now };
+        ensures { result ≡ (counts self.now).faults };
 }
 
 /// A boxed hook is the hook in the box.
 impl Hook for Box<dyn Hook + Send> {
-    ghost plan = { λ b. (Hook-box b).plan b.value };
-
-    ghost seen = { λ b. (Hook-box b).seen b.value };
-
-    ghost made = { λ b. (Hook-box b).made b.value };
-
-    ghost faults = { λ b. (Hook-box b).faults b.value };
+    ghost counts = { λ b. (Hook-box b).counts b.value };
 
     fn load(&mut self, rules: HookPlan) {
         (**self).load(rules)

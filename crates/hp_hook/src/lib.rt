@@ -9,8 +9,8 @@
 //! counts of the rules that match the site are raised, and the answer is that of the raised counts.
 //! `answer_by_counts` of `hp_states` says what that means of all calls since the plan was set.
 //! `CountedPlan` is the plan with its counts as plain data, of which can be asked what would be
-//! answered next. `specs/Counted.antt` has the count of faults, and what is seen of a plan with
-//! counts and of a script's hook.
+//! answered next. `specs/Counted.antt` has what contracts see of every hook (`Counts`), what a hook
+//! that has counted so much answers, and what it has counted then.
 //!
 //! No call of a hook takes memory.
 #![tactic(auto)]

@@ -1,7 +1,8 @@
 //! The hook that answers by the rules of a script.
 
 ghost use Rattle.std.specs.Prelude.{◌≡◌, []};
-ghost use Rattle.hp_states.specs.Rules.{counted_answer, raised, site_at};
+ghost use Rattle.hp_states.specs.Rules.{site_at};
+ghost use Rattle.hp_hook.specs.Counted.{answer_to, loaded};
 
 use crate::counted_plan::CountedPlan;
 use crate::hook::Hook;
@@ -20,9 +21,9 @@ pub struct ScriptHook {
 }
 
 impl Model for ScriptHook {
-    ghost use Rattle.hp_hook.specs.Counted.{Kept};
+    ghost use Rattle.hp_hook.specs.Counted.{Counts};
 
-    ghost Value = { Kept };
+    ghost Value = { Counts };
 
     ghost view = { λ h. record {
       plan = h.counted.plan;
@@ -40,7 +41,7 @@ impl ScriptHook {
     /// The hook with no rules and all counts 0: it answers 0 to every call. Takes no memory. This
     /// project's own.
     pub fn new() -> ScriptHook
-        ensures { result ≡ record { plan = []; seen = []; made = 0; faults = 0 } }
+        ensures { result ≡ loaded [] }
     {
         ScriptHook {
             counted: CountedPlan::new(HookPlan::none()),
@@ -54,15 +55,14 @@ impl ScriptHook {
     ///
     /// There is no condition. Takes no memory, and time for at most 8 rules. This project's own.
     pub fn answer_to(&self, cpu: u32, inst: u32, dir: Dir) -> u32
-        ensures { let site = site_at cpu inst dir in
-            result ≡ counted_answer self.now.plan (raised self.now.plan self.now.seen site) site }
+        ensures { result ≡ answer_to self.now (site_at cpu inst dir) }
     {
         self.counted.answer_to(cpu, inst, dir)
     }
 }
 
 impl Default for ScriptHook {
-    ghost is_default = { λ h. h ≡ record { plan = []; seen = []; made = 0; faults = 0 } };
+    ghost is_default = { λ h. h ≡ loaded [] };
 
     /// The hook of `ScriptHook::new`.
     fn default() -> ScriptHook {
@@ -71,13 +71,7 @@ impl Default for ScriptHook {
 }
 
 impl Hook for ScriptHook {
-    ghost plan = { λ h. h.plan };
-
-    ghost seen = { λ h. h.seen };
-
-    ghost made = { λ h. h.made };
-
-    ghost faults = { λ h. h.faults };
+    ghost counts = { λ h. h };
 
     fn load(&mut self, rules: HookPlan) {
         self.counted = CountedPlan::new(rules);

@@ -18,6 +18,7 @@ use Rattle.hp_model.specs.Lawful.{Stands, IsLawful}
 use Rattle.hp_model.specs.StandsCalls.{Calls}
 use Rattle.hp_model.specs.Subsystems.{has_callback}
 use Rattle.hp_model.proofs.RoomKept.{event_fits}
+use Rattle.hp_hook.specs.Counted.{Counts}
 use Rattle.hp_table.specs.Kept.{answer_at}
 use Rattle.hp_table.specs.Step.{Step, step_at, called_step, changed_at}
 use Rattle.hp_ledger.specs.Table.{IsTableOf, IsStepOf}
@@ -65,7 +66,7 @@ no_callback Down = refl
 pub record CallsHook (head : Head) (es : List Event) (places : List (Option Step)) (seat c s i : ℕ) (d : Dir) (made : How) : Type 0 where
   pub step : Step
   pub there : step_at places s ≡ Some step
-  pub few : step.kept.made < MAX_EVENTS
+  pub few : step.kept.counts.made < MAX_EVENTS
   pub after : IsTableOf head (es ++ Call seat c s i d made ∷ []) (changed_at places s (called_step (site_at c i d)))
 
 pub calls_hook : (head : Head) (es : List Event) (places : List (Option Step)) (seat c s i : ℕ) (d : Dir) (made : How) → IsLawful head es →
@@ -84,7 +85,7 @@ calls_hook head es places seat c s i d made lawful t stands called = go (step_at
     go (Some step) is =
         let k : IsStepOf head es s step = rw is at (t.steps s) in
         let few = sites_few s es in
-        let made_is = k.made_is in
+        let made_is = ap (λ (x : Counts). x.made) k.counts_are in
         let how_is : made ≡ how_answered a.may_fail (answer_at step.kept (site_at c i d)) =
         a.how_is ∙ ap (how_answered a.may_fail) (sym (answers_there head es places c s i d step t is)) in
         record {

@@ -3,7 +3,7 @@ use Rattle.std.proofs.Common.{◌≡◌, ℕ, ◌+◌, ◌≤◌, Bool, true, fa
 use Rattle.std.proofs.lemmas.Bool.{eqb-true}
 use Rattle.std.proofs.lemmas.List.{length_push}
 use Rattle.hp_states.specs.declared.dir.Dir.{Dir}
-use Rattle.hp_states.specs.Rules.{Site, site_at, answer_of, raised, counted_answer}
+use Rattle.hp_states.specs.Rules.{Site, site_at, answer_of}
 use Rattle.hp_states.proofs.RuleCounts.{answer_of_raised}
 use Rattle.hp_event.specs.declared.op.Op.{Op}
 use Rattle.hp_event.specs.declared.op.Op.TheVariants.{Setup}
@@ -16,6 +16,7 @@ use Rattle.hp_model.specs.Journal.{over_from}
 use Rattle.hp_model.specs.Registered.{registered}
 use Rattle.hp_model.specs.Registrations.{Registration, registration}
 use Rattle.hp_model.specs.Subsystems.{sub_numbered, plan_of}
+use Rattle.hp_hook.specs.Counted.{Counts, answer_to}
 use Rattle.hp_table.specs.Kept.{Kept, answer_at}
 use Rattle.hp_table.specs.Step.{Step, step_at, kept_of}
 use Rattle.hp_ledger.specs.Table.{IsTableOf, IsStepOf, HasRegistration, registered_by, registered_meanwhile}
@@ -85,8 +86,7 @@ answers_there head es places c s i d step t some =
     let site : Site = site_at c i d in
     let k : IsStepOf head es s step = rw some at (t.steps s) in
     let sub = sub_there head es places s step t some ∙ k.sub_is in
-    ap (λ p. counted_answer p (raised p step.kept.seen site) site) k.plan_is
-    ∙ ap (λ n. counted_answer k.sub.plan (raised k.sub.plan n site) site) k.seen_is
+    ap (λ (x : Counts). answer_to x site) k.counts_are
     ∙ answer_of_raised k.sub.plan (sites s es) site
     ∙ ap (λ o. answer_of (plan_of o) (sites s es) site) (sym sub)
 

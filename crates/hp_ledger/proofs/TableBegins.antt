@@ -2,7 +2,7 @@
 use Rattle.std.proofs.Common.{◌≡◌, ◌≢◌, ℕ, ◌<◌, Bool, true, false, not, ◌||◌, cond, eqb, Option, Some, None, IfSome, List, [], ◌∷◌, ◌++◌, length, refl, sym, ap, ◌∙◌, subst, ⊎_elim}
 use Rattle.std.specs.Prelude.{slice_set}
 use Rattle.std.proofs.lemmas.Bool.{eq-eqb, ne_eqb, cases_eq, true≢false}
-use Rattle.hp_states.specs.Rules.{Site, counts_of}
+use Rattle.hp_states.specs.Rules.{Site}
 use Rattle.hp_event.specs.declared.op.Form.{Form}
 use Rattle.hp_event.specs.declared.op.Op.{Op}
 use Rattle.hp_event.specs.declared.op.Op.TheVariants.{Setup, Remove, Add, Del}
@@ -109,10 +109,7 @@ setup_begins head es places seat asked number state form sub idle t found vacant
         up_is = refl;
         down_is = refl;
         multi_is = refl;
-        plan_is = refl;
-        seen_is = ap (counts_of sub.plan) (sym forgotten);
-        made_is = ap length (sym forgotten);
-        faults_are = sym none;
+        counts_are = rw (forgotten, none) refl;
       };
       known = rw found refl;
     }
@@ -183,10 +180,7 @@ add_begins head es places seat asked state inst form step idle t some within mul
         up_is = k.up_is;
         down_is = k.down_is;
         multi_is = k.multi_is;
-        plan_is = k.plan_is;
-        seen_is = k.seen_is;
-        made_is = k.made_is;
-        faults_are = k.faults_are;
+        counts_are = k.counts_are;
       };
       known = tt;
     }

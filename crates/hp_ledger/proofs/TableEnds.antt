@@ -83,10 +83,7 @@ without_counted head es state inst step k = record {
   up_is = k.up_is;
   down_is = k.down_is;
   multi_is = k.multi_is;
-  plan_is = k.plan_is;
-  seen_is = k.seen_is;
-  made_is = k.made_is;
-  faults_are = k.faults_are;
+  counts_are = k.counts_are;
 }
 
 step_there : (head : Head) (es : List Event) (s : ℕ) (place : Option Step) (step : Step) → place ≡ Some step →

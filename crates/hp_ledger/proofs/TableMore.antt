@@ -3,7 +3,8 @@ use Rattle.std.proofs.Common.{◌≡◌, ℕ, zero, suc, ◌+◌, Bool, true, fa
 use Rattle.std.specs.Prelude.{slice_set}
 use Rattle.std.proofs.lemmas.Bool.{eq-eqb, eqb-true, ne_eqb}
 use Rattle.hp_states.specs.declared.dir.Dir.{Dir}
-use Rattle.hp_states.specs.Rules.{site_at, raised, counts_of}
+use Rattle.hp_states.specs.declared.plan.Rule.{Rule}
+use Rattle.hp_states.specs.Rules.{site_at}
 use Rattle.hp_states.proofs.RuleCounts.{raised_counts}
 use Rattle.hp_event.specs.declared.op.Op.{Op}
 use Rattle.hp_event.specs.declared.op.Op.TheVariants.{Setup, Remove, Add, Del}
@@ -19,6 +20,7 @@ use Rattle.hp_model.specs.How.{how_answered}
 use Rattle.hp_model.specs.Subsystems.{sub_numbered}
 use Rattle.hp_model.specs.Summary.{hook_faults, faults_step, is_hook_fault}
 use Rattle.hp_model.proofs.Laws.{over_from_push, registration_push, registered_push, sites_push}
+use Rattle.hp_hook.specs.Counted.{Counts, answer_to, counted}
 use Rattle.hp_table.specs.Kept.{answer_at}
 use Rattle.hp_table.specs.Step.{Step, step_at, called_step, changed_at}
 use Rattle.hp_table.proofs.Places.{step_at-set, within_places}
@@ -40,10 +42,7 @@ step_same head es fs s (Some step) same faults h = record {
   up_is = h.up_is;
   down_is = h.down_is;
   multi_is = h.multi_is;
-  plan_is = h.plan_is;
-  seen_is = h.seen_is ∙ ap (counts_of h.sub.plan) (sym same);
-  made_is = h.made_is ∙ ap length (sym same);
-  faults_are = h.faults_are ∙ sym faults;
+  counts_are = h.counts_are ∙ rw (same, faults) refl;
 }
 
 -- an event that calls no hook, and neither begins nor ends a registration
@@ -179,6 +178,11 @@ answered_called b zero = refl
 answered_called true (suc code) = refl
 answered_called false (suc code) = refl
 
+same_counts : (plan : List Rule) (seen new : List ℕ) (made more faults after : ℕ) → seen ≡ new → made ≡ more → faults ≡ after →
+    ◌≡◌ {A = Counts} (record { plan = plan; seen = seen; made = made; faults = faults })
+    (record { plan = plan; seen = new; made = more; faults = after })
+same_counts plan seen new made more faults after seen_is made_is faults_are = rw (seen_is, made_is, faults_are) refl
+
 -- the state's hook has counted the call
 step_called : (head : Head) (es : List Event) (seat c s i : ℕ) (d : Dir) (may_fail : Bool) (step : Step) → IsStepOf head es s step →
     IsStepOf head (es ++ Call seat c s i d (how_answered may_fail (answer_at step.kept (site_at c i d))) ∷ []) s
@@ -197,14 +201,11 @@ step_called head es seat c s i d may_fail step k =
       up_is = k.up_is;
       down_is = k.down_is;
       multi_is = k.multi_is;
-      plan_is = k.plan_is;
-      seen_is =
-          rw more
-          (ap (λ p. raised p step.kept.seen (site_at c i d)) k.plan_is
-          ∙ ap (λ ns. raised k.sub.plan ns (site_at c i d)) k.seen_is
-          ∙ raised_counts k.sub.plan (sites s es) (site_at c i d));
-      made_is = rw (more, length-append (sites s es) (site_at c i d ∷ [])) (ap (λ n. n + 1) k.made_is);
-      faults_are = ap (λ n. cond (eqb code 0) n (n + 1)) k.faults_are ∙ sym faults;
+      counts_are =
+          ap (λ (x : Counts). counted x (site_at c i d)) k.counts_are
+          ∙ rw (more, faults, length-append (sites s es) (site_at c i d ∷ []))
+          (same_counts _ _ _ _ _ _ _ (raised_counts k.sub.plan (sites s es) (site_at c i d)) refl
+          (ap (λ (x : Counts). cond (eqb (answer_to x (site_at c i d)) 0) (hook_faults s es) (hook_faults s es + 1)) (sym k.counts_are)));
     }
 
 has_called : (op : Op) (c i : ℕ) (d : Dir) (step : Step) → HasOf op step → HasOf op (called_step (site_at c i d) step)

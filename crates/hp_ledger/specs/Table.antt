@@ -3,6 +3,7 @@
 -- memory. After `cpuhp_store_callbacks` of `kernel/cpu.c`, which is called before the entries of a setup.
 use Rattle.std.specs.Prelude.{◌≡◌, ℕ, true, ◌==◌, if◌then◌else◌, Option, Some, None, IfSome, List, [], ◌∷◌, length}
 use Rattle.hp_states.specs.Rules.{counts_of}
+use Rattle.hp_states.specs.declared.plan.Rule.{Rule}
 use Rattle.hp_event.specs.declared.op.Op.{Op}
 use Rattle.hp_event.specs.declared.op.Op.TheVariants.{Setup, Remove, Add, Del}
 use Rattle.hp_event.specs.declared.head.Sub.{Sub}
@@ -14,6 +15,7 @@ use Rattle.hp_model.specs.Registered.{Registered, registered, without_inst}
 use Rattle.hp_model.specs.Calls.{sites, sub_at}
 use Rattle.hp_model.specs.Subsystems.{sub_numbered}
 use Rattle.hp_model.specs.Summary.{hook_faults}
+use Rattle.hp_hook.specs.Counted.{Counts}
 use Rattle.hp_table.specs.Instances.{is_among}
 use Rattle.hp_table.specs.Step.{Step, step_at}
 use Rattle.hp_reg.specs.Known.{IsKnown}
@@ -33,6 +35,16 @@ abbrev pub registered_meanwhile : Option Registration → (state : ℕ) → Opti
 registered_meanwhile None s place = registered_by place
 registered_meanwhile (Some r) s place = if r.state == s then registered_in_flight r.op place else registered_by place
 
+-- what a hook with this plan has counted of the calls at a state since the setup that registered it began
+abbrev pub counts_by : (plan : List Rule) → List Event → (state : ℕ) → Counts
+counts_by plan events s =
+    record {
+      plan = plan;
+      seen = counts_of plan (sites s events);
+      made = length (sites s events);
+      faults = hook_faults s events;
+    }
+
 -- What a state has is of a subsystem of the head: its callbacks, its plan, and whether it has instances. Its hook has
 -- counted the calls of the journal since the setup that registered it began.
 pub record IsStepOf (head : Head) (events : List Event) (state : ℕ) (step : Step) : Type 0 where
@@ -41,10 +53,7 @@ pub record IsStepOf (head : Head) (events : List Event) (state : ℕ) (step : St
   pub up_is : step.kept.up ≡ sub.up
   pub down_is : step.kept.down ≡ sub.down
   pub multi_is : step.kept.multi ≡ sub.multi
-  pub plan_is : step.kept.plan ≡ sub.plan
-  pub seen_is : step.kept.seen ≡ counts_of sub.plan (sites state events)
-  pub made_is : step.kept.made ≡ length (sites state events)
-  pub faults_are : step.kept.faults ≡ hook_faults state events
+  pub counts_are : step.kept.counts ≡ counts_by sub.plan events state
 
 -- what the state of a registration in flight has
 abbrev pub HasOf : Op → Step → Type 0

@@ -3,7 +3,7 @@
 -- the instance lists of `kernel/cpu.c`.
 use Rattle.std.specs.Prelude.{◌≡◌, ◌<◌, ℕ, Bool, true, false, not, ◌&&◌, if◌then◌else◌, Option, Some, None, IsSome, List, [], slice_set}
 use Rattle.hp_states.specs.declared.limits.TheConstants.{OFFLINE, ONLINE}
-use Rattle.hp_states.specs.Rules.{counts_of, site_at}
+use Rattle.hp_states.specs.Rules.{site_at}
 use Rattle.hp_event.specs.Ops.{is_adding}
 use Rattle.hp_event.specs.declared.op.Op.{Op}
 use Rattle.hp_event.specs.declared.op.Op.TheVariants.{Setup, Remove, Add, Del}
@@ -16,8 +16,8 @@ use Rattle.hp_event.specs.declared.head.Head.{Head}
 use Rattle.hp_event.specs.Heads.{sub_numbered}
 use Rattle.hp_model.specs.Registrations.{Registration, registration}
 use Rattle.hp_model.specs.Suspend.{is_ok}
+use Rattle.hp_hook.specs.Counted.{loaded}
 use Rattle.hp_table.specs.Kept.{Kept}
-pub use Rattle.hp_table.specs.Kept.{IsHookOf}
 use Rattle.hp_table.specs.Instances.{with_instance, without_instance, instances_of, instances_at, is_multi, is_multi_at, is_among, has_instance, CanAdd}
 use Rattle.hp_table.specs.Named.{is_named}
 use Rattle.hp_table.specs.Step.{Step, step_at, changed_at, called_step, bare}
@@ -31,10 +31,7 @@ new_record number sub =
       up = sub.up;
       down = sub.down;
       home = true;
-      plan = sub.plan;
-      seen = counts_of sub.plan [];
-      made = 0;
-      faults = 0;
+      counts = loaded sub.plan;
     }
 
 -- whether what an operation has in the table leaves it at its end

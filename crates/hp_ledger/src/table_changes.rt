@@ -9,8 +9,8 @@ ghost use Rattle.hp_model.specs.Needs.{need};
 ghost use Rattle.hp_model.specs.Registrations.{registration};
 ghost use Rattle.hp_table.specs.Instances.{instances_at};
 ghost use Rattle.hp_table.specs.Named.{is_named};
-ghost use Rattle.hp_table.specs.Step.{step_at, bare, is_home, AllHome};
-ghost use Rattle.hp_ledger.specs.TableChanges.{new_record, is_setup, takes_out, with_added, CanChange, without_left, taken_out, CanTakeOut, hands_out, IsHookOf, table_after, is_registering, brings_hook, hands_hook, registering_step};
+ghost use Rattle.hp_table.specs.Step.{step_at, bare, is_home, AllHome, HasCounted};
+ghost use Rattle.hp_ledger.specs.TableChanges.{new_record, is_setup, takes_out, with_added, CanChange, without_left, taken_out, CanTakeOut, hands_out, table_after, is_registering, brings_hook, hands_hook, registering_step};
 ghost use Rattle.hp_ledger.specs.Table.{IsTableOf};
 
 use crate::ledger::Ledger;
@@ -43,8 +43,7 @@ pub fn change_table<H: Hook>(
     ensures table { OnOk result (IsTableOf ledger.now.head (ledger.now.events ++ event ∷ []) table.new) }
     ensures hands { OnOk result (is_registering event ≡ true → is_some hook.new ≡ hands_hook ledger.now.events event) }
     ensures hook { OnOk result (is_registering event ≡ true →
-        IfSome hook.new (λ h. IfSome (registering_step (registration ledger.now.events) table.old)
-        (λ step. IsHookOf (H.plan h) (H.seen h) (H.made h) (H.faults h) step.kept))) }
+        IfSome hook.new (λ h. HasCounted (H.counts h) (registering_step (registration ledger.now.events) table.old))) }
     ensures left { OnOk result (is_registering event ≡ false → hook.new ≡ hook.old) }
     ensures err { OnErr result (table.new ≡ table.old) }
     ensures kept { OnErr result (hook.new ≡ hook.old) }
@@ -131,8 +130,7 @@ pub fn take_from_table<H: Hook>(
     requires home { is_home (step_at table.old state) ≡ true }
     ensures left { table.new ≡ without_left op answer state table.old }
     ensures handed { is_some result ≡ hands_out op answer }
-    ensures hook { IfSome result (λ h. IfSome (step_at table.old state) (λ step.
-        IsHookOf (H.plan h) (H.seen h) (H.made h) (H.faults h) step.kept)) }
+    ensures hook { IfSome result (λ h. HasCounted (H.counts h) (step_at table.old state)) }
 {
     if !takes_out(op, answer) {
         return None;
@@ -155,8 +153,7 @@ fn take_hook<H: Hook>(table: &mut Table<H>, state: u32) -> H
     requires no_instances { instances_at table.old state ≡ [] }
     requires home { is_home (step_at table.old state) ≡ true }
     ensures gone { table.new ≡ slice_set table.old state None }
-    ensures hook { IfSome (step_at table.old state) (λ step.
-        IsHookOf (H.plan result) (H.seen result) (H.made result) (H.faults result) step.kept) }
+    ensures hook { HasCounted (H.counts result) (step_at table.old state) }
 {
     match table.uninstall(state) {
         Ok(record) => record.into_hook(),

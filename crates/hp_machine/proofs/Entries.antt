@@ -25,7 +25,7 @@ use Rattle.hp_ledger.proofs.TableMore.{table_same, answered_called}
 pub record IsByHook (head : Head) (es : List Event) (places : List (Option Step)) (x : Entry) : Type 0 where
   pub step : Step
   pub there : step_at places x.key.state ≡ Some step
-  pub few : step.kept.made < MAX_EVENTS
+  pub few : step.kept.counts.made < MAX_EVENTS
   pub event_is : entry_made x (how_by x (answer_at step.kept (site_at x.cpu x.key.inst x.dir))) ≡ entry_event head es x
   pub changed_is :
       table_after head es (entry_event head es x) places

@@ -3,7 +3,6 @@ use Rattle.std.proofs.Common.{◌≡◌, ℕ, Bool, true, false, cond, eqb, Opti
 use Rattle.std.specs.Prelude.{slice_set}
 use mathlib.Core.Logic.{dite}
 use native.Mathlib.Decide.{ℕ_discrete}
-use Rattle.hp_states.specs.declared.plan.Rule.{Rule}
 use Rattle.hp_states.specs.Rules.{Site}
 use Rattle.hp_event.specs.declared.head.Head.{Head}
 use Rattle.hp_event.specs.declared.event.Event.{Event}
@@ -12,7 +11,7 @@ use Rattle.hp_event.specs.declared.op.Op.TheVariants.{Setup, Remove, Add, Del}
 use Rattle.hp_model.specs.Registered.{Registered, registered}
 use Rattle.hp_model.specs.Registrations.{Registration, registration}
 use Rattle.hp_reg.specs.Known.{IsKnown}
-use Rattle.hp_table.specs.Kept.{Kept, called, with_hook, IsHookOf}
+use Rattle.hp_hook.specs.Counted.{Counts, counted}
 use Rattle.hp_table.specs.Step.{Step, step_at, changed, changed_at, called_step, lent_step, step_with}
 use Rattle.hp_table.proofs.Places.{at_each, within_places, step_at-set_same, step_at-set_other}
 use Rattle.hp_ledger.specs.Table.{IsTableOf, IsStepOf, HasOf, HasRegistration, registered_by, registered_in_flight, registered_meanwhile}
@@ -40,10 +39,7 @@ step_lent head es s step of =
       up_is = of.up_is;
       down_is = of.down_is;
       multi_is = of.multi_is;
-      plan_is = of.plan_is;
-      seen_is = of.seen_is;
-      made_is = of.made_is;
-      faults_are = of.faults_are;
+      counts_are = of.counts_are;
     }
 
 has_lent : (op : Op) (step : Step) → HasOf op step → HasOf op (lent_step step)
@@ -109,16 +105,12 @@ table_lent head es places s step some t =
     subst (IsTableOf head es) (sym is) after
 
 -- a hook that comes home with one call more
-with_called : (kept : Kept) (site : Site) (plan : List Rule) (seen : List ℕ) (made faults : ℕ) →
-    IsHookOf plan seen made faults (called kept site) → with_hook plan seen made faults kept ≡ called kept site
-with_called kept site plan seen made faults h = rw (h.plan_is, h.seen_is, h.made_is, h.faults_are) refl
-
-pub restored : (places : List (Option Step)) (s : ℕ) (step : Step) (site : Site) (plan : List Rule) (seen : List ℕ) (made faults : ℕ) →
-    step_at places s ≡ Some step → IsHookOf plan seen made faults (called step.kept site) →
-    changed_at places s (step_with plan seen made faults) ≡ changed_at places s (called_step site)
-restored places s step site plan seen made faults some h =
-    ap (λ p. slice_set places s (changed (step_with plan seen made faults) p)) some
-    ∙ (ap (λ (k : Kept). slice_set places s (Some (record { kept = k; insts = step.insts }))) (with_called step.kept site plan seen made faults h)
+pub restored : (places : List (Option Step)) (s : ℕ) (step : Step) (site : Site) (counts : Counts) →
+    step_at places s ≡ Some step → counts ≡ counted step.kept.counts site →
+    changed_at places s (step_with counts) ≡ changed_at places s (called_step site)
+restored places s step site counts some more =
+    ap (λ (x : Counts). changed_at places s (step_with x)) more
+    ∙ (ap (λ p. slice_set places s (changed (step_with (counted step.kept.counts site)) p)) some
     ∙ sym (ap (λ p. slice_set places s (changed (called_step site) p)) some))
 
 -- where nothing is registered nothing is lent

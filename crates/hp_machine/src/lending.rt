@@ -1,8 +1,7 @@
 //! Hooks that are lent.
 
 ghost use Rattle.std.specs.Prelude.{◌≡◌, ◌↔◌, true, IfSome, IsSome};
-ghost use Rattle.hp_ledger.specs.TableChanges.{IsHookOf};
-ghost use Rattle.hp_table.specs.Step.{step_at, changed_at, lent_step, is_home};
+ghost use Rattle.hp_table.specs.Step.{step_at, changed_at, lent_step, is_home, HasCounted};
 
 use crate::machine::Machine;
 use hp_hook::Hook;
@@ -15,8 +14,7 @@ impl<H: Hook> Machine<H> {
     pub fn lend(&mut self, state: u32) -> Option<H>
         ensures some { IsSome result
             ↔ (IsSome (step_at self.old.places state) × (is_home (step_at self.old.places state) ≡ true)) }
-        ensures hook { IfSome result (λ h. IfSome (step_at self.old.places state)
-            (λ step. IsHookOf (H.plan h) (H.seen h) (H.made h) (H.faults h) step.kept)) }
+        ensures hook { IfSome result (λ h. HasCounted (H.counts h) (step_at self.old.places state)) }
         ensures lent { self.new ≡ record self.old { places = changed_at self.old.places state lent_step } }
     {
         self.table.lend(state)

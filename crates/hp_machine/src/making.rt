@@ -3,7 +3,7 @@
 ghost use Rattle.std.specs.Prelude.{◌≡◌, ◌+◌, ◌<◌, length, true, false, OnOk, OnErr, IfSome, IsSome, is_some};
 ghost use Rattle.hp_ledger.specs.Entries.{entry_event};
 ghost use Rattle.hp_ledger.specs.Ledger.{NoAdmission};
-ghost use Rattle.hp_ledger.specs.TableChanges.{is_registering, brings_hook, hands_hook, registering_step, IsHookOf};
+ghost use Rattle.hp_ledger.specs.TableChanges.{is_registering, brings_hook, hands_hook, registering_step};
 ghost use Rattle.hp_ledger.specs.declared.entry.Means.TheVariants.{Hook as ByHook};
 ghost use Rattle.hp_machine.specs.Contents.{with_event};
 ghost use Rattle.hp_model.specs.Events.{is_call};
@@ -13,8 +13,9 @@ ghost use Rattle.hp_model.specs.Promised.{promised};
 ghost use Rattle.hp_model.specs.Registrations.{registration};
 ghost use Rattle.hp_states.specs.Rules.{site_at};
 ghost use Rattle.hp_states.specs.declared.limits.TheConstants.{MAX_EVENTS};
-ghost use Rattle.hp_table.specs.Kept.{answer_at, called};
-ghost use Rattle.hp_table.specs.Step.{step_at, is_home, AllHome};
+ghost use Rattle.hp_hook.specs.Counted.{counted};
+ghost use Rattle.hp_table.specs.Kept.{answer_at};
+ghost use Rattle.hp_table.specs.Step.{step_at, is_home, AllHome, HasCounted};
 
 use crate::machine::Machine;
 use hp_event::{Event, JournalError};
@@ -39,8 +40,7 @@ impl<H: Hook> Machine<H> {
         ensures made { OnOk result (self.new ≡ with_event self.old event) }
         ensures hands { OnOk result (is_registering event ≡ true → is_some hook.new ≡ hands_hook self.old.events event) }
         ensures hook { OnOk result (is_registering event ≡ true →
-            IfSome hook.new (λ h. IfSome (registering_step (registration self.old.events) self.old.places)
-            (λ step. IsHookOf (H.plan h) (H.seen h) (H.made h) (H.faults h) step.kept))) }
+            IfSome hook.new (λ h. HasCounted (H.counts h) (registering_step (registration self.old.events) self.old.places))) }
         ensures left { OnOk result (is_registering event ≡ false → hook.new ≡ hook.old) }
         ensures err { OnErr result ((self.new ≡ self.old) × (hook.new ≡ hook.old)) }
         ensures memory { OnErr result (IsSome (need_of self.old.head self.old.events event)) }
@@ -86,8 +86,7 @@ impl<H: Hook> Machine<H> {
         requires by_hook { entry.now.means ≡ ByHook }
         requires lent { is_home (step_at self.old.places entry.now.key.state) ≡ false }
         requires back { IfSome (step_at self.old.places entry.now.key.state) (λ step.
-            IsHookOf (H.plan hook) (H.seen hook) (H.made hook) (H.faults hook)
-            (called step.kept (site_at entry.now.cpu entry.now.key.inst entry.now.dir))) }
+            H.counts hook ≡ counted step.kept.counts (site_at entry.now.cpu entry.now.key.inst entry.now.dir)) }
         requires answer { IfSome (step_at self.old.places entry.now.key.state) (λ step.
             answer ≡ answer_at step.kept (site_at entry.now.cpu entry.now.key.inst entry.now.dir)) }
         ensures { self.new ≡ with_event self.old (entry_event self.old.head self.old.events entry.now) }

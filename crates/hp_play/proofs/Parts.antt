@@ -3,7 +3,7 @@ use Rattle.std.proofs.Common.{◌≡◌, ℕ, ◌<◌, Option, List, take, lengt
 use Rattle.std.specs.Io.KnownBytes.{append_known}
 use Rattle.hp_command.specs.declared.command.Command.{Command}
 use Rattle.hp_command.specs.Commands.{IsCommand}
-use Rattle.hp_hook.specs.Counted.{Kept as Counts}
+use Rattle.hp_hook.specs.Counted.{Counts}
 use Rattle.hp_play.specs.Main.{Answer, IsUsage, IsAnswer, WritesPart, usage_line}
 
 pub part_of : (answer : Answer) (words : List (List ℕ)) (hooks : ℕ) (rack : List Counts) (left now taken taken_now : Option (List ℕ))

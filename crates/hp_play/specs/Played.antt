@@ -2,7 +2,7 @@
 use Rattle.std.specs.Prelude.{◌≡◌, ℕ, min, None, List, ◌++◌, length}
 use Rattle.hp_event.specs.declared.event.Event.{Event}
 use Rattle.hp_board.specs.Retired.{registered_hooks}
-use Rattle.hp_hook.specs.Counted.{Kept as Counts}
+use Rattle.hp_hook.specs.Counted.{Counts}
 use Rattle.hp_model.specs.Lawful.{IsLawful}
 use Rattle.hp_model.specs.Headline.{Headline}
 use Rattle.hp_model.specs.MapLock.{operation}

@@ -28,7 +28,7 @@ pub fn output_of<S: Source, H: Hook>(
     requires faults { S.faults source.old < u64.MAX }
     requires ranges { HasRanges command }
     ensures done { IfOk result (λ text. IsDoneBy command (length rack.old.hooks.items)
-        (map (λ h. record { plan = H.plan h; seen = H.seen h; made = H.made h; faults = H.faults h }) rack.new.hooks.items)
+        (map H.counts rack.new.hooks.items)
         (S.left source.old) (S.left source.new) text.items) }
     ensures faults { OnOk result (S.faults source.new ≡ S.faults source.old) }
     ensures stop { IfErr result (Stops command (length rack.old.hooks.items)
@@ -55,7 +55,7 @@ fn script_played<S: Source, H: Hook>(
 ) -> Result<Vec<u8>, Stop>
     requires { S.faults source.old < u64.MAX }
     ensures played { IfOk result (λ text. IsScriptPlayed of (length rack.old.hooks.items)
-        (map (λ h. record { plan = H.plan h; seen = H.seen h; made = H.made h; faults = H.faults h }) rack.new.hooks.items)
+        (map H.counts rack.new.hooks.items)
         (S.left source.old) (S.left source.new) text.items) }
     ensures faults { OnOk result (S.faults source.new ≡ S.faults source.old) }
     ensures stop { IfErr result (StopsScript (length rack.old.hooks.items)
@@ -75,7 +75,7 @@ fn text_of_script<H: Hook>(
     rack: &mut Rack<H>,
 ) -> Result<Vec<u8>, Stop>
     ensures played { IfOk result (λ text. IsPlayed of (length rack.old.hooks.items)
-        (map (λ h. record { plan = H.plan h; seen = H.seen h; made = H.made h; faults = H.faults h }) rack.new.hooks.items)
+        (map H.counts rack.new.hooks.items)
         bytes.now text.items) }
     ensures stop { IfErr result (Refuses (length rack.old.hooks.items) bytes.now) }
 {

@@ -26,7 +26,7 @@ pub fn play<H: Hook>(
     requires script { IsScript script.now.head script.now.actors }
     requires hooks { sum_by setups_in script.now.actors ≤ length rack.old.hooks.items }
     ensures { IfOk result (λ text. WasPlayed of script.now (length rack.old.hooks.items)
-        (map (λ h. record { plan = H.plan h; seen = H.seen h; made = H.made h; faults = H.faults h }) rack.new.hooks.items)
+        (map H.counts rack.new.hooks.items)
         text.items) }
 {
     let mut run = Run::start(alloc, script, rack)?;

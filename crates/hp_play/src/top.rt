@@ -97,19 +97,19 @@ pub fn hp_main<S: Source, K: Sink, H: Hook>(
     // What is written under 0, 1, 2 and 6.
     ensures done { result ≡ DONE → Writes Answer.done (map string_bytes words.now.items)
         (length rack.old.hooks.items)
-        (map (λ h. record { plan = H.plan h; seen = H.seen h; made = H.made h; faults = H.faults h }) rack.new.hooks.items)
+        (map H.counts rack.new.hooks.items)
         (S.left source.old) (S.left source.new) (K.taken sink.old) (K.taken sink.new) }
     ensures bad_words { result ≡ BAD_WORDS → Writes Answer.usage (map string_bytes words.now.items)
         (length rack.old.hooks.items)
-        (map (λ h. record { plan = H.plan h; seen = H.seen h; made = H.made h; faults = H.faults h }) rack.new.hooks.items)
+        (map H.counts rack.new.hooks.items)
         (S.left source.old) (S.left source.new) (K.taken sink.old) (K.taken sink.new) }
     ensures bad_script { result ≡ BAD_SCRIPT → Writes Answer.refusal (map string_bytes words.now.items)
         (length rack.old.hooks.items)
-        (map (λ h. record { plan = H.plan h; seen = H.seen h; made = H.made h; faults = H.faults h }) rack.new.hooks.items)
+        (map H.counts rack.new.hooks.items)
         (S.left source.old) (S.left source.new) (K.taken sink.old) (K.taken sink.new) }
     ensures bad_journal { result ≡ BAD_JOURNAL → Writes Answer.bad_journal (map string_bytes words.now.items)
         (length rack.old.hooks.items)
-        (map (λ h. record { plan = H.plan h; seen = H.seen h; made = H.made h; faults = H.faults h }) rack.new.hooks.items)
+        (map H.counts rack.new.hooks.items)
         (S.left source.old) (S.left source.new) (K.taken sink.old) (K.taken sink.new) }
 
     // A fault has its cause in the object that failed.
@@ -117,7 +117,7 @@ pub fn hp_main<S: Source, K: Sink, H: Hook>(
         × (S.faults source.new ≡ S.faults source.old + 1) × (K.taken sink.new ≡ K.taken sink.old) }
     ensures write_fault { result ≡ WRITE_FAULT → (K.faults sink.new ≡ K.faults sink.old + 1)
         × WritesPart (map string_bytes words.now.items) (length rack.old.hooks.items)
-        (map (λ h. record { plan = H.plan h; seen = H.seen h; made = H.made h; faults = H.faults h }) rack.new.hooks.items)
+        (map H.counts rack.new.hooks.items)
         (S.left source.old) (S.left source.new) (K.taken sink.old) (K.taken sink.new) }
     ensures no_memory { result ≡ NO_MEMORY → K.taken sink.new ≡ K.taken sink.old }
     ensures source_faults { result ≢ READ_FAULT → S.faults source.new ≡ S.faults source.old }

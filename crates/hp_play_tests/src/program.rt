@@ -62,13 +62,7 @@ struct SharedHook {
 }
 
 impl Hook for SharedHook {
-    ghost plan = { λ h. h.inner.plan };
-
-    ghost seen = { λ h. h.inner.seen };
-
-    ghost made = { λ h. h.inner.made };
-
-    ghost faults = { λ h. h.inner.faults };
+    ghost counts = { λ h. h.inner };
 
     fn load(&mut self, rules: HookPlan) {
         self.inner.load(rules)

@@ -1,8 +1,9 @@
 -- What contracts see of the table: a place for each state, from the lowest on, with what is registered there. After
 -- `cpuhp_hp_states` of `kernel/cpu.c`, an array of `struct cpuhp_step`.
-use Rattle.std.specs.Prelude.{◌≡◌, ℕ, Bool, true, Option, Some, None, List, [], slice_get, slice_set}
+use Rattle.std.specs.Prelude.{◌≡◌, ℕ, Bool, true, Option, Some, None, IfSome, List, [], slice_get, slice_set}
 use Rattle.hp_states.specs.Rules.{Site}
 use Rattle.hp_states.specs.declared.plan.Rule.{Rule}
+use Rattle.hp_hook.specs.Counted.{Counts}
 use Rattle.hp_table.specs.Kept.{Kept, called, loaded, lent, with_hook}
 
 -- what is registered at a state: the record, and the instances, newest first
@@ -48,9 +49,13 @@ loaded_step plan step = record { kept = loaded step.kept plan; insts = step.inst
 abbrev pub lent_step : Step → Step
 lent_step step = record { kept = lent step.kept; insts = step.insts }
 
--- a step that has a hook with these four parts
-abbrev pub step_with : (plan : List Rule) (seen : List ℕ) (made faults : ℕ) → Step → Step
-step_with plan seen made faults step = record { kept = with_hook plan seen made faults step.kept; insts = step.insts }
+-- a step whose hook is there, having counted this
+abbrev pub step_with : Counts → Step → Step
+step_with counts step = record { kept = with_hook counts step.kept; insts = step.insts }
+
+-- a hook that has counted this is that of what is registered
+abbrev pub HasCounted : Counts → Option Step → Type 0
+HasCounted counts place = IfSome place (λ step. counts ≡ step.kept.counts)
 
 -- whether the hook of what is registered is there; where nothing is there is none to miss
 abbrev pub is_home : Option Step → Bool

@@ -10,7 +10,7 @@ key_total places = sum_by keys_of places
 -- how often the hook of a place was called
 abbrev pub made_at : Option Step → List ℕ
 made_at None = []
-made_at (Some step) = step.kept.made ∷ []
+made_at (Some step) = step.kept.counts.made ∷ []
 
 -- and those of all places, in rising state
 abbrev pub made_of : List (Option Step) → List ℕ

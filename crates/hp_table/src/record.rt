@@ -1,7 +1,7 @@
 //! What is installed at a state.
 
 ghost use Rattle.std.specs.Prelude.{◌≡◌, ◌↔◌, true, false, IfSome, IsSome};
-ghost use Rattle.hp_table.specs.Kept.{lent, with_hook, IsHookOf};
+ghost use Rattle.hp_table.specs.Kept.{lent, with_hook};
 
 use hp_hook::Hook;
 use std::marker::Model;
@@ -10,8 +10,9 @@ use std::snapshot::Snapshot;
 /// What is installed at a state: a subsystem, which callbacks it has, and the hook that stands for
 /// them.
 ///
-/// Contracts see it as plain data: the fields, with the plan and the counts of the hook in the
-/// hook's place. Of a hook that is lent they see these as it was lent. After the fields of `struct cpuhp_step` of `kernel/cpu.c`.
+/// Contracts see it as plain data: the fields, with what the hook has counted in the hook's place.
+/// Of a hook that is lent they see this as it was lent. After the fields of `struct cpuhp_step` of
+/// `kernel/cpu.c`.
 #[derive(Drop)]
 pub struct Record<H: Hook> {
     /// The number of the subsystem, from 1.
@@ -29,8 +30,8 @@ pub struct Record<H: Hook> {
 }
 
 impl<H: Hook> Model for Record<H> {
-    ghost use Rattle.std.specs.Prelude.{is_some, []};
-    ghost use Rattle.hp_table.specs.Kept.{Kept, of_hook};
+    ghost use Rattle.std.specs.Prelude.{is_some};
+    ghost use Rattle.hp_table.specs.Kept.{Kept, counts_of_hook};
 
     ghost Value = { Kept };
 
@@ -40,10 +41,7 @@ impl<H: Hook> Model for Record<H> {
       up = r.up;
       down = r.down;
       home = is_some r.hook;
-      plan = of_hook H.plan r.hook r.was [];
-      seen = of_hook H.seen r.hook r.was [];
-      made = of_hook H.made r.hook r.was 0;
-      faults = of_hook H.faults r.hook r.was 0;
+      counts = counts_of_hook H.counts r.hook r.was;
     } };
 }
 
@@ -57,10 +55,7 @@ impl<H: Hook> Record<H> {
               up = up;
               down = down;
               home = true;
-              plan = H.plan hook;
-              seen = H.seen hook;
-              made = H.made hook;
-              faults = H.faults hook;
+              counts = H.counts hook;
             } }
     {
         Record {
@@ -76,7 +71,7 @@ impl<H: Hook> Record<H> {
     /// The hook, which is there. Takes no memory.
     pub fn home_hook(&self) -> &H
         requires { self.now.home ≡ true }
-        ensures { IsHookOf (H.plan result.now) (H.seen result.now) (H.made result.now) (H.faults result.now) self.now }
+        ensures { H.counts result.now ≡ self.now.counts }
     {
         match &self.hook {
             Some(hook) => hook,
@@ -87,7 +82,7 @@ impl<H: Hook> Record<H> {
     /// The hook, which is there, given back. Takes no memory.
     pub fn into_hook(self) -> H
         requires { self.home ≡ true }
-        ensures { IsHookOf (H.plan result) (H.seen result) (H.made result) (H.faults result) self }
+        ensures { H.counts result ≡ self.counts }
     {
         let Record { hook, .. } = self;
         match hook {
@@ -106,7 +101,7 @@ impl<H: Hook> Record<H> {
     /// Lends the hook, if it is there. Takes no memory.
     pub(crate) fn lend(&mut self) -> Option<H>
         ensures some { IsSome result ↔ (self.old.home ≡ true) }
-        ensures hook { IfSome result (λ h. IsHookOf (H.plan h) (H.seen h) (H.made h) (H.faults h) self.old) }
+        ensures hook { IfSome result (λ h. H.counts h ≡ self.old.counts) }
         ensures lent { self.new ≡ lent self.old }
     {
         let hook = self.hook.take()?;
@@ -117,7 +112,7 @@ impl<H: Hook> Record<H> {
     /// Takes a hook, in place of the one that is lent. Takes no memory.
     pub(crate) fn restore(&mut self, hook: H)
         requires { self.old.home ≡ false }
-        ensures { self.new ≡ with_hook (H.plan hook) (H.seen hook) (H.made hook) (H.faults hook) self.old }
+        ensures { self.new ≡ with_hook (H.counts hook) self.old }
     {
         self.hook = Some(hook);
     }

@@ -3,7 +3,7 @@
 ghost use Rattle.std.specs.Prelude.{◌≡◌, ◌<◌, ◌≤◌, ◌↔◌, true, false, Some, IsSome, IfSome, OnOk, OnErr, IfErr, length, slice_index};
 ghost use Rattle.hp_states.specs.declared.limits.TheConstants.{MAX_INSTANCES};
 ghost use Rattle.hp_states.specs.Rules.{site_at};
-ghost use Rattle.hp_table.specs.Kept.{answer_at, IsHookOf};
+ghost use Rattle.hp_table.specs.Kept.{answer_at};
 ghost use Rattle.hp_table.specs.Step.{bare, called_step, loaded_step, lent_step, step_with};
 ghost use Rattle.hp_table.specs.Instances.{with_instance, without_instance};
 ghost use Rattle.hp_table.specs.Keys.{insts_of, keys_of};
@@ -123,7 +123,7 @@ impl<H: Hook> Registered<H> {
     /// Calls the hook.
     pub fn call(&mut self, cpu: u32, inst: u32, dir: Dir) -> u32
         requires home { self.old.kept.home ≡ true }
-        requires few { self.old.kept.made < MAX_EVENTS }
+        requires few { self.old.kept.counts.made < MAX_EVENTS }
         ensures answer { result ≡ answer_at self.old.kept (site_at cpu inst dir) }
         ensures called { self.new ≡ called_step (site_at cpu inst dir) self.old }
     {
@@ -147,7 +147,7 @@ impl<H: Hook> Registered<H> {
     /// Lends the hook, if it is there.
     pub fn lend(&mut self) -> Option<H>
         ensures some { IsSome result ↔ (self.old.kept.home ≡ true) }
-        ensures hook { IfSome result (λ h. IsHookOf (H.plan h) (H.seen h) (H.made h) (H.faults h) self.old.kept) }
+        ensures hook { IfSome result (λ h. H.counts h ≡ self.old.kept.counts) }
         ensures lent { self.new ≡ lent_step self.old }
     {
         self.record.lend()
@@ -156,7 +156,7 @@ impl<H: Hook> Registered<H> {
     /// Takes a hook, in place of the one that is lent.
     pub fn restore(&mut self, hook: H)
         requires { self.old.kept.home ≡ false }
-        ensures { self.new ≡ step_with (H.plan hook) (H.seen hook) (H.made hook) (H.faults hook) self.old }
+        ensures { self.new ≡ step_with (H.counts hook) self.old }
     {
         self.record.restore(hook);
     }

@@ -3,8 +3,8 @@
 ghost use Rattle.std.specs.Prelude.{◌≡◌, ◌≢◌, ◌+◌, ◌<◌, ◌≤◌, ◌↔◌, ◌⊎◌, ◌&&◌, Some, None, true, false, IfOk, IfErr, IfSome, IsOk, IsErrOf, IsSome, IsTrue, OnOk, OnErr, [], slice_set, replicate};
 ghost use Rattle.std.specs.Option.{option_copied};
 ghost use Rattle.hp_states.specs.Rules.{site_at};
-ghost use Rattle.hp_table.specs.Kept.{answer_at, IsHookOf};
-ghost use Rattle.hp_table.specs.Step.{step_at, bare, changed_at, kept_of, called_step, loaded_step, lent_step, step_with, is_home};
+ghost use Rattle.hp_table.specs.Kept.{answer_at};
+ghost use Rattle.hp_table.specs.Step.{step_at, bare, changed_at, kept_of, called_step, loaded_step, lent_step, step_with, is_home, HasCounted};
 ghost use Rattle.hp_table.specs.Named.{is_named};
 ghost use Rattle.hp_table.specs.Slots.{IsLowestFree, IsFull};
 ghost use Rattle.hp_table.specs.Instances.{instances_at};
@@ -202,7 +202,7 @@ impl<H: Hook> Table<H> {
     pub fn call(&mut self, state: u32, cpu: u32, inst: u32, dir: Dir) -> u32
         requires registered { IsSome (step_at self.old state) }
         requires home { is_home (step_at self.old state) ≡ true }
-        requires few { IfSome (step_at self.old state) (λ step. step.kept.made < MAX_EVENTS) }
+        requires few { IfSome (step_at self.old state) (λ step. step.kept.counts.made < MAX_EVENTS) }
         ensures answer { IfSome (step_at self.old state) (λ step.
             result ≡ answer_at step.kept (site_at cpu inst dir)) }
         ensures called { self.new ≡ changed_at self.old state (called_step (site_at cpu inst dir)) }
@@ -249,8 +249,7 @@ impl<H: Hook> Table<H> {
     pub fn lend(&mut self, state: u32) -> Option<H>
         ensures some { IsSome result
             ↔ (IsSome (step_at self.old state) × (is_home (step_at self.old state) ≡ true)) }
-        ensures hook { IfSome result (λ h. IfSome (step_at self.old state)
-            (λ step. IsHookOf (H.plan h) (H.seen h) (H.made h) (H.faults h) step.kept)) }
+        ensures hook { IfSome result (λ h. HasCounted (H.counts h) (step_at self.old state)) }
         ensures lent { self.new ≡ changed_at self.old state lent_step }
     {
         if self.registered(state).is_none() {
@@ -263,8 +262,7 @@ impl<H: Hook> Table<H> {
     fn take_hook(&mut self, state: u32) -> Option<H>
         requires { IsSome (step_at self.old state) }
         ensures some { IsSome result ↔ (is_home (step_at self.old state) ≡ true) }
-        ensures hook { IfSome result (λ h. IfSome (step_at self.old state)
-            (λ step. IsHookOf (H.plan h) (H.seen h) (H.made h) (H.faults h) step.kept)) }
+        ensures hook { IfSome result (λ h. HasCounted (H.counts h) (step_at self.old state)) }
         ensures lent { self.new ≡ changed_at self.old state lent_step }
     {
         match &mut self.places[state as usize] {
@@ -280,8 +278,7 @@ impl<H: Hook> Table<H> {
     pub fn restore(&mut self, state: u32, hook: H)
         requires registered { IsSome (step_at self.old state) }
         requires lent { is_home (step_at self.old state) ≡ false }
-        ensures { self.new
-            ≡ changed_at self.old state (step_with (H.plan hook) (H.seen hook) (H.made hook) (H.faults hook)) }
+        ensures { self.new ≡ changed_at self.old state (step_with (H.counts hook)) }
     {
         match &mut self.places[state as usize] {
             Some(step) => step.restore(hook),

@@ -12,6 +12,6 @@ invariant-loop-state g l =
       room : vec_len l.hooks + (ONLINE + 1) ≤ vec_capacity l.hooks + l.state;
       racked :
           IsRacked
-          (λ h. record { plan = g.H.Hook.plan h; seen = g.H.Hook.seen h; made = g.H.Hook.made h; faults = g.H.Hook.faults h })
+          g.H.Hook.counts
           l.fn.hooks.items l.hooks.items (hooks_of (take l.state l.fn.table));
     }

@@ -30,9 +30,9 @@ returns g c =
       journal = journal_of script events c.requires.script run c.rests.ensures.operation c.rests.ensures.registration;
       last_hooks =
           subst (λ (h : Head).
-          EndsWith (map (λ h. record { plan = g.H.Hook.plan h; seen = g.H.Hook.seen h; made = g.H.Hook.made h; faults = g.H.Hook.faults h }) c.finish.new.rack.hooks.items)
+          EndsWith (map g.H.Hook.counts c.finish.new.rack.hooks.items)
           (registered_hooks h events)) head
-          (ends_with (λ h. record { plan = g.H.Hook.plan h; seen = g.H.Hook.seen h; made = g.H.Hook.made h; faults = g.H.Hook.faults h })
+          (ends_with g.H.Hook.counts
           c.finish.new.rack.hooks.items (registered_hooks c.play.new.self.head events) c.in_ok-finish.ensures.last);
       no_hook_lost =
           length-map c.finish.new.rack.hooks.items _

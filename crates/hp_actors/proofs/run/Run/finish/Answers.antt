@@ -18,7 +18,7 @@ returns-in-Ok g c =
     subst (λ (p : Position). registration p.progress.events ≡ None) (sym c.self.view_is) c.rests.ensures.registration in
     let r = c.in-Ok.ensures.registered free in
     let retired = racked_counted
-    (λ h. record { plan = g.H.Hook.plan h; seen = g.H.Hook.seen h; made = g.H.Hook.made h; faults = g.H.Hook.faults h })
+    g.H.Hook.counts
     c.give_back-given.new.rack.hooks.items c.retire.new.rack.hooks.items c.self.inside.board.places c.in-Ok.ensures.hooks in
     let held = c.self.invariant.playing.held in
     let setups = ap (λ (p : Position). sum_by setups_in p.actors) c.self.view_is in

@@ -2,14 +2,15 @@ use Rattle.std.proofs.Common.{◌≡◌, ◌∙◌, Some, IfSome, refl, ap, sym,
 use Rattle.hp_event.specs.declared.aside.Aside.{Aside}
 use Rattle.hp_states.specs.Rules.{site_at}
 use Rattle.hp_model.proofs.DueGives.{due_stands}
-use Rattle.hp_table.specs.Kept.{answer_at, called, IsHookOf}
+use Rattle.hp_hook.specs.Counted.{counted}
+use Rattle.hp_table.specs.Kept.{answer_at}
 use Rattle.hp_table.specs.Step.{Step, called_step, is_home, AllHome}
 use Rattle.hp_machine.proofs.Entries.{by_hook}
 use Rattle.hp_ledger.specs.Entries.{entry_event}
 use Rattle.hp_board.specs.Answered.{IsAnswered}
 use Rattle.hp_board.specs.Contents.{Contents, with_event}
 use Rattle.hp_board.specs.Loans.{AreOut, loan}
-use Rattle.hp_board.proofs.Loans.{lent_by, given_home, came_back, by_hook_of, nothing_due, none_out}
+use Rattle.hp_board.proofs.Loans.{lent_by, given_home, by_hook_of, nothing_due, none_out}
 use Rattle.hp_board.proofs.board.Board.give.Goals as goal
 
 pub unreachable-requires : goal.unreachable-requires
@@ -48,11 +49,10 @@ make_answered-requires-clause-back g c =
     (subst (λ (b : Contents). loan b c.args.by ≡ Some c.args.back) (sym c.self.view_is) c.requires) in
     let hook = c.back.inside.hook in
     let answered =
-    subst (λ (a : Aside). IsAnswered a (g.H.Hook.plan hook) (g.H.Hook.seen hook) (g.H.Hook.made hook) (g.H.Hook.faults hook) c.back.inside.answer)
+    subst (λ (a : Aside). IsAnswered a (g.H.Hook.counts hook) c.back.inside.answer)
     (c.back.view_is ∙ is.aside_is) c.back.invariant in
-    let back = came_back is.step.kept x.cpu x.key.state x.key.inst x.dir _ _ _ _ _ answered in
-    subst (λ o. IfSome o (λ (step : Step). IsHookOf (g.H.Hook.plan hook) (g.H.Hook.seen hook) (g.H.Hook.made hook)
-    (g.H.Hook.faults hook) (called step.kept (site_at x.cpu x.key.inst x.dir)))) (sym is.there) back.0
+    subst (λ o. IfSome o (λ (step : Step). g.H.Hook.counts hook ≡ counted step.kept.counts (site_at x.cpu x.key.inst x.dir)))
+    (sym is.there) answered.counts_are
 
 pub make_answered-requires-clause-answer : goal.make_answered-requires-clause-answer
 make_answered-requires-clause-answer g c =
@@ -63,10 +63,9 @@ make_answered-requires-clause-answer g c =
     (subst (λ (b : Contents). loan b c.args.by ≡ Some c.args.back) (sym c.self.view_is) c.requires) in
     let hook = c.back.inside.hook in
     let answered =
-    subst (λ (a : Aside). IsAnswered a (g.H.Hook.plan hook) (g.H.Hook.seen hook) (g.H.Hook.made hook) (g.H.Hook.faults hook) c.back.inside.answer)
+    subst (λ (a : Aside). IsAnswered a (g.H.Hook.counts hook) c.back.inside.answer)
     (c.back.view_is ∙ is.aside_is) c.back.invariant in
-    let back = came_back is.step.kept x.cpu x.key.state x.key.inst x.dir _ _ _ _ _ answered in
-    subst (λ o. IfSome o (λ (step : Step). c.back.inside.answer ≡ answer_at step.kept (site_at x.cpu x.key.inst x.dir))) (sym is.there) back.1
+    subst (λ o. IfSome o (λ (step : Step). c.back.inside.answer ≡ answer_at step.kept (site_at x.cpu x.key.inst x.dir))) (sym is.there) answered.answer_is
 
 pub invariant_of-self : goal.invariant_of-self
 invariant_of-self g c =

@@ -2,13 +2,14 @@ use Rattle.std.proofs.Common.{◌≡◌, ◌<◌, ◌∙◌, Some, None, IsSome,
 use Rattle.std.proofs.lemmas.Bool.{false≢true}
 use Rattle.hp_states.specs.declared.limits.TheConstants.{MAX_EVENTS}
 use Rattle.hp_model.proofs.DueGives.{due_stands}
-use Rattle.hp_table.specs.Kept.{IsHookOf}
+use Rattle.hp_hook.specs.Counted.{Counts}
 use Rattle.hp_table.specs.Step.{Step, step_at}
 use Rattle.hp_ledger.specs.Entries.{entry_event}
+use Rattle.hp_board.specs.Answered.{aside_of}
 use Rattle.hp_board.specs.Contents.{Contents}
 use Rattle.hp_board.specs.Loans.{AreOut, loan}
 use Rattle.hp_machine.proofs.Entries.{IsByHook, by_hook}
-use Rattle.hp_board.proofs.Loans.{hook_is, out_by, lent_out, lent_aside, same_aside, home_of_entry}
+use Rattle.hp_board.proofs.Loans.{hook_is, out_by, lent_out, lent_aside, home_of_entry}
 use Rattle.hp_board.proofs.board.Board.lend.Goals as goal
 use Rattle.hp_board.proofs.board.Board.lend.Goals.{After-lend, In-Some}
 use Rattle.hp_board.proofs.board.Board.lend.Given as given
@@ -27,9 +28,8 @@ invariant_of-result g c =
     let at = goal.at.invariant_of-result g c in
     let h = found g at.After-lend in
     let hook =
-    subst (λ o. IfSome o (λ (step : Step). IsHookOf (g.H.Hook.plan c.in-Some.hook) (g.H.Hook.seen c.in-Some.hook) (g.H.Hook.made c.in-Some.hook)
-    (g.H.Hook.faults c.in-Some.hook) step.kept)) h.there c.in-Some.ensures.hook in
-    subst (λ n. n < MAX_EVENTS) (sym hook.made_is) h.few
+    subst (λ o. IfSome o (λ (step : Step). g.H.Hook.counts c.in-Some.hook ≡ step.kept.counts)) h.there c.in-Some.ensures.hook in
+    subst (λ n. n < MAX_EVENTS) (sym (ap (λ (x : Counts). x.made) hook)) h.few
 
 pub unreachable-requires : goal.unreachable-requires
 unreachable-requires g c =
@@ -62,8 +62,7 @@ returns-clause-lent g c =
     let x = c.in_ok-entry.entry in
     let b = c.self.inside.machine in
     let hook =
-    subst (λ o. IfSome o (λ (step : Step). IsHookOf (g.H.Hook.plan c.in-Some.hook) (g.H.Hook.seen c.in-Some.hook) (g.H.Hook.made c.in-Some.hook)
-    (g.H.Hook.faults c.in-Some.hook) step.kept)) h.there c.in-Some.ensures.hook in
+    subst (λ o. IfSome o (λ (step : Step). g.H.Hook.counts c.in-Some.hook ≡ step.kept.counts)) h.there c.in-Some.ensures.hook in
     let aside = lent_aside b c.args.by x h.step c.in_ok-entry.ensures h.there
-    ∙ ap Some (same_aside x.cpu x.key.state x.key.inst x.dir h.step.kept _ _ _ _ hook) in
+    ∙ ap (λ (n : Counts). Some (aside_of x.cpu x.key x.dir n)) (sym hook) in
     ap (λ (z : Contents). loan z c.args.by) c.lend.ensures.lent ∙ aside

@@ -27,17 +27,17 @@ returns-clause-registered g c = λ rest.
     let at = subst (λ (b : Contents). registration b.events ≡ None) (sym c.self.view_is) rest in
     subst
     (λ (b : Contents).
-    IsRacked (λ h. record { plan = g.H.Hook.plan h; seen = g.H.Hook.seen h; made = g.H.Hook.made h; faults = g.H.Hook.faults h })
+    IsRacked g.H.Hook.counts
     c.args.rack.now.hooks.items c.move_hooks.new.hooks.items (registered_hooks b.head b.events))
     c.self.view_is
     (retired_as_registered
-    (λ h. record { plan = g.H.Hook.plan h; seen = g.H.Hook.seen h; made = g.H.Hook.made h; faults = g.H.Hook.faults h })
+    g.H.Hook.counts
     c.args.rack.now.hooks.items c.try_reserve.new.self.items c.move_hooks.new.hooks.items l.head l.events c.self.inside.machine.places
     c.sound.ensures.table c.sound.ensures.places.states at c.try_reserve.ensures.items
-    (subst (λ p. IsRacked (λ h. record { plan = g.H.Hook.plan h; seen = g.H.Hook.seen h; made = g.H.Hook.made h; faults = g.H.Hook.faults h })
+    (subst (λ p. IsRacked g.H.Hook.counts
     c.try_reserve.new.self.items c.move_hooks.new.hooks.items (hooks_of p)) c.into_parts-journal.ensures.table c.move_hooks.ensures))
 
 pub returns-clause-made : goal.returns-clause-made
 returns-clause-made g c = λ rest.
-    retired_made (λ h. record { plan = g.H.Hook.plan h; seen = g.H.Hook.seen h; made = g.H.Hook.made h; faults = g.H.Hook.faults h })
+    retired_made g.H.Hook.counts
     c.args.rack.now.hooks.items c.move_hooks.new.hooks.items c.args.self.head c.args.self.events (returns-clause-registered g c rest)

@@ -1,6 +1,7 @@
 use Rattle.std.proofs.Common.{◌≡◌, ◌∙◌, ap, sym, subst}
 use Rattle.std.specs.Option.{option_copied}
-use Rattle.hp_states.specs.Rules.{site_at, counted_answer, raised}
+use Rattle.hp_states.specs.Rules.{site_at}
+use Rattle.hp_hook.specs.Counted.{Counts, answer_to}
 use Rattle.hp_table.specs.Kept.{answer_at}
 use Rattle.hp_model.specs.How.{answer_at as answer_of_plan}
 use Rattle.hp_ledger.proofs.HookAnswers.{kept_answers, unkept_answers}
@@ -25,11 +26,9 @@ returns-in-Some c =
     let is =
     kept_answers l.head l.events c.self.inside.machine.places x.cpu x.key.state x.key.inst x.dir c.in-Some.record.now c.sound.ensures.table there in
     let site = site_at x.cpu x.key.inst x.dir in
-    let h = c.home_hook.ensures in
     let same : c.answer_to.result ≡ answer_at c.in-Some.record.now site =
     c.answer_to.ensures
-    ∙ (ap (λ p. counted_answer p (raised p c.home_hook.result.now.seen site) site) h.plan_is
-    ∙ ap (λ n. counted_answer c.in-Some.record.now.plan (raised c.in-Some.record.now.plan n site) site) h.seen_is) in
+    ∙ ap (λ (n : Counts). answer_to n site) c.home_hook.ensures in
     let by_hook = same ∙ is in
     subst (λ (t : Taken). c.answer_to.result ≡ answer_of_plan t.head t.events x.cpu x.key.state x.key.inst x.dir) c.self.view_is by_hook
 

@@ -1,7 +1,8 @@
 use Rattle.std.proofs.Common.{◌≡◌, ◌∙◌, IfSome, ap, sym, subst}
 use Rattle.hp_states.specs.Rules.{site_at}
 use Rattle.hp_model.specs.Lawful.{Stands}
-use Rattle.hp_table.specs.Kept.{answer_at, called, IsHookOf}
+use Rattle.hp_hook.specs.Counted.{counted}
+use Rattle.hp_table.specs.Kept.{answer_at}
 use Rattle.hp_table.specs.Step.{Step, step_at}
 use Rattle.hp_ledger.specs.Entries.{entry_event, entry_made, how_by}
 use Rattle.hp_ledger.specs.Table.{IsTableOf}
@@ -28,11 +29,10 @@ home g c =
     let there = ap (λ (m : Contents). step_at m.places x.key.state) (sym c.self.view_is) ∙ h.there in
     let answer = subst (λ o. IfSome o (λ (step : Step). c.args.answer ≡ answer_at step.kept site)) there c.requires.answer in
     let back =
-    subst (λ o. IfSome o (λ (step : Step). IsHookOf (g.H.Hook.plan c.args.hook) (g.H.Hook.seen c.args.hook) (g.H.Hook.made c.args.hook)
-    (g.H.Hook.faults c.args.hook) (called step.kept site))) there c.requires.back in
+    subst (λ o. IfSome o (λ (step : Step). g.H.Hook.counts c.args.hook ≡ counted step.kept.counts site)) there c.requires.back in
     let same = c.event.ensures ∙ (ap (entry_made x) c.how.ensures ∙ (ap (λ n. entry_made x (how_by x n)) answer ∙ h.event_is)) in
     let changed : c.restore.new.self ≡ table_after l.head l.events e table =
-    c.restore.ensures ∙ (restored table x.key.state h.step site _ _ _ _ h.there back ∙ sym h.changed_is) in
+    c.restore.ensures ∙ (restored table x.key.state h.step site _ h.there back ∙ sym h.changed_is) in
     makes l table c.restore.new.self e c.event.result c.self.invariant stands same changed
     (subst (IsTableOf l.head (with_event (seen l table) e).events) (sym changed) h.after)
 

@@ -30,7 +30,7 @@ call-answer-requires-clause-registered g c =
 pub call-answer-requires-clause-few : goal.call-answer-requires-clause-few
 call-answer-requires-clause-few g c =
     let h = there g (goal.at.call-answer-requires-clause-few g c).In-Hook in
-    subst (λ o. IfSome o (λ (step : Step). step.kept.made < MAX_EVENTS)) (sym h.there) h.few
+    subst (λ o. IfSome o (λ (step : Step). step.kept.counts.made < MAX_EVENTS)) (sym h.there) h.few
 
 called : (g : given.Over) (c : After-event g) → IsByHook c.self.inside.ledger.head c.self.inside.ledger.events c.self.inside.table c.args.entry.now →
     Makes c.self.inside.ledger c.self.inside.table c.call-answer.new.self

@@ -24,12 +24,12 @@ invariant_of-self g c =
     let places : List (Option Step) = c.self.inside.places.items in
     let some : IsSome (step_at places c.args.state) = rw c.self.view_is c.requires.registered in
     let there : step_at places c.args.state ≡ Some c.in-Some.step = found_there places c.args.state _ _ some c.index_mut.ensures.value c.in-Some.is in
-    subst (λ xs. IsCounted xs c.self.inside.count) (sym (written places c.args.state (step_with _ _ _ _) _ _ there c.restore.ensures))
-    (counted_kept places c.args.state c.self.inside.count (step_with _ _ _ _) _ there refl refl c.self.invariant)
+    subst (λ xs. IsCounted xs c.self.inside.count) (sym (written places c.args.state (step_with _) _ _ there c.restore.ensures))
+    (counted_kept places c.args.state c.self.inside.count (step_with _) _ there refl refl c.self.invariant)
 
 pub returns : goal.returns
 returns g c =
     let places : List (Option Step) = c.self.inside.places.items in
     let some : IsSome (step_at places c.args.state) = rw c.self.view_is c.requires.registered in
     let there : step_at places c.args.state ≡ Some c.in-Some.step = found_there places c.args.state _ _ some c.index_mut.ensures.value c.in-Some.is in
-    rw (← c.self.view_is) (written places c.args.state (step_with _ _ _ _) _ _ there c.restore.ensures)
+    rw (← c.self.view_is) (written places c.args.state (step_with _) _ _ there c.restore.ensures)
