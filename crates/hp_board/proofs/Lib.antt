@@ -1,5 +1,4 @@
 pub mod TurnsMade
-pub mod Admitted
 pub mod Busy
 pub mod HooksRetired
 pub mod AskAgain
@@ -9,3 +8,4 @@ pub mod Loans
 pub mod Waiting
 pub mod Homes
 pub mod LoansStay
+pub mod HookOuts

@@ -67,6 +67,19 @@ not_mine b by s o away nothing same =
     let due = subst (λ k. due_entry b.head b.events k ≡ Some (Call o.seat o.cpu s o.inst o.dir o.how)) same o.due in
     lent_at o.cpu o.inst s o.dir (step_at b.places s) away (sym (ap (λ e. loan_of e b.places) due) ∙ nothing)
 
+-- while an entry is due from a seat, none is from any other
+pub due_other : (b : Contents) (by k : ℕ) (e : Event) → IsLawful b.head b.events → due_entry b.head b.events by ≡ Some e → k ≢ by →
+    due_entry b.head b.events k ≡ None
+due_other b by k e lawful due other = go (due_entry b.head b.events k) refl
+  where
+    go : (o : Option Event) → due_entry b.head b.events k ≡ o → o ≡ None
+    go None is = refl
+    go (Some f) is =
+        let same = due_alone b.head b.events by k e f lawful due is in
+        let by_is : seat_of e ≡ by = (due_stands b.head b.events by e due).2 in
+        let k_is : seat_of f ≡ k = (due_stands b.head b.events k f is).2 in
+        absurd (other (sym k_is ∙ (sym (ap seat_of same) ∙ by_is)))
+
 -- nobody else makes an entry meanwhile
 pub other_entry : (b : Contents) (by s : ℕ) (o : IsOutFor b.head b.events s) (e : Event) → IsLawful b.head b.events →
     is_home (step_at b.places s) ≡ false → loan b by ≡ None → Stands b.head b.events e → is_call e ≡ true → seat_of e ≡ by → ⊥

@@ -4,7 +4,6 @@ pub mod Loans
 pub mod Turns
 pub mod Hooks
 pub mod HookCount
-pub mod Admission
 pub mod Starts
 pub mod Retired
 pub mod Again

@@ -42,10 +42,14 @@ abbrev pub goes_on : Turn → Bool
 goes_on (Answered at answer) = false
 goes_on _ = true
 
--- what it waits for: where the next entry is a thread's to make, that its hook comes home if that is lent; and a write of
--- `fail` that can stand waits for the hook of an entry in the middle of the processor's walk
+-- the hook of a state is lent, and the operation waits for it: where the next entry is a thread's to make, that its hook comes home; and
+-- a write of `fail` that can stand, the hook of an entry in the middle of the processor's walk
+abbrev pub IsHookOut : (state seat : ℕ) → Op → Contents → Type 0
+IsHookOut s k op b = (is_home (step_at b.places s) ≡ false) × (WaitsForThread b k op ⊎ WaitsToArm b k op)
+
+-- what it waits for
 abbrev pub IsNotYet : (seat : ℕ) → Op → Contents → Why → Type 0
-IsNotYet k op b (HookOut s) = (is_home (step_at b.places s) ≡ false) × (WaitsForThread b k op ⊎ WaitsToArm b k op)
+IsNotYet k op b (HookOut s) = IsHookOut s k op b
 IsNotYet k op b (ApTurn cpu) = IsKept b.head b.events k op (ApTurn cpu) × AllHome b.places
 IsNotYet k op b why = IsKept b.head b.events k op why
 

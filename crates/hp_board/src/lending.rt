@@ -1,6 +1,6 @@
 //! Hooks lent and given back.
 
-ghost use Rattle.std.specs.Prelude.{◌≡◌, ◌↔◌, true, None, Some, IfSome, IfNone, IsSome, is_some};
+ghost use Rattle.std.specs.Prelude.{◌≡◌, ◌≢◌, ◌↔◌, ℕ, true, None, Some, IfSome, IfNone, IsSome, is_some};
 ghost use Rattle.hp_board.specs.Loans.{loan, asks_hook, is_hook};
 ghost use Rattle.hp_board.specs.Turns.{IsServed};
 ghost use Rattle.hp_board.specs.declared.turn.Turn.TheVariants.{Made};
@@ -41,14 +41,15 @@ impl<H: Hook> Board<H> {
     /// can be called outside then, and `give` makes the entry by its answer.
     ///
     /// Nothing is lent to the seat. None exactly where no entry is due from it that a hook's answer makes;
-    /// then nothing has changed. Makes no event, and takes no memory. After `cpuhp_thread_fun` of
-    /// `kernel/cpu.c`; that hooks are lent is this project's own.
+    /// then nothing has changed. What is lent to other seats stays so. Makes no event, and takes no memory.
+    /// After `cpuhp_thread_fun` of `kernel/cpu.c`; that hooks are lent is this project's own.
     pub fn lend(&mut self, by: u32) -> Option<Loan<H>>
         requires { loan self.old by ≡ None }
         ensures some { IsSome result ↔ (asks_hook (due_entry self.old.head self.old.events by) ≡ true) }
         ensures lent { IfSome result (λ l. loan self.new by ≡ Some l) }
         ensures events { (self.new.head ≡ self.old.head) × (self.new.events ≡ self.old.events) }
         ensures none { IfNone result (self.new ≡ self.old) }
+        ensures stays { (k : ℕ) → k ≢ by → loan self.new k ≡ loan self.old k }
     {
         self.machine.sound();
         let entry = self.machine.due(by)?;
@@ -69,11 +70,14 @@ impl<H: Hook> Board<H> {
     /// Puts a hook home that was lent to a seat, makes the entry by its answer, and answers the place of
     /// the event.
     ///
-    /// What is lent to the seat is what comes back. Takes no memory. After `cpuhp_thread_fun` of
-    /// `kernel/cpu.c`; that hooks are lent is this project's own.
+    /// What is lent to the seat is what comes back; nothing is lent to it then, and what is lent to other
+    /// seats stays so. Takes no memory. After `cpuhp_thread_fun` of `kernel/cpu.c`; that hooks are lent is
+    /// this project's own.
     pub fn give(&mut self, by: u32, back: Back<H>) -> u32
         requires { loan self.old by ≡ Some back }
-        ensures { IsServed by self.old self.new (Made result) }
+        ensures served { IsServed by self.old self.new (Made result) }
+        ensures home { loan self.new by ≡ None }
+        ensures stays { (k : ℕ) → k ≢ by → loan self.new k ≡ loan self.old k }
     {
         let Back {
             hook,

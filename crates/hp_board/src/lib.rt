@@ -26,9 +26,9 @@ mod start;
 mod states;
 mod turn;
 
-pub use admission::AdmitError;
 pub use board::Board;
 pub use hook_laws::{admit_keeps_hooks, leave_keeps_hooks, serve_keeps_hooks, turn_keeps_hooks};
+pub use hp_machine::AdmitError;
 pub use laws::{
     allowed_again, answers_ok, full_has_no_event, others_keep, serve_keeps_others, setup_goes_on,
     stays_busy, turn_keeps_others, walk_ends_ok,

@@ -1,15 +1,17 @@
 //! Turns.
 
-ghost use Rattle.std.specs.Prelude.{◌≡◌, ◌↔◌, ℕ, true, IsTrue, None, Some, IfOk, IfSome, IfNone, OnOk, OnErr, false, is_some};
+ghost use Rattle.std.specs.Prelude.{◌≡◌, ◌↔◌, ℕ, true, IsTrue, None, Some, Ok, IfOk, IfSome, IfNone, OnOk, OnErr, false, is_some};
 ghost use Rattle.hp_board.specs.Hooks.{has_hook, has_hook_after, leaves_hook};
 ghost use Rattle.hp_board.specs.Loans.{loan, IsOutFor, IsCalm};
-ghost use Rattle.hp_board.specs.Turns.{IsTurn, IsServed, IsNotYet, TakesRoom, turn_by, goes_on};
+ghost use Rattle.hp_board.specs.Turns.{IsTurn, IsServed, IsNotYet, IsHookOut, TakesRoom, turn_by, goes_on};
+ghost use Rattle.hp_board.specs.declared.turn.Turn.TheVariants.{NotYet};
 ghost use Rattle.hp_ledger.specs.Entries.{entry_event};
 ghost use Rattle.hp_ledger.specs.Next.{IsKept};
 ghost use Rattle.hp_model.specs.Lent.{arms, arms_walker};
 ghost use Rattle.hp_table.specs.Step.{step_at, is_home, AllHome, HasCounted};
 ghost use Rattle.hp_event.specs.declared.event.Event.TheVariants.{Call};
 ghost use Rattle.hp_ledger.specs.TableChanges.{is_setup, registering_step};
+ghost use Rattle.hp_locks.specs.declared.why.Why.TheVariants.{HookOut};
 ghost use Rattle.hp_model.specs.Events.{answer_by};
 ghost use Rattle.hp_model.specs.NextEvent.{next_event, due_entry};
 ghost use Rattle.hp_model.specs.Pending.{IsAllowed, IsInFlight};
@@ -57,15 +59,15 @@ impl<H: Hook> Board<H> {
     /// - `Made` where the operation goes on.
     /// - `Answered` where that event answers it: by a refusal, by its end, or by the one event that it is.
     ///   With no place, and LogFull, where there is no room for its first event.
-    /// - `NotYet` where the operation, which isn't refused and has room, waits for this. Where a thread has
-    ///   to make the next entry and its hook is lent, and where a write of `fail` can stand and a hook is
-    ///   lent for an entry of the processor's walk, that is `HookOut`.
+    /// - `NotYet` where the operation, which isn't refused and has room, waits for this. That is `HookOut`
+    ///   exactly where a thread has to make the next entry and its hook is lent, and where a write of `fail`
+    ///   can stand and a hook is lent for an entry of the processor's walk.
     /// - `NoMemory` where memory was wanting for a first event or for the begin of a walk.
     ///
     /// The begin of a setup takes its hook, loaded with the subsystem's plan. A setup that is answered
     /// otherwise than Ok has its hook in `ask` then, and a remove that is answered Ok the state's. Where
-    /// nothing was made nothing has changed, the ask neither. What is lent to other seats stays so. After the calls of `kernel/cpu.c`; that each
-    /// goes on by one event at a time is this project's own.
+    /// nothing was made nothing has changed, the ask neither. What is lent to other seats stays so. After the
+    /// calls of `kernel/cpu.c`; that each goes on by one event at a time is this project's own.
     pub fn turn(&mut self, by: u32, ask: &mut Ask<H>) -> Result<Turn, NoMemory>
         requires allowed { IsAllowed self.old.head self.old.events (record { seat = by; op = ask.old.op }) }
         requires hook { is_some ask.old.hook ≡ has_hook self.old.events by ask.old.op }
@@ -82,7 +84,8 @@ impl<H: Hook> Board<H> {
             IfSome ask.new.hook (λ h. HasCounted (H.counts h) (registering_step (registration self.old.events) self.old.places))) }
         ensures again { IfOk result (λ turn. goes_on turn ≡ true →
             is_some ask.new.hook ≡ has_hook self.new.events by ask.old.op) }
-        ensures stays { OnOk result ((k : ℕ) → loan self.new k ≡ loan self.old k) }
+        ensures stays { (k : ℕ) → loan self.new k ≡ loan self.old k }
+        ensures hook_out { (s : ℕ) → IsHookOut s by ask.old.op self.old ↔ (result ≡ Ok (NotYet (HookOut s))) }
         ensures err { OnErr result ((self.new ≡ self.old) × (ask.new ≡ ask.old)) }
         ensures memory { OnErr result (TakesRoom self.old.head self.old.events
             (next_event self.old.head self.old.events by ask.old.op)) }

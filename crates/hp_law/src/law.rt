@@ -2,7 +2,6 @@
 
 ghost use Rattle.std.specs.Prelude.{◌≡◌, ◌↔◌, ◌++◌, ◌∷◌, [], true, false, IsTrue, IfOk, OnOk, OnErr, length, is_some};
 ghost use Rattle.hp_ledger.specs.TableChanges.{brings_hook};
-ghost use Rattle.hp_event.specs.declared.event.Event.TheVariants.{Admit};
 ghost use Rattle.hp_model.specs.Heads.{IsHead};
 ghost use Rattle.hp_model.specs.How.{answer_at};
 ghost use Rattle.hp_model.specs.Lawful.{Stands};
@@ -18,7 +17,7 @@ use hp_event::{Event, Head, Journal, Op, Role};
 use hp_hook::ScriptHook;
 use hp_ledger::{Entry, Next, names_sub};
 use hp_machine::Machine;
-use hp_states::{MAX_SEATS, NoMemory};
+use hp_states::NoMemory;
 use std::alloc::Global;
 use std::marker::Model;
 
@@ -130,7 +129,7 @@ impl Law {
     {
         self.machine.sound();
         match *event {
-            Event::Admit { role, .. } => match self.machine.admit(role) {
+            Event::Admit { role, .. } => match self.machine.let_in(role) {
                 Ok(_) => Ok(()),
                 Err(NoMemory) => Err(NoMemory),
             },
@@ -151,7 +150,7 @@ impl Law {
     {
         self.machine.sound();
         match *event {
-            Event::Admit { seat, role } => self.comes_in(seat, role).then_some(2),
+            Event::Admit { seat, role } => self.machine.can_admit(seat, role).then_some(2),
             Event::Leave { seat } => self.machine.can_leave(seat).then_some(0),
             Event::Call { seat, .. } => match self.due(seat) {
                 Some(entry) => same(&entry, event).then_some(0),
@@ -159,21 +158,6 @@ impl Law {
             },
             _ => self.comes_next(event),
         }
-    }
-
-    /// Whether a seat can come in: its number is the next and below `MAX_SEATS`, there is room for it and
-    /// for its leave, and as a thread it is the only one of a present processor.
-    fn comes_in(&self, seat: u32, role: Role) -> bool
-        ensures { IsTrue result ↔ Stands self.now.head self.now.events (Admit seat role) }
-    {
-        let sits = match role {
-            Role::Client => true,
-            Role::Ap(cpu) => {
-                let head = self.machine.journal().head();
-                head.is_present(cpu) && self.machine.thread(cpu).is_none()
-            }
-        };
-        seat == self.machine.admitted() && seat < MAX_SEATS && sits && self.machine.room() >= 2
     }
 
     /// The entry that is due from a seat, as it is made.

@@ -1,3 +1,4 @@
+pub mod Admitted
 pub mod Entries
 pub mod LentTable
 pub mod Made

@@ -1,7 +1,8 @@
 //! Seats that come in and leave.
 
-ghost use Rattle.std.specs.Prelude.{◌≡◌, ◌↔◌, IsTrue, IfOk, OnOk, OnErr, length};
+ghost use Rattle.std.specs.Prelude.{◌≡◌, ◌≢◌, ◌↔◌, IsTrue, None, Some, IfOk, IfErr, OnOk, OnErr, length};
 ghost use Rattle.hp_event.specs.declared.event.Event.TheVariants.{Admit, Leave};
+ghost use Rattle.hp_machine.specs.Admission.{refusal_of};
 ghost use Rattle.hp_machine.specs.Contents.{with_event};
 ghost use Rattle.hp_model.specs.Lawful.{Stands};
 ghost use Rattle.hp_model.specs.Seats.{admits};
@@ -10,14 +11,93 @@ use crate::machine::Machine;
 use crate::making::reserve;
 use hp_event::{Event, Role};
 use hp_hook::Hook;
-use hp_states::NoMemory;
+use hp_states::{MAX_SEATS, NoMemory};
+
+/// Why a seat isn't let in.
+#[derive(Clone, Copy, Debug, PartialEq, Eq)]
+pub enum AdmitError {
+    /// `MAX_SEATS` seats were admitted: numbers aren't used again.
+    Full,
+    /// The processor of the thread is absent or no possible one.
+    NotPresent,
+    /// A thread of the processor is in.
+    ApTaken,
+    /// The journal has no room for the seat and its leave.
+    LogFull,
+    /// Memory was wanting.
+    NoMemory,
+}
 
 impl<H: Hook> Machine<H> {
-    /// Lets the next seat in, with this role, and answers its number.
+    /// Lets a seat in with this role, and answers its number, which is the next one.
     ///
-    /// The admission stands. Takes memory; where that is wanting nothing has changed: `NoMemory`. Seats are
-    /// this project's own.
-    pub fn admit(&mut self, role: Role) -> Result<u32, NoMemory>
+    /// The first of these that holds decides:
+    /// - `Full` exactly where `MAX_SEATS` seats were admitted before.
+    /// - `NotPresent` exactly for the thread of a processor that is absent or impossible.
+    /// - `ApTaken` exactly where a thread of its processor is in.
+    /// - `LogFull` exactly where the journal hasn't room for the admission and the seat's leave.
+    /// - `NoMemory` where none of these holds and memory was wanting.
+    ///
+    /// After a refusal nothing has changed. Takes memory. Seats are this project's own; that each
+    /// processor has one hotplug thread is that of `kernel/cpu.c`.
+    pub fn admit(&mut self, role: Role) -> Result<u32, AdmitError>
+        ensures seat { IfOk result (λ seat. seat ≡ admits self.old.events) }
+        ensures ok { OnOk result (self.new ≡ with_event self.old (Admit (admits self.old.events) role)) }
+        ensures free { OnOk result (refusal_of self.old.head self.old.events role ≡ None) }
+        ensures refused { IfErr result (λ error. error ≢ AdmitError.NoMemory →
+            refusal_of self.old.head self.old.events role ≡ Some error) }
+        ensures no_memory { IfErr result (λ error. error ≡ AdmitError.NoMemory →
+            refusal_of self.old.head self.old.events role ≡ None) }
+        ensures err { OnErr result (self.new ≡ self.old) }
+    {
+        if let Some(error) = self.refusal(role) {
+            return Err(error);
+        }
+        match self.let_in(role) {
+            Ok(seat) => Ok(seat),
+            Err(NoMemory) => Err(AdmitError::NoMemory),
+        }
+    }
+
+    /// Why a seat with this role isn't let in, if it isn't: memory apart, the first of the causes of `admit`.
+    ///
+    /// Takes no memory. Seats are this project's own.
+    fn refusal(&self, role: Role) -> Option<AdmitError>
+        ensures { result ≡ refusal_of self.now.head self.now.events role }
+    {
+        if self.admitted() >= MAX_SEATS {
+            return Some(AdmitError::Full);
+        }
+        if let Role::Ap(cpu) = role {
+            if !self.journal().head().is_present(cpu) {
+                return Some(AdmitError::NotPresent);
+            }
+            if self.thread(cpu).is_some() {
+                return Some(AdmitError::ApTaken);
+            }
+        }
+        if self.room() < 2 {
+            return Some(AdmitError::LogFull);
+        }
+        None
+    }
+
+    /// Whether a seat can come in with this number and this role: exactly where `admit` doesn't refuse it, and
+    /// its number is the next.
+    ///
+    /// Takes no memory. Seats are this project's own.
+    #[tactic(auto, using(crate::proofs::Admitted::admits_number, crate::proofs::Admitted::comes_in))]
+    pub fn can_admit(&self, seat: u32, role: Role) -> bool
+        ensures { IsTrue result ↔ Stands self.now.head self.now.events (Admit seat role) }
+    {
+        seat == self.admitted() && self.refusal(role).is_none()
+    }
+
+    /// Lets the next seat in, with this role, and answers its number: what `admit` does once it has asked.
+    ///
+    /// The seat can come in (`can_admit`). Takes memory; where that is wanting nothing has changed:
+    /// `NoMemory`. Seats are this project's own.
+    pub fn let_in(&mut self, role: Role) -> Result<u32, NoMemory>
         requires { Stands self.old.head self.old.events (Admit (admits self.old.events) role) }
         ensures seat { IfOk result (λ seat. seat ≡ admits self.old.events) }
         ensures ok { OnOk result (self.new ≡ with_event self.old (Admit (admits self.old.events) role)) }

@@ -15,4 +15,5 @@ mod lending;
 mod machine;
 mod making;
 
+pub use admission::AdmitError;
 pub use machine::Machine;

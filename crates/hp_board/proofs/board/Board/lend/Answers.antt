@@ -3,13 +3,13 @@ use Rattle.std.proofs.lemmas.Bool.{false≢true}
 use Rattle.hp_states.specs.declared.limits.TheConstants.{MAX_EVENTS}
 use Rattle.hp_model.proofs.DueGives.{due_stands}
 use Rattle.hp_hook.specs.Counted.{Counts}
-use Rattle.hp_table.specs.Step.{Step, step_at}
+use Rattle.hp_table.specs.Step.{Step, step_at, changed_at, lent_step}
 use Rattle.hp_ledger.specs.Entries.{entry_event}
 use Rattle.hp_board.specs.Answered.{aside_of}
 use Rattle.hp_board.specs.Contents.{Contents}
-use Rattle.hp_board.specs.Loans.{AreOut, loan}
+use Rattle.hp_board.specs.Loans.{AreOut, loan, loan_of}
 use Rattle.hp_machine.proofs.Entries.{IsByHook, by_hook}
-use Rattle.hp_board.proofs.Loans.{hook_is, out_by, lent_out, lent_aside, home_of_entry}
+use Rattle.hp_board.proofs.Loans.{hook_is, out_by, lent_out, lent_aside, home_of_entry, due_other}
 use Rattle.hp_board.proofs.board.Board.lend.Goals as goal
 use Rattle.hp_board.proofs.board.Board.lend.Goals.{After-lend, In-Some}
 use Rattle.hp_board.proofs.board.Board.lend.Given as given
@@ -66,3 +66,12 @@ returns-clause-lent g c =
     let aside = lent_aside b c.args.by x h.step c.in_ok-entry.ensures h.there
     ∙ ap (λ (n : Counts). Some (aside_of x.cpu x.key x.dir n)) (sym hook) in
     ap (λ (z : Contents). loan z c.args.by) c.lend.ensures.lent ∙ aside
+
+pub returns-clause-stays : goal.returns-clause-stays
+returns-clause-stays g c = λ k other.
+    let b = c.self.inside.machine in
+    let e = entry_event b.head b.events c.in_ok-entry.entry in
+    let none = due_other b c.args.by k e c.sound.ensures.lawful c.in_ok-entry.ensures other in
+    ap (λ (z : Contents). loan z k) c.lend.ensures.lent
+    ∙ (ap (λ o. loan_of o (changed_at b.places c.in_ok-entry.entry.key.state lent_step)) none
+    ∙ (sym (ap (λ o. loan_of o b.places) none) ∙ ap (λ (z : Contents). loan z k) c.self.view_is))

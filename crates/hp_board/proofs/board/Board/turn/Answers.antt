@@ -1,5 +1,6 @@
-use Rattle.std.proofs.Common.{◌≡◌, ◌∙◌, refl, ap, sym, subst, is_some, Some, None, List, length, true, false}
+use Rattle.std.proofs.Common.{◌≡◌, ℕ, ◌∙◌, refl, ap, sym, subst, is_some, Some, None, Result, Ok, Err, List, length, true, false}
 use Rattle.std.proofs.lemmas.Bool.{true≢false}
+use Rattle.std.specs.Result.{IsErr}
 use Rattle.hp_model.specs.Events.{answer_by}
 use Rattle.hp_model.specs.NextEvent.{next_event}
 use Rattle.hp_model.specs.Pending.{Pending, IsAllowed}
@@ -9,13 +10,23 @@ use Rattle.hp_ledger.specs.Entries.{entry_event}
 use Rattle.hp_ledger.proofs.FullNone.{full_none}
 use Rattle.hp_board.specs.Contents.{Contents, with_event}
 use Rattle.hp_board.specs.Hooks.{has_hook, has_hook_after, leaves_hook}
-use Rattle.hp_board.specs.Turns.{IsTurn, goes_on}
+use Rattle.hp_board.specs.Turns.{IsTurn, IsHookOut, IsNotYet, goes_on}
+use Rattle.hp_board.specs.declared.turn.Turn.{Turn}
+use Rattle.hp_board.specs.declared.turn.Turn.TheVariants.{Made, Answered, NotYet}
+use Rattle.hp_board.proofs.HookOuts.{one_away, comes_unless, full_unless, waits_out, made_waits_not, kept_out_for}
+use Rattle.hp_event.specs.declared.answer.Answer.{Answer}
+use Rattle.hp_event.specs.declared.answer.Answer.TheVariants.{LogFull}
+use Rattle.hp_ledger.specs.Next.{IsKept}
+use Rattle.hp_locks.specs.declared.why.Why.{Why}
+use Rattle.hp_locks.specs.declared.why.Why.TheVariants.{HookOut}
+use Rattle.hp_model.specs.Lawful.{IsLawful}
+use Rattle.hp_states.specs.declared.no_memory.NoMemory.{NoMemory}
 use Rattle.hp_board.proofs.TurnsMade.{no_admission, brought, turn_made, hook_after, hook_same, kept, unanswered}
 use Rattle.hp_model.proofs.DueGives.{due_gives}
 use Rattle.hp_board.specs.Loans.{loan, AreOut, IsCalm}
 use Rattle.hp_board.proofs.Homes.{idle_home}
 use Rattle.hp_board.proofs.LoansStay.{loans_stay}
-use Rattle.hp_board.proofs.Loans.{home_due, home_beside, out_stays, none_out}
+use Rattle.hp_board.proofs.Loans.{home_due, home_beside, out_stays, none_out, disarms_not}
 use Rattle.hp_table.specs.Step.{AllHome}
 use Rattle.hp_ledger.proofs.Homes.{home_after}
 use Rattle.hp_board.proofs.Busy.{hook_again}
@@ -207,3 +218,86 @@ invariant_of-self-in-Entry g c =
     let new = c.make_entry.new.self in
     none_out new.head new.events new.places
     (subst (λ (z : Contents). AllHome z.places) (sym c.make_entry.ensures) (home_after b.head b.events e b.places home))
+
+same_why : (v w : Why) → ◌≡◌ {A = Result Turn NoMemory} (Ok (NotYet v)) (Ok (NotYet w)) → v ≡ w
+same_why v w e = cc
+
+err_apart : (r : Result Turn NoMemory) (t : Turn) → IsErr r → r ≡ Ok t → ⊥
+err_apart (Ok x) t err ok = true≢false (sym err)
+err_apart (Err e) t err ok = cc
+
+-- a turn's answers that name two hooks name one
+same_state : (s t : ℕ) → ◌≡◌ {A = Result Turn NoMemory} (Ok (NotYet (HookOut s))) (Ok (NotYet (HookOut t))) → s ≡ t
+same_state s t e = cc
+
+same_turn : (t u : Turn) → ◌≡◌ {A = Result Turn NoMemory} (Ok t) (Ok u) → t ≡ u
+same_turn t u e = cc
+
+made_apart : (at : ℕ) (s : ℕ) → Made at ≡ NotYet (HookOut s) → ⊥
+made_apart at s e = cc
+
+answered_apart : (answer : Answer) (s : ℕ) → Answered None answer ≡ NotYet (HookOut s) → ⊥
+answered_apart answer s e = cc
+
+pub returns-in-Some-clause-hook_out : goal.returns-in-Some-clause-hook_out
+returns-in-Some-clause-hook_out g c = λ s.
+    let b = c.args.self.now in
+    let lawful = subst (λ (b : Contents). IsLawful b.head b.events) c.self.view_is c.sound.ensures.lawful in
+    let invariant = subst (λ (b : Contents). AreOut b.head b.events b.places) c.self.view_is c.self.invariant in
+    let next = subst (λ (b : Contents). next_event b.head b.events c.args.by c.args.ask.now.op ≡ Some c.in-Event.event) c.self.view_is c.in-Event.ensures.0 in
+    let here = kept_out_for b c.in-Some.state c.args.by c.args.ask.now.op c.in-Event.event next c.in-Some.ensures.out.0 c.in-Some.ensures.out.1 in (
+      λ h. ap (λ t. Ok (NotYet (HookOut t))) (one_away b c.in-Some.state s lawful invariant here.0 h.0),
+      λ is. subst (λ t. IsHookOut t c.args.by c.args.ask.now.op b) (same_state c.in-Some.state s is) here,
+    )
+
+pub returns-in_ok-make-in-Event-clause-hook_out : goal.returns-in_ok-make-in-Event-clause-hook_out
+returns-in_ok-make-in-Event-clause-hook_out g c = λ s.
+    let b = c.args.self.now in
+    let lawful = subst (λ (b : Contents). IsLawful b.head b.events) c.self.view_is c.sound.ensures.lawful in
+    let invariant = subst (λ (b : Contents). AreOut b.head b.events b.places) c.self.view_is c.self.invariant in
+    let next = subst (λ (b : Contents). next_event b.head b.events c.args.by c.args.ask.now.op ≡ Some c.in-Event.event) c.self.view_is c.in-Event.ensures.0 in (
+      λ h. absurd (comes_unless b s c.args.by c.args.ask.now.op c.in-Event.event lawful invariant next c.in_default.ensures.calm h),
+      λ is. absurd (made_waits_not (answer_by c.in-Event.event) c.len-at.result c.turn_of.result (HookOut s) c.turn_of.ensures (same_turn c.turn_of.result (NotYet (HookOut s)) is)),
+    )
+
+pub returns-in_err-make-in-Event-clause-hook_out : goal.returns-in_err-make-in-Event-clause-hook_out
+returns-in_err-make-in-Event-clause-hook_out g c = λ s.
+    let b = c.args.self.now in
+    let lawful = subst (λ (b : Contents). IsLawful b.head b.events) c.self.view_is c.sound.ensures.lawful in
+    let invariant = subst (λ (b : Contents). AreOut b.head b.events b.places) c.self.view_is c.self.invariant in
+    let next = subst (λ (b : Contents). next_event b.head b.events c.args.by c.args.ask.now.op ≡ Some c.in-Event.event) c.self.view_is c.in-Event.ensures.0 in (
+      λ h. absurd (comes_unless b s c.args.by c.args.ask.now.op c.in-Event.event lawful invariant next c.in_default.ensures.calm h),
+      λ is. absurd (err_apart c.from_residual.result (NotYet (HookOut s)) c.from_residual.ensures.0 is),
+    )
+
+pub returns-in-Entry-clause-hook_out : goal.returns-in-Entry-clause-hook_out
+returns-in-Entry-clause-hook_out g c = λ s.
+    let b = c.args.self.now in
+    let m = c.self.inside.machine in
+    let x = c.in-Entry.entry in
+    let back = λ (h : IsHookOut s c.args.by c.args.ask.now.op b). subst (λ (z : Contents). IsHookOut s c.args.by c.args.ask.now.op z) (sym c.self.view_is) h in (
+      λ h. absurd (comes_unless m s c.args.by c.args.ask.now.op (entry_event m.head m.events x) c.sound.ensures.lawful c.self.invariant c.in-Entry.ensures
+          (λ t o away. disarms_not m.events o.seat o.cpu t o.inst o.dir o.how (entry_event m.head m.events x) refl) (back h)),
+      λ is. absurd (made_apart c.len-at-in-Entry.result s (same_turn (Made c.len-at-in-Entry.result) (NotYet (HookOut s)) is)),
+    )
+
+pub returns-in-Full-clause-hook_out : goal.returns-in-Full-clause-hook_out
+returns-in-Full-clause-hook_out g c = λ s.
+    let m = c.self.inside.machine in
+    let op = c.args.ask.now.op in
+    let back = λ (h : IsHookOut s c.args.by op c.args.self.now). subst (λ (z : Contents). IsHookOut s c.args.by op z) (sym c.self.view_is) h in (
+      λ h. absurd (full_unless m s c.args.by op c.in-Full.ensures (back h)),
+      λ is. absurd (answered_apart LogFull s (same_turn (Answered None LogFull) (NotYet (HookOut s)) is)),
+    )
+
+pub returns-in-Wait-clause-hook_out : goal.returns-in-Wait-clause-hook_out
+returns-in-Wait-clause-hook_out g c = λ s.
+    let b = c.args.self.now in
+    let op = c.args.ask.now.op in
+    let lawful = subst (λ (b : Contents). IsLawful b.head b.events) c.self.view_is c.sound.ensures.lawful in
+    let invariant = subst (λ (b : Contents). AreOut b.head b.events b.places) c.self.view_is c.self.invariant in
+    let kept = subst (λ (b : Contents). IsKept b.head b.events c.args.by op c.in-Wait.why) c.self.view_is c.in-Wait.ensures in
+    let waits = c.waits_for.ensures c.args.by op kept in (
+      λ h. ap (λ w. Ok (NotYet w)) (waits_out b s c.args.by op c.waits_for.result lawful invariant c.requires.allowed h waits),
+      λ is. subst (λ w. IsNotYet c.args.by op b w) (same_why c.waits_for.result (HookOut s) is) waits,
+    )

@@ -11,11 +11,12 @@ use Rattle.hp_law.proofs.law.Law.room_of.Goals as goal
 
 pub returns-in-Admit : goal.returns-in-Admit
 returns-in-Admit c =
-    let t = c.args.self.now in
+    let l = c.self.inside.machine in
     let e = Admit c.in-Admit.seat c.in-Admit.role in
-    let room = room_by t.head t.events e c.comes_in.result 2 c.comes_in.ensures (λ _. refl) in
-    subst (λ x. IsRoomOf t.head t.events x c.then_some.result) (sym c.in-Admit.is)
-    (subst (IsRoomOf t.head t.events e) (sym c.then_some.ensures) room)
+    let room = room_by l.head l.events e c.can_admit.result 2 c.can_admit.ensures (λ _. refl) in
+    subst (λ (t : Taken). IsRoomOf t.head t.events c.args.event.now c.then_some.result) c.self.view_is
+    (subst (λ x. IsRoomOf l.head l.events x c.then_some.result) (sym c.in-Admit.is)
+    (subst (IsRoomOf l.head l.events e) (sym c.then_some.ensures) room))
 
 pub returns-in-Leave : goal.returns-in-Leave
 returns-in-Leave c =

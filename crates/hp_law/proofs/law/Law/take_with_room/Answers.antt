@@ -20,8 +20,8 @@ seen_taken head es = record { head = head; events = es }
 still : (m new : Contents) (e : Event) → AllHome m.places → new ≡ with_event m e → AllHome new.places
 still m new e home is = subst (λ (x : Contents). AllHome x.places) (sym is) (home_after m.head m.events e m.places home)
 
-pub admit-requires : goal.admit-requires
-admit-requires c =
+pub let_in-requires : goal.let_in-requires
+let_in-requires c =
     let m = c.self.inside.machine in
     let stands = subst (λ (t : Taken). Stands t.head t.events c.args.event.now) (sym c.self.view_is) c.requires.stands in
     let here = subst (Stands m.head m.events) c.in-Admit.is stands in

@@ -8,8 +8,8 @@ use Rattle.hp_event.specs.declared.head.Head.{Head}
 use Rattle.hp_model.specs.Processors.{is_present}
 use Rattle.hp_model.specs.Promised.{promised}
 use Rattle.hp_model.specs.Seats.{admits, ap_seat}
-use Rattle.hp_board.specs.declared.admission.AdmitError.{AdmitError}
-use Rattle.hp_board.specs.declared.admission.AdmitError.TheVariants.{Full, NotPresent, ApTaken, LogFull}
+use Rattle.hp_machine.specs.declared.admission.AdmitError.{AdmitError}
+use Rattle.hp_machine.specs.declared.admission.AdmitError.TheVariants.{Full, NotPresent, ApTaken, LogFull}
 
 -- an admission takes room for itself and for the seat's leave
 abbrev pub refused_for_room : Head → List Event → Option AdmitError
