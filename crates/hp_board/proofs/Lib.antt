@@ -9,3 +9,4 @@ pub mod Waiting
 pub mod Homes
 pub mod LoansStay
 pub mod HookOuts
+pub mod Moving

@@ -2,6 +2,7 @@ pub mod Contents
 pub mod Answered
 pub mod Loans
 pub mod Turns
+pub mod Moving
 pub mod Hooks
 pub mod HookCount
 pub mod Starts

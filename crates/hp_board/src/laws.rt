@@ -1,6 +1,6 @@
 //! Laws of turns. The functions have empty bodies: their contracts are the laws, which callers cite.
 
-ghost use Rattle.std.specs.Prelude.{◌≡◌, ◌≢◌, ◌⊎◌, pos, true, None, Some, [], ◌∷◌, ◌++◌};
+ghost use Rattle.std.specs.Prelude.{◌≡◌, ◌≢◌, ◌⊎◌, pos, true, None, Some, List, [], ◌∷◌, ◌++◌};
 ghost use Rattle.hp_event.specs.declared.answer.Answer.TheVariants.{Ok, LogFull};
 ghost use Rattle.hp_event.specs.declared.event.Event.TheVariants.{WalkEnd};
 ghost use Rattle.hp_event.specs.declared.op.Op.{Op as AnOp};
@@ -14,11 +14,14 @@ ghost use Rattle.hp_ledger.specs.TableChanges.{is_setup};
 ghost use Rattle.hp_model.specs.Entries.{codes_of_faults};
 ghost use Rattle.hp_model.specs.Events.{seat_of, answer_by};
 ghost use Rattle.hp_model.specs.Lawful.{IsLawful, Stands};
+ghost use Rattle.hp_board.specs.Moving.{SomeMoves};
+ghost use Rattle.hp_model.specs.Moves.{ArePending};
 ghost use Rattle.hp_model.specs.NextEvent.{next_event, is_full};
-ghost use Rattle.hp_model.specs.Pending.{IsAllowed};
+ghost use Rattle.hp_model.specs.Pending.{Pending, IsAllowed};
 ghost use Rattle.hp_model.specs.Seats.{is_busy};
 ghost use Rattle.hp_model.specs.Suspend.{is_ok};
 ghost use Rattle.hp_model.specs.Walks.{walk_entries};
+ghost use Rattle.hp_table.specs.Step.{AllHome};
 
 use crate::turn::Turn;
 use hp_event::{Answer, Event, Head, Op};
@@ -86,4 +89,13 @@ pub fn answers_ok(by: u32, op: Op, at: Option<u32>, answer: Answer)
 pub fn walk_ends_ok(head: &Head, events: &[Event], seat: u32, cpu: u32, answer: Answer)
     ensures { Stands head.now events.now (WalkEnd seat cpu answer) →
         codes_of_faults (walk_entries cpu events.now) ≡ [] → answer ≡ Ok (pos 0) }
+{}
+
+/// Some seat can move. On a board where no hook is lent, of operations that aren't answered, with all that
+/// they wait for among them, a client's turn for its operation makes an event or answers, or a thread's
+/// does; a turn that wants memory is no turn here. Where a hook is lent, its seat can give it back.
+#[tactic(auto, using(crate::proofs::Moving::some_seat_moves))]
+pub fn some_seat_moves()
+    ensures { (board : Contents) (pending : List Pending) → IsLawful board.head board.events →
+        AllHome board.places → ArePending board.head board.events pending → SomeMoves board pending }
 {}

@@ -31,7 +31,7 @@ pub use hook_laws::{admit_keeps_hooks, leave_keeps_hooks, serve_keeps_hooks, tur
 pub use hp_machine::AdmitError;
 pub use laws::{
     allowed_again, answers_ok, full_has_no_event, others_keep, serve_keeps_others, setup_goes_on,
-    stays_busy, turn_keeps_others, walk_ends_ok,
+    some_seat_moves, stays_busy, turn_keeps_others, walk_ends_ok,
 };
 pub use loan::{Back, Loan};
 pub use start::{CpuPlan, StartError};
