@@ -1,5 +1,6 @@
 pub mod Hows
 pub mod Ops
+pub mod Answers
 pub mod Events
 pub mod Leaves
 pub mod Heads

@@ -29,3 +29,7 @@ abbrev pub is_adding : Op → Bool
 is_adding (Setup state sub form) = true
 is_adding (Add state inst form) = true
 is_adding _ = false
+
+abbrev pub is_setup : Op → Bool
+is_setup (Setup state sub form) = true
+is_setup _ = false

@@ -1,6 +1,7 @@
 //! Answers of operations, walks and registrations.
 
 ghost use Rattle.std.specs.Prelude.{◌≡◌};
+ghost use Rattle.hp_event.specs.Answers.{is_ok as is_ok_of};
 ghost use Rattle.hp_event.specs.Leaves.{leaves_at as leaves_at_of};
 
 /// The answer of an operation, a walk or a registration. Codes are 1 to `MAX_CODE`.
@@ -20,6 +21,15 @@ pub enum Answer {
 }
 
 impl Answer {
+    /// Whether it was done.
+    ///
+    /// Takes no memory. This project's own.
+    pub fn is_ok(self) -> bool
+        ensures { result ≡ is_ok_of self }
+    {
+        matches!(self, Answer::Ok(_))
+    }
+
     /// Where a walk to a state leaves its processor, which stood at the state `stood`: at `to` where
     /// the answer is Ok, at the state where it is stuck, and else where it stood.
     ///

@@ -35,9 +35,11 @@ pub enum File {
 
 /// One atomic step of the machine.
 ///
-/// In each event `seat` is the seat that made it, below `MAX_SEATS`; `cpu` a processor, below
-/// `MAX_CPUS`; `state`, `from` and `to` are states, 0 to 200; `inst` is an instance, or 0 at a state
-/// without instances; `errno` is an error number of `hp_states`. An event takes 32 bytes.
+/// In each event `seat` is the seat that made it and `cpu` a processor; `state`, `from` and `to` are
+/// states; `inst` is an instance, or 0 at a state without instances; `errno` is an error number. The
+/// type asks nothing of these numbers: that a seat is below `MAX_SEATS`, a processor below
+/// `MAX_CPUS`, a state at most 200 and an error number one of `hp_states` is so in a lawful journal,
+/// which hp_model defines. An event takes at most 48 bytes.
 #[derive(Clone, Copy, Debug, PartialEq, Eq)]
 pub enum Event {
     /// A seat comes in, with the next number that no seat had.

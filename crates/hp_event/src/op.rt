@@ -4,7 +4,7 @@
 //! their files after the files of `/sys/devices/system/cpu`.
 
 ghost use Rattle.std.specs.Prelude.{◌≡◌};
-ghost use Rattle.hp_event.specs.Ops.{form_of, is_adding as is_adding_of, is_map_op};
+ghost use Rattle.hp_event.specs.Ops.{form_of, is_adding as is_adding_of, is_setup as is_setup_of, is_map_op};
 
 /// How a registration is asked for. Which calls of `cpuhp_setup_state` and its kin of
 /// `cpu_hotplug.rst` a form stands for: those without calls, and those that hold the read lock.
@@ -82,6 +82,15 @@ impl Op {
             | Op::Del { form, .. } => Some(form),
             _ => None,
         }
+    }
+
+    /// Whether the operation is a setup, the one that brings a hook.
+    ///
+    /// Takes no memory. After `__cpuhp_setup_state` of `kernel/cpu.c`.
+    pub fn is_setup(self) -> bool
+        ensures { result ≡ is_setup_of self }
+    {
+        matches!(self, Op::Setup { .. })
     }
 
     /// Whether the operation adds: a setup or an add, whose entries go upwards. A remove and a del

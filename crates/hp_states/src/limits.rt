@@ -51,6 +51,8 @@ pub const MAX_SEATS: u32 = 96;
 pub const MAX_ACTORS: u32 = 32;
 /// The most operations of an actor.
 pub const MAX_OPERATIONS: u32 = 4096;
+/// The most operations that are drawn for each actor of a generated script.
+pub const MAX_GENERATED_SIZE: u32 = 1000;
 /// The most instances of a state.
 pub const MAX_INSTANCES: u32 = 256;
 /// The most instances of all states together.
