@@ -4,19 +4,11 @@
 use Rattle.std.specs.Prelude.{ℕ, ◌+◌, ◌-◌, Bool, true, false, ◌&&◌, nat_lt, if◌then◌else◌, Option, Some, None, List, [], ◌∷◌, ◌++◌}
 use Rattle.hp_event.specs.declared.op.Op.{Op}
 use Rattle.hp_event.specs.declared.op.Op.TheVariants.{Disable, Enable, Freeze, Thaw}
-use Rattle.hp_event.specs.declared.answer.Answer.{Answer}
-use Rattle.hp_event.specs.declared.answer.Answer.TheVariants.{Ok, Refused, Fault, Stuck, LogFull}
+pub use Rattle.hp_event.specs.Answers.{is_ok}
 use Rattle.hp_event.specs.declared.event.Event.{Event}
 use Rattle.hp_event.specs.declared.event.Event.TheVariants.{Enter, WalkEnd, OpEnd, Wakeup}
 use Rattle.hp_model.specs.Journal.{over}
 use Rattle.hp_model.specs.MapLock.{Operation, operation}
-
-abbrev pub is_ok : Answer → Bool
-is_ok (Ok value) = true
-is_ok (Refused errno) = false
-is_ok (Fault code) = false
-is_ok (Stuck first second at) = false
-is_ok LogFull = false
 
 abbrev pub is_freeze : Op → Bool
 is_freeze (Freeze primary) = true

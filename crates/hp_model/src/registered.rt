@@ -114,7 +114,7 @@ pub fn registered_at(
                 });
             }
             Event::RegEnd { answer, .. } => {
-                found = ended(alloc, head, state, answer, asked, found)?;
+                found = ended(alloc, head, state, *answer, asked, found)?;
                 asked = None;
             }
             _ => {}
@@ -128,15 +128,15 @@ fn ended(
     alloc: Global,
     head: &Head,
     state: u32,
-    answer: &Answer,
+    answer: Answer,
     asked: Option<Asked>,
     found: Option<Found>,
 ) -> Result<Option<Found>, NoMemory>
     ensures { IfOk result (λ f. (r : Option Registration) → asked ≡ option_map asked_by r →
-        option_map registered_by f ≡ after_answer head.now state answer.now r (option_map registered_by found)) }
+        option_map registered_by f ≡ after_answer head.now state answer r (option_map registered_by found)) }
 {
-    match (answer, asked) {
-        (Answer::Ok(_), Some(asked)) if asked.state == state => applied(
+    match asked {
+        Some(asked) if answer.is_ok() && asked.state == state => applied(
             alloc, head, &asked.op, found,
         ),
         _ => Ok(found),
