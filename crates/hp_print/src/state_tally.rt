@@ -116,7 +116,7 @@ impl StateTally {
         ensures made { self.new.made.items ≡ begun_anew op state self.old.made.items }
         ensures faults { self.new.faults.items ≡ begun_anew op state self.old.faults.items }
     {
-        if matches!(op, Op::Setup { .. }) {
+        if op.is_setup() {
             reset(&mut self.made, state);
             reset(&mut self.faults, state);
         }
@@ -162,7 +162,7 @@ impl StateTally {
         let asked = self.asked;
         self.asked = None;
         match asked {
-            Some(asked) if matches!(answer, Answer::Ok(_)) => self.apply(asked),
+            Some(asked) if answer.is_ok() => self.apply(asked),
             _ => Ok(()),
         }
     }

@@ -57,7 +57,7 @@ impl SuspendTally {
             then self.old.frozen.items ++ cpu ∷ []
             else self.old.frozen.items)) }
     {
-        if matches!(self.op, Some(Op::Freeze(_))) && matches!(answer, Answer::Ok(_)) {
+        if matches!(self.op, Some(Op::Freeze(_))) && answer.is_ok() {
             self.frozen.push(cpu)?;
         }
         Ok(())
