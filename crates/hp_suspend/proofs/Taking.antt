@@ -1,5 +1,5 @@
 -- What one answer more makes of the counts.
-use Rattle.std.proofs.Common.{◌≡◌, ℕ, ◌+◌, Bool, true, false, cond, not, Some, None, List, [], ◌∷◌, ◌++◌, length, refl, ap, sym, ◌∙◌}
+use Rattle.std.proofs.Common.{◌≡◌, ℕ, ◌+◌, Bool, true, false, cond, not, Option, Some, None, List, [], ◌∷◌, ◌++◌, length, refl, ap, sym, ◌∙◌}
 use Rattle.std.specs.Prelude.{ℤ, slice_get, is_some}
 use Rattle.std.proofs.lemmas.List.{length-append}
 use Rattle.std.proofs.lemmas.List.Elements.{filter-append}
@@ -14,6 +14,7 @@ use Rattle.hp_model.proofs.Laws.{answers_push}
 use Rattle.hp_suspend.specs.Booting.{is_fault, faults, IsBooting}
 use Rattle.hp_suspend.specs.Thawing.{IsThawing}
 use Rattle.hp_suspend.specs.Freezing.{IsFreezing}
+use Rattle.hp_suspend.specs.ByLists.{ended_after, freeze_after, thaw_after, boot_after}
 use Rattle.hp_suspend.specs.declared.freeze.Freeze.{Freeze}
 use Rattle.hp_suspend.specs.declared.thaw.Thaw.{Thaw}
 use Rattle.hp_suspend.specs.declared.boot.Boot.{Boot}
@@ -71,38 +72,47 @@ faults_more events seat cpu answer =
     ∙ length-append (faults (answers events)) (faults (answer ∷ []))
     ∙ ap (λ n. length (faults (answers events)) + n) (one_fault answer)
 
-pub freezing_took : (f g : Freeze) (answer : Answer) → g.primary ≡ f.primary →
-    g.ended ≡ cond (is_some f.ended) f.ended (cond (is_ok answer) None (Some answer)) →
+pub freezing_took : (f g : Freeze) (answer : Answer) → g ≡ freeze_after f answer →
     (head : Head) (entered events : List Event) (primary : ℤ) (seat cpu : ℕ) → IsFreezing head entered events primary f →
     IsFreezing head entered (events ++ WalkEnd seat cpu answer ∷ []) primary g
-freezing_took f g answer a b head entered events primary seat cpu h = record {
-  primary_is = a ∙ h.primary_is;
+freezing_took f g answer is head entered events primary seat cpu h = record {
+  primary_is = ap (λ z. z.primary) is ∙ h.primary_is;
   ended_is =
-      b
+      ap (λ z. z.ended) is
+      ∙ first_kept f.ended
       ∙ ap (λ o. cond (is_some o) o (cond (is_ok answer) None (Some answer))) h.ended_is
       ∙ ap (λ o. cond (is_some (slice_get (failures (answers events)) 0)) (slice_get (failures (answers events)) 0) o)
       (first_failure answer)
       ∙ sym (first_of_both (failures (answers events)) (failures (answer ∷ [])))
       ∙ ap (λ xs. slice_get xs 0) (sym (failures_push events seat cpu answer));
 }
+  where
+    first_kept : (o : Option Answer) → ended_after answer o ≡ cond (is_some o) o (cond (is_ok answer) None (Some answer))
+    first_kept None = refl
+    first_kept (Some first) = refl
 
-pub thawing_took : (t u : Thaw) (answer : Answer) → u.failed ≡ t.failed + cond (is_ok answer) 0 1 →
+pub thawing_took : (t u : Thaw) (answer : Answer) → u ≡ thaw_after t answer →
     (events : List Event) (seat cpu : ℕ) → IsThawing events t → IsThawing (events ++ WalkEnd seat cpu answer ∷ []) u
-thawing_took t u answer e events seat cpu h = record {
+thawing_took t u answer is events seat cpu h = record {
   failed_is =
-      e ∙ ap (λ n. n + cond (is_ok answer) 0 1) h.failed_is ∙ sym (failed_more events seat cpu answer);
+      ap (λ z. z.failed) is
+      ∙ ap (λ n. n + cond (is_ok answer) 0 1) h.failed_is
+      ∙ sym (failed_more events seat cpu answer);
 }
 
-pub booting_took : (b d : Boot) (answer : Answer) → d.max ≡ b.max → d.failed ≡ b.failed + cond (is_ok answer) 0 1 →
-    d.turned_back ≡ b.turned_back + cond (is_fault answer) 1 0 →
+pub booting_took : (b d : Boot) (answer : Answer) → d ≡ boot_after b answer →
     (max : ℕ) (events : List Event) (seat cpu : ℕ) → IsBooting max events b →
     IsBooting max (events ++ WalkEnd seat cpu answer ∷ []) d
-booting_took b d answer m e f max events seat cpu h = record {
-  max_is = m ∙ h.max_is;
+booting_took b d answer is max events seat cpu h = record {
+  max_is = ap (λ z. z.max) is ∙ h.max_is;
   failed_is =
-      e ∙ ap (λ n. n + cond (is_ok answer) 0 1) h.failed_is ∙ sym (failed_more events seat cpu answer);
+      ap (λ z. z.failed) is
+      ∙ ap (λ n. n + cond (is_ok answer) 0 1) h.failed_is
+      ∙ sym (failed_more events seat cpu answer);
   turned_back_is =
-      f ∙ ap (λ n. n + cond (is_fault answer) 1 0) h.turned_back_is ∙ sym (faults_more events seat cpu answer);
+      ap (λ z. z.turned_back) is
+      ∙ ap (λ n. n + cond (is_fault answer) 1 0) h.turned_back_is
+      ∙ sym (faults_more events seat cpu answer);
 }
 
 -- nothing is answered yet

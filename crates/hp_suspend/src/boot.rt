@@ -13,9 +13,10 @@ ghost use Rattle.hp_model.specs.Lawful.{IsLawful};
 ghost use Rattle.hp_suspend.specs.Asked.{meaning};
 ghost use Rattle.hp_suspend.specs.Tables.{ArePresent, AreOnline};
 ghost use Rattle.hp_suspend.specs.Booting.{IsBooting};
+ghost use Rattle.hp_suspend.specs.ByLists.{next_of_boot, boot_after, online_count, present_offline};
 
 use crate::asked::{Asked, WalkAsk};
-use crate::judged::{is_fault, is_ok};
+use crate::judged::is_fault;
 use hp_event::Answer;
 use hp_states::{MAX_CPUS, MAX_EVENTS, ONLINE};
 
@@ -48,19 +49,21 @@ impl Boot {
     /// What comes next: a walk, or the end of the boot with its answer.
     ///
     /// `present` says of each possible processor whether it is present, and `online` whether it is
-    /// online now. No more walks failed than a journal has room for. While the boot is in flight and
-    /// nothing walks, the answers are:
+    /// online now. No more walks failed than a journal has room for. Of any such lists the answers are:
     /// - `Ended(Ok)` with the number of walks that failed, where `max` processors are online;
-    /// - `Walk` of the lowest present processor that is offline and wasn't walked yet, to ONLINE;
+    /// - `Walk` to ONLINE of the lowest present processor that is offline, past as many of these as
+    ///   walks turned back;
     /// - `Ended(Ok)` with that number, where there is none.
     ///
-    /// Takes no memory, and a time linear in the lists. After `bringup_nonboot_cpus` of
+    /// While the boot is in flight in a lawful journal and nothing walks, it is what the journal says:
+    /// those that are passed over were walked already. Takes no memory, and a time linear in the lists. After `bringup_nonboot_cpus` of
     /// `kernel/cpu.c`; that it answers how many walks failed is this project's own.
     pub fn next(&self, present: &[bool], online: &[bool]) -> Asked
         requires few { length present.now ≤ MAX_CPUS }
         requires as_long { length online.now ≡ length present.now }
         requires failed { self.now.failed ≤ MAX_EVENTS }
-        ensures { (head : Head) (events : List Event) (o : Operation) (max : ℕ) → IsLawful head events →
+        ensures by_lists { meaning result ≡ next_of_boot self.now present.now online.now }
+        ensures by_journal { (head : Head) (events : List Event) (o : Operation) (max : ℕ) → IsLawful head events →
             operation events ≡ Some o → o.op ≡ op.Boot max → walking events ≡ [] → IsBooting max events self.now →
             ArePresent head present.now → AreOnline head events online.now →
             meaning result ≡ next_of head events o.before o.op }
@@ -84,12 +87,12 @@ impl Boot {
         requires turned_back { self.old.turned_back < MAX_EVENTS }
         ensures booting { (max : ℕ) (events : List Event) (seat cpu : ℕ) → IsBooting max events self.old →
             IsBooting max (events ++ WalkEnd seat cpu answer ∷ []) self.new }
-        ensures one_more { (self.new.failed ≤ self.old.failed + 1) × (self.new.turned_back ≤ self.old.turned_back + 1) }
+        ensures counted { self.new ≡ boot_after self.old answer }
     {
-        if !is_ok(&answer) {
+        if !answer.is_ok() {
             self.failed += 1;
         }
-        if is_fault(&answer) {
+        if is_fault(answer) {
             self.turned_back += 1;
         }
     }
@@ -98,7 +101,7 @@ impl Boot {
 /// How many processors are online.
 fn count(online: &[bool]) -> u32
     requires { length online.now ≤ MAX_CPUS }
-    ensures { result ≡ length (filter (λ on. on) online.now) }
+    ensures { result ≡ online_count online.now }
 {
     online.iter().filter(|on| **on).count() as u32
 }
@@ -107,9 +110,7 @@ fn count(online: &[bool]) -> u32
 fn first_left(below: u32, present: &[bool], online: &[bool]) -> Option<u32>
     requires few { length present.now ≤ MAX_CPUS }
     requires as_long { length online.now ≡ length present.now }
-    ensures { result ≡ slice_get
-        (filter (λ c. slice_index_or present.now c false && not (slice_index_or online.now c false))
-        (numbers (length present.now))) below }
+    ensures { result ≡ slice_get (present_offline present.now online.now) below }
 {
     let mut passed = 0;
     for cpu in 0..present.len() as u32 {

@@ -14,9 +14,9 @@ ghost use Rattle.hp_model.specs.Lawful.{IsLawful};
 ghost use Rattle.hp_suspend.specs.Asked.{meaning};
 ghost use Rattle.hp_suspend.specs.Tables.{AreOnline};
 ghost use Rattle.hp_suspend.specs.Freezing.{IsFreezing};
+ghost use Rattle.hp_suspend.specs.ByLists.{next_of_freeze, freeze_after, online_but};
 
 use crate::asked::{Asked, WalkAsk};
-use crate::judged::is_ok;
 use hp_event::Answer;
 use hp_states::{EBUSY, MAX_CPUS, OFFLINE};
 
@@ -51,17 +51,19 @@ impl Freeze {
     /// What comes next: a walk, or the end of the freeze with its answer.
     ///
     /// `online` says of each possible processor whether it is online now, and `wakeup` whether a
-    /// wakeup is pending. While the freeze is in flight and nothing walks, the answers are:
+    /// wakeup is pending. Of any such list the answers are:
     /// - `Ended` with the answer of a walk that wasn't Ok;
     /// - `Ended(Ok(0))` where no processor is online but the one that is left so;
     /// - `Ended(Refused(16))` where one is, and a wakeup is pending;
     /// - `Walk` of the lowest of them, to OFFLINE.
     ///
-    /// Takes no memory, and a time linear in the list. After `freeze_secondary_cpus` of
+    /// While the freeze is in flight in a lawful journal and nothing walks, it is what the journal
+    /// says. Takes no memory, and a time linear in the list. After `freeze_secondary_cpus` of
     /// `kernel/cpu.c`.
     pub fn next(&self, online: &[bool], wakeup: bool) -> Asked
         requires { length online.now ≤ MAX_CPUS }
-        ensures { (head : Head) (events : List Event) (o : Operation) (primary : ℤ) → IsLawful head events →
+        ensures by_lists { meaning result ≡ next_of_freeze self.now online.now wakeup }
+        ensures by_journal { (head : Head) (events : List Event) (o : Operation) (primary : ℤ) → IsLawful head events →
             operation events ≡ Some o → o.op ≡ op.Freeze primary → walking events ≡ [] →
             IsFreezing head o.before events primary self.now →
             AreOnline head events online.now → wakeup ≡ wakeup_pending events →
@@ -82,11 +84,12 @@ impl Freeze {
     /// The first answer that isn't Ok ends the freeze, and what comes after it changes nothing.
     /// Takes no memory. After `freeze_secondary_cpus` of `kernel/cpu.c`.
     pub fn took(&mut self, answer: Answer)
-        ensures { (head : Head) (entered events : List Event) (primary : ℤ) (seat cpu : ℕ) →
+        ensures freezing { (head : Head) (entered events : List Event) (primary : ℤ) (seat cpu : ℕ) →
             IsFreezing head entered events primary self.old →
             IsFreezing head entered (events ++ WalkEnd seat cpu answer ∷ []) primary self.new }
+        ensures kept { self.new ≡ freeze_after self.old answer }
     {
-        if self.ended.is_none() && !is_ok(&answer) {
+        if self.ended.is_none() && !answer.is_ok() {
             self.ended = Some(answer);
         }
     }
@@ -127,8 +130,7 @@ fn lowest(online: &[bool]) -> u32
 /// The lowest processor that is online, but for one.
 fn lowest_but(primary: u32, online: &[bool]) -> Option<u32>
     requires { length online.now ≤ MAX_CPUS }
-    ensures { result ≡ slice_get
-        (filter (λ c. slice_index_or online.now c false && not (c == primary)) (numbers (length online.now))) 0 }
+    ensures { result ≡ slice_get (online_but primary online.now) 0 }
 {
     for cpu in 0..online.len() as u32 {
         if online[cpu as usize] && cpu != primary {

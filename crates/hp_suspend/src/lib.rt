@@ -6,10 +6,11 @@
 //! kept: the lists that `next` is handed tell it, since a walk leaves its processor where its answer
 //! says.
 //!
-//! Its contract: while the operation is in flight in a lawful journal and nothing walks, `next`
-//! answers exactly what hp_model's `next` says of that journal. `specs/Freezing.antt`,
-//! `specs/Thawing.antt` and `specs/Booting.antt` say what each keeps of the journal,
-//! `specs/Tables.antt` what the lists are, `specs/Asked.antt` what an answer means.
+//! Its contract: of any lists with a place for each processor `next` answers what `specs/ByLists.antt`
+//! says, and while the operation is in flight in a lawful journal and nothing walks, that is exactly
+//! what hp_model's `next` says of that journal. `specs/Freezing.antt`, `specs/Thawing.antt` and
+//! `specs/Booting.antt` say what each keeps of the journal, `specs/Tables.antt` what the lists are,
+//! `specs/Asked.antt` what an answer means.
 #![tactic(auto)]
 
 mod asked;

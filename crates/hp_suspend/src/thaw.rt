@@ -13,9 +13,9 @@ ghost use Rattle.hp_model.specs.Lawful.{IsLawful};
 ghost use Rattle.hp_suspend.specs.Asked.{meaning};
 ghost use Rattle.hp_suspend.specs.Tables.{AreFrozen, AreSettled};
 ghost use Rattle.hp_suspend.specs.Thawing.{IsThawing};
+ghost use Rattle.hp_suspend.specs.ByLists.{next_of_thaw, thaw_after, frozen_below};
 
 use crate::asked::{Asked, WalkAsk};
-use crate::judged::is_ok;
 use hp_event::Answer;
 use hp_states::{MAX_CPUS, MAX_EVENTS, ONLINE};
 
@@ -41,19 +41,21 @@ impl Thaw {
     /// What comes next: a walk, or the end of the thaw with its answer.
     ///
     /// `frozen` says of each possible processor whether it is in the record of the last freeze, and
-    /// `settled` where it stands now. No more walks failed than a journal has room for. While the thaw
-    /// is in flight and nothing walks, the answers are:
-    /// - `Walk` of the lowest processor of the record that is below ONLINE and wasn't walked yet, to
-    ///   ONLINE;
+    /// `settled` where it stands now. No more walks failed than a journal has room for. Of any such
+    /// lists the answers are:
+    /// - `Walk` to ONLINE of the lowest processor of the record that is below ONLINE, past as many of
+    ///   these as walks failed;
     /// - `Ended(Ok)` with the number of walks that failed, where there is none.
     ///
-    /// Takes no memory, and a time linear in the lists. After `thaw_secondary_cpus` of `kernel/cpu.c`;
+    /// While the thaw is in flight in a lawful journal and nothing walks, it is what the journal says:
+    /// those that are passed over were walked already. Takes no memory, and a time linear in the lists. After `thaw_secondary_cpus` of `kernel/cpu.c`;
     /// that it answers how many walks failed is this project's own.
     pub fn next(&self, frozen: &[bool], settled: &[u32]) -> Asked
         requires few { length frozen.now ≤ MAX_CPUS }
         requires as_long { length settled.now ≡ length frozen.now }
         requires failed { self.now.failed ≤ MAX_EVENTS }
-        ensures { (head : Head) (events : List Event) (o : Operation) → IsLawful head events →
+        ensures by_lists { meaning result ≡ next_of_thaw self.now frozen.now settled.now }
+        ensures by_journal { (head : Head) (events : List Event) (o : Operation) → IsLawful head events →
             operation events ≡ Some o → o.op ≡ op.Thaw → walking events ≡ [] → IsThawing events self.now →
             AreFrozen head events frozen.now → AreSettled head events settled.now →
             meaning result ≡ next_of head events o.before o.op }
@@ -72,9 +74,9 @@ impl Thaw {
         requires { self.old.failed < MAX_EVENTS }
         ensures thawing { (events : List Event) (seat cpu : ℕ) → IsThawing events self.old →
             IsThawing (events ++ WalkEnd seat cpu answer ∷ []) self.new }
-        ensures one_more { self.new.failed ≤ self.old.failed + 1 }
+        ensures counted { self.new ≡ thaw_after self.old answer }
     {
-        if !is_ok(&answer) {
+        if !answer.is_ok() {
             self.failed += 1;
         }
     }
@@ -84,9 +86,7 @@ impl Thaw {
 fn first_left(below: u32, frozen: &[bool], settled: &[u32]) -> Option<u32>
     requires few { length frozen.now ≤ MAX_CPUS }
     requires as_long { length settled.now ≡ length frozen.now }
-    ensures { result ≡ slice_get
-        (filter (λ c. slice_index_or frozen.now c false && nat_lt (slice_index settled.now c) ONLINE)
-        (numbers (length frozen.now))) below }
+    ensures { result ≡ slice_get (frozen_below frozen.now settled.now) below }
 {
     let mut passed = 0;
     for cpu in 0..frozen.len() as u32 {
