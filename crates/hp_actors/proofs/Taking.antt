@@ -8,7 +8,7 @@ use Rattle.std.proofs.lemmas.Option.{get_or_from_slice_get, slice_get_within}
 use Rattle.hp_event.specs.declared.op.Op.{Op}
 use Rattle.hp_event.specs.declared.op.Op.TheVariants.{Setup}
 use Rattle.hp_ledger.specs.TableChanges.{is_setup}
-use Rattle.hp_script.specs.Before.{is_setup as counts}
+use Rattle.hp_event.specs.Ops.{is_setup as counts}
 use Rattle.hp_script.specs.Playable.{setups_in}
 use Rattle.hp_actors.specs.Racks.{Takes}
 

@@ -1,6 +1,7 @@
 -- The words of options say one seed and one size.
 use Rattle.std.proofs.Common.{◌≡◌, ℕ, zero, suc, ◌<◌, ◌≤◌, ◌^◌, decimal, Option, Some, None, List, [], ◌∷◌, length, get_or, sym, ap, subst, ◌∙◌, arith}
 use Rattle.std.proofs.lemmas.Fmt.{decimal_injective, decimal_digit, decimal_nonempty, first_decimal}
+use Rattle.hp_states.specs.declared.limits.TheConstants.{MAX_GENERATED_SIZE}
 use Rattle.hp_command.specs.Options.{AreWordsOfBoth, AreOptions, AreSaid, BeginsPlain, Says}
 use Rattle.hp_command.specs.declared.options.Options.{Options}
 use Rattle.hp_command.proofs.Reading.{Word, same_texts}
@@ -15,7 +16,7 @@ no_seed s z options none h = none options.seed h.seed_fits h.seed_is
 pub no_size : (s z : Option Word) (options : Options) → ((n : ℕ) → n < 2 ^ 64 → Says 100 z n → ⊥) → AreSaid s z options → ⊥
 no_size s z options none h = none options.size (omega arith) h.size_is
 
-pub size_is : (s z : Option Word) (n : ℕ) (options : Options) → n < 2 ^ 64 → Says 100 z n → AreSaid s z options → (1 ≤ n) × (n ≤ 1000)
+pub size_is : (s z : Option Word) (n : ℕ) (options : Options) → n < 2 ^ 64 → Says 100 z n → AreSaid s z options → (1 ≤ n) × (n ≤ MAX_GENERATED_SIZE)
 size_is s z n options small says h =
     let same : options.size ≡ n = same_number 100 z options.size n (omega arith) small h.size_is says in
     (omega (arith, same, h.size_within), omega (arith, same, h.size_within))

@@ -1,5 +1,6 @@
 -- The options of a command: which words they are, and what they say. This project's own.
 use Rattle.std.specs.Prelude.{◌≡◌, ◌≢◌, ◌⊎◌, ⊤, ℕ, ◌≤◌, ◌<◌, ◌^◌, Option, Some, None, List, [], ◌∷◌, ◌++◌, codes, decimal}
+use Rattle.hp_states.specs.declared.limits.TheConstants.{MAX_GENERATED_SIZE}
 use Rattle.hp_command.specs.declared.options.Options.{Options}
 
 -- the words of an option: none where it is left out; else its name and then its text, as two words or, with `=` between
@@ -32,7 +33,7 @@ pub record AreSaid (seed size : Option (List ℕ)) (options : Options) : Type 0 
   pub seed_is : Says 1 seed options.seed
   pub size_is : Says 100 size options.size
   pub seed_fits : options.seed < 2 ^ 64
-  pub size_within : (1 ≤ options.size) × (options.size ≤ 1000)
+  pub size_within : (1 ≤ options.size) × (options.size ≤ MAX_GENERATED_SIZE)
 
 -- the words are options that say these numbers
 pub record AreOptions (words : List (List ℕ)) (options : Options) : Type 0 where

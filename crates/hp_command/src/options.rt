@@ -6,22 +6,20 @@ ghost use Rattle.hp_command.specs.declared.options.Options.{Options as TheOption
 
 use crate::number::number_of;
 use crate::texts::{Texts, texts_of};
-use hp_states::NoMemory;
+use hp_states::{MAX_GENERATED_SIZE, NoMemory};
 use std::alloc::Global;
 
 /// The seed where none is given.
 const DEFAULT_SEED: u64 = 1;
 /// The size where none is given.
 const DEFAULT_SIZE: u64 = 100;
-/// The largest size.
-const MAX_SIZE: u64 = 1000;
 
 /// The seed and the size of a generated script.
 #[derive(Clone, Copy, Debug, PartialEq, Eq)]
 pub struct Options {
     /// The seed that they are drawn from, any number of the type.
     pub seed: u64,
-    /// How many operations each actor of the script draws, from 1 to 1,000.
+    /// How many operations each actor of the script draws, from 1 to `MAX_GENERATED_SIZE`.
     pub size: u32,
 }
 
@@ -47,7 +45,7 @@ fn said_by(texts: &Texts<'_>) -> Option<Options>
 {
     let seed = value_of(texts.seed, DEFAULT_SEED)?;
     let size = value_of(texts.size, DEFAULT_SIZE)?;
-    if size == 0 || size > MAX_SIZE {
+    if size == 0 || size > MAX_GENERATED_SIZE as u64 {
         return None;
     }
     Some(Options {

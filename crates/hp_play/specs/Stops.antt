@@ -1,6 +1,6 @@
 -- Why no output is written, and what is so then. This project's own.
 use Rattle.std.specs.Prelude.{◌≡◌, ℕ, ◌+◌, ◌^◌, ◌<◌, ◌≤◌, Option, List}
-use Rattle.hp_script.specs.declared.limits.TheConstants.{MAX_GENERATED_SIZE}
+use Rattle.hp_states.specs.declared.limits.TheConstants.{MAX_GENERATED_SIZE}
 use Rattle.hp_command.specs.declared.command.Command.{Command}
 use Rattle.hp_command.specs.declared.command.Command.TheVariants as asks
 use Rattle.hp_script.specs.declared.error.ParseError.TheVariants.{Bad}

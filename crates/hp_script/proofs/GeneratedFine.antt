@@ -21,7 +21,8 @@ use Rattle.hp_script.specs.declared.schedule.Schedule.TheVariants.{Mix}
 use Rattle.hp_script.specs.declared.statement.Statement.TheVariants as says
 use Rattle.hp_script.specs.Numbers.{is_within}
 use Rattle.hp_script.specs.Ranges.{is_op}
-use Rattle.hp_script.specs.Before.{start, is_setup, after}
+use Rattle.hp_event.specs.Ops.{is_setup}
+use Rattle.hp_script.specs.Before.{start, after}
 use Rattle.hp_script.specs.Refusals.{is_first, is_actor, is_before_schedule, can_stand, names_no_sub}
 use Rattle.hp_script.specs.Generated.{first_draw, second_draw, instanced_state, drawn_by, one_drawn, state_behind, state_behind_one, state_behind_all, ops_drawn, plain, sub_words, rule_words, three_subs, schedule_words, heading, actor_words, drawn_lines, actors_from}
 use Rattle.hp_script.proofs.FineLines.{Says, FineTo, none, one, both, longer}

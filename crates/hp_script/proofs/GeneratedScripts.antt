@@ -3,10 +3,10 @@ use Rattle.std.proofs.Common.{◌≡◌, ℕ, ◌+◌, ◌*◌, ◌^◌, ◌<◌
 use Rattle.std.specs.Prelude.{codes, decimal}
 use Rattle.std.specs.List.{flat_map, list_all}
 use Rattle.std.proofs.lemmas.Bool.{and_parts, or_from, leb-true, lt-leb, le-ltb}
-use Rattle.hp_states.specs.declared.limits.TheConstants.{MAX_OPERATIONS, MAX_SUBS, MAX_SCRIPT_BYTES}
+use Rattle.hp_states.specs.declared.limits.TheConstants.{MAX_OPERATIONS, MAX_SUBS, MAX_SCRIPT_BYTES, MAX_GENERATED_SIZE}
 use Rattle.hp_event.specs.declared.op.Op.TheVariants as op
 use Rattle.hp_model.specs.Words.{joined, line}
-use Rattle.hp_script.specs.declared.limits.TheConstants.{MAX_NAMED_STATE, MAX_GENERATED_SIZE}
+use Rattle.hp_script.specs.declared.limits.TheConstants.{MAX_NAMED_STATE}
 use Rattle.hp_script.specs.declared.error.ScriptKind.{ScriptKind}
 use Rattle.hp_script.specs.declared.verb.Verb.TheVariants as verb
 use Rattle.hp_script.specs.declared.before.Group.TheVariants as group
@@ -93,7 +93,7 @@ twelve_fine hooks enough =
     subst (λ (ls : List (List (List ℕ))). FineTo hooks (among 1 0 0 false) ls 768 (among 1 12 12 false)) (sym twelve_are)
     (setups_fine hooks 0 twelve refl enough (omega arith))
 
-six_fine : (hooks size x : ℕ) → 12 ≤ hooks → size ≤ 1000 → Ends hooks (upper group.Schedule 12 1) (actors size x) (64 + (768 + (128 * size + most_of 5 size)))
+six_fine : (hooks size x : ℕ) → 12 ≤ hooks → size ≤ MAX_GENERATED_SIZE → Ends hooks (upper group.Schedule 12 1) (actors size x) (64 + (768 + (128 * size + most_of 5 size)))
 unfolding actors Goes Ends
 six_fine hooks size x enough few =
     let ops = all_fine hooks 1 12 size x (omega (arith, few)) in
@@ -105,7 +105,7 @@ six_fine hooks size x enough few =
           (both hooks (among 1 12 12 false) (among 1 ops.0 12 false) (among more.0 more.1 12 false) (drawn_lines size x) (actors_from 5 2 size (state_behind_all size x)) (128 * size) (most_of 5 size) ops.2 more.2)),
     )
 
-pub whole : (hooks seed size : ℕ) → 12 ≤ hooks → seed < 2 ^ 64 → size ≤ 1000 → Ends hooks start (generated_lines seed size) MAX_SCRIPT_BYTES
+pub whole : (hooks seed size : ℕ) → 12 ≤ hooks → seed < 2 ^ 64 → size ≤ MAX_GENERATED_SIZE → Ends hooks start (generated_lines seed size) MAX_SCRIPT_BYTES
 unfolding Ends
 whole hooks seed size enough lt few =
     let six = six_fine hooks size (state_behind 4 seed) enough few in (

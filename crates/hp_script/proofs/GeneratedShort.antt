@@ -4,10 +4,9 @@ use Rattle.std.specs.Prelude.{codes, decimal}
 use Rattle.std.specs.List.{flat_map, list_all}
 use Rattle.std.proofs.lemmas.Bool.{and_parts, or_right, leb-true, le-leb, cases_lt}
 use Rattle.std.proofs.lemmas.List.{length-append, length-map}
-use Rattle.hp_states.specs.declared.limits.TheConstants.{MAX_OPERATIONS, MAX_SCRIPT_BYTES}
+use Rattle.hp_states.specs.declared.limits.TheConstants.{MAX_OPERATIONS, MAX_SCRIPT_BYTES, MAX_GENERATED_SIZE}
 use Rattle.hp_event.specs.declared.op.Op.TheVariants as op
 use Rattle.hp_model.specs.Words.{joined, line}
-use Rattle.hp_script.specs.declared.limits.TheConstants.{MAX_GENERATED_SIZE}
 use Rattle.hp_script.specs.declared.error.ScriptKind.TheVariants.{TooMany}
 use Rattle.hp_script.specs.declared.verb.Verb.TheVariants as verb
 use Rattle.hp_script.specs.declared.before.Group.TheVariants as group

@@ -17,7 +17,8 @@ use Rattle.hp_script.specs.declared.statement.Statement.{Statement}
 use Rattle.hp_script.specs.declared.statement.Statement.TheVariants as says
 use Rattle.hp_script.specs.Numbers.{is_within}
 use Rattle.hp_script.specs.Ranges.{are_rising, is_any_within, is_rule, is_schedule, is_op}
-use Rattle.hp_script.specs.Before.{after, is_setup}
+use Rattle.hp_event.specs.Ops.{is_setup}
+use Rattle.hp_script.specs.Before.{after}
 use Rattle.hp_script.specs.Refusals.{is_first, names_no_sub}
 use Rattle.hp_script.specs.Script.{Contents}
 use Rattle.hp_script.specs.Drafts.{contents_and, with_last, one_rule_more, one_op_more, last_rules, Fits}

@@ -1,7 +1,6 @@
 -- What stood before a line, in short. This project's own.
-use Rattle.std.specs.Prelude.{ℕ, ◌+◌, Bool, true, false, if◌then◌else◌, Option, Some, None, List, [], ◌∷◌}
-use Rattle.hp_event.specs.declared.op.Op.{Op}
-use Rattle.hp_event.specs.declared.op.Op.TheVariants as op
+use Rattle.std.specs.Prelude.{ℕ, ◌+◌, false, if◌then◌else◌, Option, Some, None, List, [], ◌∷◌}
+use Rattle.hp_event.specs.Ops.{is_setup}
 use Rattle.hp_model.specs.Scripts.{lock_step}
 use Rattle.hp_script.specs.declared.before.Group.TheVariants as group
 use Rattle.hp_script.specs.declared.before.Before.{Before}
@@ -22,11 +21,6 @@ start = record {
   setups = 0;
   locked = false;
 }
-
--- whether an operation takes a hook
-abbrev pub is_setup : Op → Bool
-is_setup (op.Setup state sub form) = true
-is_setup _ = false
 
 -- one more statement
 abbrev pub after : Before → Statement → Before

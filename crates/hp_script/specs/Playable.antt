@@ -3,8 +3,8 @@
 use Rattle.std.specs.Prelude.{◌≡◌, ℕ, ◌≤◌, true, List, length, All, sum_by, count_by}
 use Rattle.hp_states.specs.declared.limits.TheConstants.{MAX_ACTORS, MAX_OPERATIONS}
 use Rattle.hp_event.specs.declared.op.Op.{Op}
+use Rattle.hp_event.specs.Ops.{is_setup}
 use Rattle.hp_model.specs.Scripts.{IsScript}
-use Rattle.hp_script.specs.Before.{is_setup}
 use Rattle.hp_script.specs.Ranges.{is_op, is_schedule}
 use Rattle.hp_script.specs.Script.{Contents}
 

@@ -2,6 +2,7 @@
 use Rattle.std.specs.Prelude.{ℕ, Bool, true, false, not, ◌&&◌, ◌||◌, nat_le, nat_lt, is_none, List, [], ◌∷◌, Option, Some, None, if◌then◌else◌}
 use Rattle.hp_states.specs.declared.limits.TheConstants.{MAX_SUBS, MAX_RULES, MAX_ACTORS, MAX_OPERATIONS}
 use Rattle.hp_event.specs.declared.op.Op.TheVariants as op
+use Rattle.hp_event.specs.Ops.{is_setup}
 use Rattle.hp_script.specs.declared.error.ScriptKind.{ScriptKind}
 use Rattle.hp_script.specs.declared.error.ScriptKind.TheVariants.{BadByte, NoCpus, BadWord, BadOrder, StillLocked, BadForm, BadNumber, NoSub, TooMany, NoActor}
 use Rattle.hp_script.specs.declared.verb.Verb.{Verb}
@@ -15,7 +16,6 @@ use Rattle.hp_script.specs.Words.{words, has_bad_byte, is_skipped}
 use Rattle.hp_script.specs.Verbs.{verb_of}
 use Rattle.hp_script.specs.Statements.{statement_by}
 use Rattle.hp_script.specs.Ranges.{is_in_range}
-use Rattle.hp_script.specs.Before.{is_setup}
 
 -- ---- the conditions
 

@@ -1,7 +1,7 @@
 //! What stood before a line, in short, and what may stand after it.
 
 ghost use Rattle.std.specs.Prelude.{◌≡◌, false, Some};
-ghost use Rattle.hp_script.specs.Before.{start, after, is_setup};
+ghost use Rattle.hp_script.specs.Before.{start, after};
 ghost use Rattle.hp_model.specs.Scripts.{lock_step};
 ghost use Rattle.hp_script.specs.Refusals.{is_first, is_cpus, is_actor, can_stand, is_behind_cpus, is_among_subs, is_among_actors, is_before_schedule, names_no_sub, is_too_many, refusal_at_end};
 ghost use Rattle.hp_script.specs.LineAnswers.{AnswersPlace, AnswersRoom};
@@ -48,12 +48,6 @@ pub struct Before {
     pub setups: u32,
     /// Whether the last `lock` or `unlock` of the last actor is a `lock`.
     pub locked: bool,
-}
-
-fn is_setup(op: &Op) -> bool
-    ensures { result ≡ is_setup op.now }
-{
-    matches!(op, Op::Setup { .. })
 }
 
 /// Whether an actor is locked after an operation: where the last `lock` or `unlock` is a `lock`.
@@ -178,7 +172,7 @@ impl Before {
             Statement::Rule(_) => self.rules >= MAX_RULES,
             Statement::Actor => self.actors >= MAX_ACTORS,
             Statement::Operation(op) => {
-                self.ops >= MAX_OPERATIONS || (is_setup(op) && self.setups >= hooks)
+                self.ops >= MAX_OPERATIONS || (op.is_setup() && self.setups >= hooks)
             }
             _ => false,
         }
@@ -224,7 +218,7 @@ impl Before {
             }
             Statement::Operation(op) => {
                 next.ops += 1;
-                next.setups += is_setup(op) as u32;
+                next.setups += op.is_setup() as u32;
                 next.locked = locked_after(self.locked, op);
             }
         }

@@ -4,7 +4,7 @@ ghost use Rattle.std.specs.Prelude.{ℕ, ◌^◌, ◌≡◌, ◌+◌, ◌≤◌,
 ghost use Rattle.std.specs.List.{flat_map};
 ghost use Rattle.hp_model.specs.Words.{line, kind_word};
 ghost use Rattle.hp_model.specs.EventLine.{op_words};
-ghost use Rattle.hp_script.specs.declared.limits.TheConstants.{MAX_GENERATED_SIZE};
+ghost use Rattle.hp_states.specs.declared.limits.TheConstants.{MAX_GENERATED_SIZE};
 ghost use Rattle.hp_script.specs.Generated.{rule_words, setup_lines, state_behind, state_behind_all, ops_drawn, sub_words, three_subs, heading, schedule_words, actor_words, setup_words, drawn_lines, actors, generated};
 ghost use Rattle.hp_script.specs.Judged.{IsRefused};
 ghost use Rattle.hp_script.specs.declared.error.ScriptKind.{ScriptKind};

@@ -54,7 +54,6 @@ mod words;
 pub use draws::Draws;
 pub use error::{ParseError, ScriptKind};
 pub use generator::{generate, generated_scripts_read, generated_scripts_want_hooks};
-pub use limits::MAX_GENERATED_SIZE;
 pub use reader::{one_refusal, parse, read_scripts_play};
 pub use schedule::Schedule;
 pub use script::Script;

@@ -13,5 +13,3 @@ pub const MAX_SEED: u64 = 18_446_744_073_709_551_615;
 pub const MAX_I32: u32 = 2_147_483_647;
 /// The lowest such value, without its sign.
 pub const MIN_I32: u32 = 2_147_483_648;
-/// The most operations that are drawn for each actor of a generated script.
-pub const MAX_GENERATED_SIZE: u32 = 1000;
