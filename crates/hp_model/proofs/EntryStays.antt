@@ -1,6 +1,6 @@
 -- An entry that can come stays so after an event of another seat, but for one that arms its processor in the middle of
 -- its walk.
-use Rattle.std.proofs.Common.{◌≡◌, ◌≢◌, ℕ, Bool, true, false, ◌&&◌, cond, eqb, ◌<◌, arith, is_none, Option, Some, None, List, [], ◌∷◌, ◌++◌, refl, ap, sym, ◌∙◌, subst, inl, inr, ◌⊎◌, is_some}
+use Rattle.std.proofs.Common.{◌≡◌, ◌≢◌, ℕ, Bool, true, false, ◌&&◌, cond, eqb, ◌<◌, is_none, Option, Some, None, List, [], ◌∷◌, ◌++◌, refl, ap, sym, ◌∙◌, subst, inl, inr, ◌⊎◌, is_some}
 use Rattle.std.proofs.lemmas.Bool.{true≢false, eqb-true}
 use Rattle.hp_states.specs.declared.dir.Dir.{Dir}
 use Rattle.hp_states.specs.declared.place.Place.{Place}
@@ -20,9 +20,9 @@ use Rattle.hp_model.specs.Lawful.{Comes, Stands, IsLawful}
 use Rattle.hp_model.specs.Lent.{arms, arms_walker}
 use Rattle.hp_model.specs.NextEvent.{due_entry}
 use Rattle.hp_model.specs.Registered.{registered, registered_step}
-use Rattle.hp_model.specs.Registrations.{Registration, registration, registration_step, registration_entries, registration_entries_step, is_registering}
+use Rattle.hp_model.specs.Registrations.{Registration, registration, registration_step, registration_entries, registration_entries_step}
 use Rattle.hp_model.specs.Seats.{admits, role_of, ap_seat, ap_step, seated, unseated}
-use Rattle.hp_model.specs.StandsCalls.{WalkEntry, RegistrationEntry, InWalk, InRegistration, Calls}
+use Rattle.hp_model.specs.StandsCalls.{WalkEntry, InWalk, InRegistration, Calls}
 use Rattle.hp_model.specs.StandsRegistrations.{RegEnds}
 use Rattle.hp_model.specs.StandsSeats.{CanSit}
 use Rattle.hp_model.specs.Walks.{Walk, walk, walk_step, walk_entries, entries_step}

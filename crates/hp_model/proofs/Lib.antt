@@ -33,6 +33,7 @@ mod FullExample
 mod RunExamples
 mod ScheduleExamples
 mod DynamicExample
+mod CompletesExample
 pub mod NextSlot
 pub mod TreeShapes
 pub mod Cursor
@@ -75,6 +76,9 @@ pub mod LockSteps
 pub mod AnswerCounts
 pub mod Going
 pub mod OneWalkProof
+pub mod Faultless
+pub mod EndAnswers
+pub mod CompletesProof
 pub mod TurnsMake
 pub mod AnswersShown
 pub mod DrawLemmas

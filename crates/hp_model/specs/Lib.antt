@@ -64,6 +64,8 @@ pub mod WithoutEvent
 pub mod Distance
 pub mod Scripts
 pub mod TurnMakes
+pub mod Own
+pub mod Completes
 pub mod Headline
 pub mod OneWalk
 pub mod Keys

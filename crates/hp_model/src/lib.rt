@@ -14,7 +14,7 @@
 //!    operations. `Needs`, `Promised`, `Room`: the room that they take.
 //! 6. `StandsCalls`, `StandsSeats`, `StandsOperations`, `StandsRegistrations`, `StandsFiles`, and
 //!    `Lawful`: which event stands after which events.
-//! 7. `Headline`, `OneWalk`, `Keys`, `Front`: what holds of every lawful journal.
+//! 7. `Headline`, `OneWalk`, `Keys`, `Front`, `Own`, `Completes`: what holds of every lawful journal.
 //! 8. `Pending`, `SeatWaits`, `ApTurn`, `Full`, `Turns`, `Moves`: what a turn finds, and that some seat
 //!    can move. `Trees`, `Remaining`, `UnderWay`, `FirstEvent`, `NextEvent`: what comes next, found by
 //!    functions.
@@ -48,6 +48,7 @@ ghost use Rattle.hp_model.specs.Walks.{walk};
 ghost use Rattle.hp_model.specs.Registrations.{registration};
 ghost use Rattle.hp_model.specs.Net.{keys_in_force as keys_in_force_of};
 ghost use Rattle.hp_model.specs.Headline.{Headline};
+ghost use Rattle.hp_model.specs.Completes.{Completes};
 ghost use Rattle.hp_model.specs.OneWalk.{IsOnlyWalk, LeavesOthers};
 ghost use Rattle.hp_model.specs.Keys.{AreKeysInForce, AreKeysAtRest};
 ghost use Rattle.hp_model.specs.Events.{seat_of, is_call, answered, BelongsTo};
@@ -87,6 +88,20 @@ pub fn headline(head: &Head, events: &[Event])
 #[tactic(auto, using(crate::proofs::HeadlineProof::headline_of_front))]
 pub fn headline_of_front(head: &Head, front: &[Event], rest: &[Event])
     ensures { IsLawful head.now (front.now ++ rest.now) → Headline head.now front.now }
+{}
+
+/// Every lawful journal completes: its last event, where it answers an operation or a registration that has
+/// no fault among its own entries, answers Ok, but for want of room, and but for a freeze that finds a wakeup
+/// pending before a walk; and where it answers an operation at once, Ok exactly where nothing refuses that.
+#[tactic(auto, using(crate::proofs::CompletesProof::completes))]
+pub fn completes(head: &Head, events: &[Event])
+    ensures { IsLawful head.now events.now → Completes head.now events.now }
+{}
+
+/// So does every front of a lawful journal.
+#[tactic(auto, using(crate::proofs::CompletesProof::completes_of_front))]
+pub fn completes_of_front(head: &Head, front: &[Event], rest: &[Event])
+    ensures { IsLawful head.now (front.now ++ rest.now) → Completes head.now front.now }
 {}
 
 /// The keys in force on a processor, as a list: of every journal, they rise, and are those that

@@ -14,6 +14,7 @@ use Rattle.hp_model.specs.Schedule.{first_turns, IsRunBy}
 use Rattle.hp_model.specs.Scripts.{IsScript}
 use Rattle.hp_model.specs.Walks.{Walk, walk}
 use Rattle.hp_model.proofs.HeadlineProof.{headline_of_front}
+use Rattle.hp_model.proofs.CompletesProof.{completes_of_front}
 use Rattle.hp_model.proofs.KeyLaw.{keys_at_rest}
 use Rattle.hp_model.proofs.OneNext.{owners}
 use Rattle.hp_model.proofs.Owners.{none_some}
@@ -42,6 +43,8 @@ journal_of script events plays run free quiet = record {
   lawful = lawful;
   headline = λ front rest is.
       headline_of_front script.head front rest (subst (λ es. IsLawful script.head es) (sym is) lawful);
+  completes = λ front rest is.
+      completes_of_front script.head front rest (subst (λ es. IsLawful script.head es) (sym is) lawful);
   no_operation = free;
   no_registration = quiet;
   keys = λ cpu. keys_at_rest script.head events cpu lawful (no_walk script.head events cpu lawful free) quiet;

@@ -5,6 +5,7 @@ use Rattle.hp_board.specs.Retired.{registered_hooks}
 use Rattle.hp_hook.specs.Counted.{Counts}
 use Rattle.hp_model.specs.Lawful.{IsLawful}
 use Rattle.hp_model.specs.Headline.{Headline}
+use Rattle.hp_model.specs.Completes.{Completes}
 use Rattle.hp_model.specs.MapLock.{operation}
 use Rattle.hp_model.specs.Net.{keys_in_force}
 use Rattle.hp_model.specs.Keys.{AreKeysAtRest}
@@ -16,12 +17,14 @@ use Rattle.hp_script.specs.Script.{Contents}
 use Rattle.hp_play.specs.declared.output.Output.{Output}
 use Rattle.hp_play.specs.Outputs.{output}
 
--- It is the run of the script's actors by its schedule; each event stands after those before it; every front of it has the headline;
--- nothing is in flight at its end, and the keys that its summary shows of a processor are those registered at or below its state.
+-- It is the run of the script's actors by its schedule; each event stands after those before it; every front of it has the headline, and
+-- completes; nothing is in flight at its end, and the keys that its summary shows of a processor are those registered at or below its
+-- state.
 pub record IsJournalOf (script : Contents) (events : List Event) : Type 0 where
   pub run : IsRunBy script.head script.actors (schedule_written script.schedule) events
   pub lawful : IsLawful script.head events
   pub headline : (front rest : List Event) → front ++ rest ≡ events → Headline script.head front
+  pub completes : (front rest : List Event) → front ++ rest ≡ events → Completes script.head front
   pub no_operation : operation events ≡ None
   pub no_registration : registration events ≡ None
   pub keys : (cpu : ℕ) → AreKeysAtRest script.head cpu events (keys_in_force cpu events)
