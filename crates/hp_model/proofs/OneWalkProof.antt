@@ -9,7 +9,7 @@ use Rattle.hp_model.specs.Journal.{EachAfter}
 use Rattle.hp_model.specs.Walks.{Walk, walk, touched}
 use Rattle.hp_model.specs.Lawful.{Comes, Stands, IsLawful}
 use Rattle.hp_model.specs.Headline.{Unchanged}
-use Rattle.hp_model.specs.OneWalk.{IsOnlyWalk, LeavesOthers}
+use Rattle.hp_model.specs.OneWalk.{LeavesOthers, WalksAlone}
 use Rattle.hp_model.proofs.Laws.{walk_push, touched_push}
 use Rattle.hp_model.proofs.InFlight.{walk_none}
 use Rattle.hp_model.proofs.Owners.{none_some}
@@ -56,11 +56,19 @@ untouched : (head : Head) (xs : List Event) → IsLawful head xs → Untouched x
 unfolding walk
 untouched head xs h = untouched_from head [] xs (λ c o w q other. absurd (none_some w q)) h.1
 
-pub one_walk : (head : Head) (events : List Event) → IsLawful head events → IsOnlyWalk events
-one_walk head events h = (owners head events h).one_walk
-
-pub leaves_others : (head : Head) (events : List Event) → IsLawful head events → LeavesOthers events
+leaves_others : (head : Head) (events : List Event) → IsLawful head events → LeavesOthers events
 leaves_others head events h before seat cpu answer w is q other apart =
     let front = lawful_front head before (WalkEnd seat cpu answer ∷ []) (subst (λ z. IsLawful head z) is h) in
     subst (λ z. Unchanged other w.before z) (sym is)
     (others_unchanged head before seat cpu answer w other (beside head before front) q (untouched head before front cpu other w q apart))
+
+pub one_walk : (head : Head) (events : List Event) → IsLawful head events → WalksAlone events
+one_walk head events h = record {
+  held = (owners head events h).walk_op;
+  one = (owners head events h).one_walk;
+  since_begin = untouched head events h;
+  others = leaves_others head events h;
+}
+
+pub one_walk_of_front : (head : Head) (front rest : List Event) → IsLawful head (front ++ rest) → WalksAlone front
+one_walk_of_front head front rest h = one_walk head front (lawful_front head front rest h)

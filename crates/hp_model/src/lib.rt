@@ -49,7 +49,7 @@ ghost use Rattle.hp_model.specs.Registrations.{registration};
 ghost use Rattle.hp_model.specs.Net.{keys_in_force as keys_in_force_of};
 ghost use Rattle.hp_model.specs.Headline.{Headline};
 ghost use Rattle.hp_model.specs.Completes.{Completes};
-ghost use Rattle.hp_model.specs.OneWalk.{IsOnlyWalk, LeavesOthers};
+ghost use Rattle.hp_model.specs.OneWalk.{WalksAlone};
 ghost use Rattle.hp_model.specs.Keys.{AreKeysInForce, AreKeysAtRest};
 ghost use Rattle.hp_model.specs.Events.{seat_of, is_call, answered, BelongsTo};
 ghost use Rattle.hp_model.specs.Run.{admissions, CanTake, all_answered, IsRun};
@@ -142,11 +142,17 @@ pub fn one_next(head: &Head, before: &[Event], op: &Op, one: &Event, other: &Eve
         one.now ≡ other.now }
 {}
 
-/// After a lawful journal at most one processor walks. So a walk leaves every other processor as it was when
-/// the walk began, whatever answer it ends with.
+/// After a lawful journal at most one processor walks, for the operation that holds the map lock. So a walk
+/// leaves every other processor as it was when the walk began, whatever answer it ends with.
+#[tactic(auto, using(crate::proofs::OneWalkProof::one_walk))]
 pub fn one_walk(head: &Head, events: &[Event])
-    ensures one { IsLawful head.now events.now → IsOnlyWalk events.now }
-    ensures others { IsLawful head.now events.now → LeavesOthers events.now }
+    ensures { IsLawful head.now events.now → WalksAlone events.now }
+{}
+
+/// So it is after every front of a lawful journal.
+#[tactic(auto, using(crate::proofs::OneWalkProof::one_walk_of_front))]
+pub fn one_walk_of_front(head: &Head, front: &[Event], rest: &[Event])
+    ensures { IsLawful head.now (front.now ++ rest.now) → WalksAlone front.now }
 {}
 
 /// What is promised to a lawful journal fits into it: with all its promises it is within the limit.

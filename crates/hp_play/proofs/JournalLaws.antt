@@ -15,6 +15,7 @@ use Rattle.hp_model.specs.Scripts.{IsScript}
 use Rattle.hp_model.specs.Walks.{Walk, walk}
 use Rattle.hp_model.proofs.HeadlineProof.{headline_of_front}
 use Rattle.hp_model.proofs.CompletesProof.{completes_of_front}
+use Rattle.hp_model.proofs.OneWalkProof.{one_walk_of_front}
 use Rattle.hp_model.proofs.KeyLaw.{keys_at_rest}
 use Rattle.hp_model.proofs.OneNext.{owners}
 use Rattle.hp_model.proofs.Owners.{none_some}
@@ -43,6 +44,8 @@ journal_of script events plays run free quiet = record {
   lawful = lawful;
   headline = λ front rest is.
       headline_of_front script.head front rest (subst (λ es. IsLawful script.head es) (sym is) lawful);
+  one_walk = λ front rest is.
+      one_walk_of_front script.head front rest (subst (λ es. IsLawful script.head es) (sym is) lawful);
   completes = λ front rest is.
       completes_of_front script.head front rest (subst (λ es. IsLawful script.head es) (sym is) lawful);
   no_operation = free;

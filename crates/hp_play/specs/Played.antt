@@ -6,6 +6,7 @@ use Rattle.hp_hook.specs.Counted.{Counts}
 use Rattle.hp_model.specs.Lawful.{IsLawful}
 use Rattle.hp_model.specs.Headline.{Headline}
 use Rattle.hp_model.specs.Completes.{Completes}
+use Rattle.hp_model.specs.OneWalk.{WalksAlone}
 use Rattle.hp_model.specs.MapLock.{operation}
 use Rattle.hp_model.specs.Net.{keys_in_force}
 use Rattle.hp_model.specs.Keys.{AreKeysAtRest}
@@ -18,12 +19,13 @@ use Rattle.hp_play.specs.declared.output.Output.{Output}
 use Rattle.hp_play.specs.Outputs.{output}
 
 -- It is the run of the script's actors by its schedule; each event stands after those before it; every front of it has the headline, and
--- completes; nothing is in flight at its end, and the keys that its summary shows of a processor are those registered at or below its
--- state.
+-- completes, and at most one processor walks after it, which leaves the others as they were; nothing is in flight at its end, and the
+-- keys that its summary shows of a processor are those registered at or below its state.
 pub record IsJournalOf (script : Contents) (events : List Event) : Type 0 where
   pub run : IsRunBy script.head script.actors (schedule_written script.schedule) events
   pub lawful : IsLawful script.head events
   pub headline : (front rest : List Event) → front ++ rest ≡ events → Headline script.head front
+  pub one_walk : (front rest : List Event) → front ++ rest ≡ events → WalksAlone front
   pub completes : (front rest : List Event) → front ++ rest ≡ events → Completes script.head front
   pub no_operation : operation events ≡ None
   pub no_registration : registration events ≡ None
