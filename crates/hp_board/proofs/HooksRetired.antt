@@ -12,7 +12,7 @@ use Rattle.hp_model.specs.Registered.{Registered, registered}
 use Rattle.hp_model.specs.Registrations.{Registration, registration}
 use Rattle.hp_table.specs.Step.{Step, step_at}
 use Rattle.hp_ledger.specs.Table.{IsTableOf, IsStepOf, registered_by, registered_meanwhile}
-use Rattle.hp_board.specs.Retired.{hook_at, hooks_of, registered_hook, registered_hooks, calls_at, calls_of_registered, IsRacked}
+use Rattle.hp_board.specs.Retired.{hook_at, hooks_of, registered_hook, registered_hooks, IsRacked}
 
 -- the numbers from one on
 unfoldable pub from : (a n : ℕ) → List ℕ
@@ -69,39 +69,6 @@ hooks_as_registered head events places t states rest =
     ∙ ap (registered_hook head events) (sym e))
     ∙ ap (λ (n : ℕ). flat_map (registered_hook head events) (from 0 n)) states
     ∙ ap (flat_map (registered_hook head events)) (sym (numbers_from (ONLINE + 1)))
-
--- how often they were called
-calls_one : (head : Head) (events : List Event) (s : ℕ) → (r : Option Registered) → registered head s events ≡ r →
-    map (λ (h : Counts). h.made) (registered_hook head events s) ≡ calls_at head events s
-calls_one head events s None is = rw is refl
-calls_one head events s (Some r) is = rw is refl
-
-calls_all : (head : Head) (events : List Event) (ss : List ℕ) →
-    map (λ (h : Counts). h.made) (flat_map (registered_hook head events) ss) ≡ flat_map (calls_at head events) ss
-calls_all head events [] = refl
-calls_all head events (s ∷ ss) =
-    map-append (λ (h : Counts). h.made) (registered_hook head events s) (flat_map (registered_hook head events) ss)
-    ∙ ap (λ xs. xs ++ map (λ (h : Counts). h.made) (flat_map (registered_hook head events) ss))
-    (calls_one head events s (registered head s events) refl)
-    ∙ ap (λ xs. calls_at head events s ++ xs) (calls_all head events ss)
-
-calls_are : (head : Head) (events : List Event) →
-    map (λ (h : Counts). h.made) (registered_hooks head events) ≡ calls_of_registered head events
-unfolding registered_hooks calls_of_registered
-calls_are head events = calls_all head events (numbers (ONLINE + 1))
-
-map_map : {A B C : Type 0} (f : B → C) (g : A → B) (xs : List A) → map f (map g xs) ≡ map (λ x. f (g x)) xs
-map_map f g [] = refl
-map_map f g (x ∷ xs) = ap (λ ys. f (g x) ∷ ys) (map_map f g xs)
-
--- the counts of the hooks that were put behind others
-made_behind : {H : Type 0} (seen : H → Counts) (old new : List H) (hooks : List Counts) → IsRacked seen old new hooks →
-    map (λ h. (seen h).made) new ≡ map (λ h. (seen h).made) old ++ map (λ (k : Counts). k.made) hooks
-made_behind seen old new hooks racked =
-    ap (map (λ h. (seen h).made)) racked.behind
-    ∙ map-append (λ h. (seen h).made) old racked.added
-    ∙ ap (λ xs. map (λ h. (seen h).made) old ++ xs)
-    (sym (map_map (λ (k : Counts). k.made) seen racked.added) ∙ ap (map (λ (k : Counts). k.made)) racked.are)
 
 -- the hooks of the states up to one more
 hooks_suc : (places : List (Option Step)) (k : ℕ) → k < length places →
@@ -171,11 +138,3 @@ retired_as_registered seen old room new head events places t states rest same r 
       behind = r.behind ∙ ap (λ xs. xs ++ r.added) same;
       are = r.are ∙ hooks_as_registered head events places t states rest;
     }
-
--- and how often they were called
-pub retired_made : {H : Type 0} (seen : H → Counts) (old new : List H) (head : Head) (events : List Event) →
-    IsRacked seen old new (registered_hooks head events) →
-    map (λ h. (seen h).made) new ≡ map (λ h. (seen h).made) old ++ calls_of_registered head events
-retired_made seen old new head events r =
-    made_behind seen old new (registered_hooks head events) r
-    ∙ ap (λ xs. map (λ h. (seen h).made) old ++ xs) (calls_are head events)

@@ -39,15 +39,3 @@ pub record IsRacked {H : Type 0} (seen : H → Counts) (old new : List H) (hooks
   pub added : List H
   pub behind : new ≡ old ++ added
   pub are : map seen added ≡ hooks
-
-abbrev pub calls_if : (calls : ℕ) → Option Registered → List ℕ
-calls_if n None = []
-calls_if n (Some r) = n ∷ []
-
--- how often the callbacks of a state were called since its setup, where it is registered
-abbrev pub calls_at : Head → List Event → (state : ℕ) → List ℕ
-calls_at head events s = calls_if (length (sites s events)) (registered head s events)
-
--- of the registered states, in rising number
-unfoldable pub calls_of_registered : Head → List Event → List ℕ
-calls_of_registered head events = flat_map (calls_at head events) (numbers (ONLINE + 1))

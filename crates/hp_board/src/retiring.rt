@@ -2,7 +2,7 @@
 
 ghost use Rattle.std.specs.Prelude.{◌≡◌, ◌≢◌, true, ◌+◌, ◌<◌, ◌≤◌, ℕ, None, Some, [], ◌∷◌, ◌++◌, IfOk, IfErr, IfSome, IfNone, OnOk, OnErr, map, vec_len, vec_capacity};
 ghost use Rattle.hp_states.specs.declared.limits.TheConstants.{ONLINE};
-ghost use Rattle.hp_board.specs.Retired.{IsRacked, hook_at, hooks_of, registered_hooks, calls_of_registered};
+ghost use Rattle.hp_board.specs.Retired.{IsRacked, hook_at, hooks_of, registered_hooks};
 ghost use Rattle.hp_model.specs.Registrations.{registration};
 ghost use Rattle.hp_table.specs.Instances.{instances_at};
 ghost use Rattle.hp_table.specs.Step.{step_at, is_home, AllHome};
@@ -36,9 +36,6 @@ impl<H: Hook> Board<H> {
             rack.old.hooks.items rack.new.hooks.items (hooks_of self.places)) }
         ensures registered { OnOk result (registration self.events ≡ None → IsRacked H.counts
             rack.old.hooks.items rack.new.hooks.items (registered_hooks self.head self.events)) }
-        ensures made { OnOk result (registration self.events ≡ None →
-            map (λ h. (H.counts h).made) rack.new.hooks.items
-            ≡ map (λ h. (H.counts h).made) rack.old.hooks.items ++ calls_of_registered self.head self.events) }
         ensures err { IfErr result (λ refused. refused.1 ≡ self) }
         ensures rack { OnErr result (rack.new.hooks.items ≡ rack.old.hooks.items) }
     {

@@ -10,7 +10,7 @@ ghost use Rattle.hp_ledger.specs.Next.{IsKept};
 ghost use Rattle.hp_model.specs.Lent.{arms, arms_walker};
 ghost use Rattle.hp_table.specs.Step.{step_at, is_home, AllHome, HasCounted};
 ghost use Rattle.hp_event.specs.declared.event.Event.TheVariants.{Call};
-ghost use Rattle.hp_ledger.specs.TableChanges.{is_setup, registering_step};
+ghost use Rattle.hp_ledger.specs.TableChanges.{registering_step};
 ghost use Rattle.hp_locks.specs.declared.why.Why.TheVariants.{HookOut};
 ghost use Rattle.hp_model.specs.Events.{answer_by};
 ghost use Rattle.hp_model.specs.NextEvent.{next_event, due_entry};
@@ -179,7 +179,7 @@ impl<H: Hook> Board<H> {
         {
             return false;
         }
-        ask.hook.is_some() == (is_setup(ask.op) && !self.machine.is_busy(by))
+        ask.hook.is_some() == (ask.op.is_setup() && !self.machine.is_busy(by))
     }
 
     /// Whether a seat is in as a client.
@@ -236,13 +236,6 @@ fn is_same(one: Op, other: Op) -> bool
     ensures { IsTrue result ↔ (one ≡ other) }
 {
     one == other
-}
-
-/// Whether an operation is a setup, which brings a hook.
-fn is_setup(op: Op) -> bool
-    ensures { result ≡ is_setup op }
-{
-    matches!(op, Op::Setup { .. })
 }
 
 /// What is answered of an event that was made, at its place.

@@ -5,6 +5,7 @@ use Rattle.std.specs.Prelude.{◌≡◌, ◌<◌, ℕ, Bool, true, false, not, �
 use Rattle.hp_states.specs.declared.limits.TheConstants.{OFFLINE, ONLINE}
 use Rattle.hp_states.specs.Rules.{site_at}
 use Rattle.hp_event.specs.Ops.{is_adding}
+pub use Rattle.hp_event.specs.Ops.{is_setup}
 use Rattle.hp_event.specs.declared.op.Op.{Op}
 use Rattle.hp_event.specs.declared.op.Op.TheVariants.{Setup, Remove, Add, Del}
 use Rattle.hp_event.specs.declared.answer.Answer.{Answer}
@@ -46,11 +47,6 @@ place_without _ step = None
 
 abbrev pub place_left : Op → Answer → Step → Option Step
 place_left op answer step = if takes_out op answer then place_without op step else Some step
-
--- whether an operation is a setup, which brings a hook
-abbrev pub is_setup : Op → Bool
-is_setup (Setup asked sub form) = true
-is_setup _ = false
 
 abbrev pub with_record : List (Option Step) → (state number : ℕ) → Option Sub → List (Option Step)
 with_record places s n None = places

@@ -165,6 +165,9 @@ fn take_hook<H: Hook>(table: &mut Table<H>, state: u32) -> H
 fn takes_out(op: Op, answer: Answer) -> bool
     ensures { result ≡ takes_out op answer }
 {
-    let is_ok = matches!(answer, Answer::Ok(_));
-    if op.is_adding() { !is_ok } else { is_ok }
+    if op.is_adding() {
+        !answer.is_ok()
+    } else {
+        answer.is_ok()
+    }
 }

@@ -4,7 +4,7 @@ use Rattle.hp_model.specs.Registrations.{registration}
 use Rattle.hp_table.specs.Step.{AllHome}
 use Rattle.hp_board.specs.Contents.{Contents}
 use Rattle.hp_board.specs.Retired.{IsRacked, hooks_of, registered_hooks}
-use Rattle.hp_board.proofs.HooksRetired.{retired_as_registered, retired_made}
+use Rattle.hp_board.proofs.HooksRetired.{retired_as_registered}
 use Rattle.hp_board.proofs.board.Board.retire.Goals as goal
 
 room : {T E : Type 0} (r : Result T E) (P : Type 0) → OnOk r P → is_ok r ≡ true → P
@@ -27,17 +27,8 @@ returns-clause-registered g c = λ rest.
     let at = subst (λ (b : Contents). registration b.events ≡ None) (sym c.self.view_is) rest in
     subst
     (λ (b : Contents).
-    IsRacked g.H.Hook.counts
-    c.args.rack.now.hooks.items c.move_hooks.new.hooks.items (registered_hooks b.head b.events))
+    IsRacked g.H.Hook.counts c.args.rack.now.hooks.items c.move_hooks.new.hooks.items (registered_hooks b.head b.events))
     c.self.view_is
-    (retired_as_registered
-    g.H.Hook.counts
-    c.args.rack.now.hooks.items c.try_reserve.new.self.items c.move_hooks.new.hooks.items l.head l.events c.self.inside.machine.places
+    (retired_as_registered g.H.Hook.counts c.args.rack.now.hooks.items c.try_reserve.new.self.items c.move_hooks.new.hooks.items l.head l.events c.self.inside.machine.places
     c.sound.ensures.table c.sound.ensures.places.states at c.try_reserve.ensures.items
-    (subst (λ p. IsRacked g.H.Hook.counts
-    c.try_reserve.new.self.items c.move_hooks.new.hooks.items (hooks_of p)) c.into_parts-journal.ensures.table c.move_hooks.ensures))
-
-pub returns-clause-made : goal.returns-clause-made
-returns-clause-made g c = λ rest.
-    retired_made g.H.Hook.counts
-    c.args.rack.now.hooks.items c.move_hooks.new.hooks.items c.args.self.head c.args.self.events (returns-clause-registered g c rest)
+    (subst (λ p. IsRacked g.H.Hook.counts c.try_reserve.new.self.items c.move_hooks.new.hooks.items (hooks_of p)) c.into_parts-journal.ensures.table c.move_hooks.ensures))
