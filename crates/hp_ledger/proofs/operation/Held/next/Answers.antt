@@ -20,13 +20,13 @@ returns-in-Freeze c = λ head events o lawful held op walking standing suspended
     let is : IsSequence head o.before events o.op c.args.self.now.sequence = of_held head events c.args.self.now o held op in
     let f = freeze_is head events o c.in-Freeze.freeze (subst (IsSequence head o.before events o.op) c.in-Freeze.is is) in
     let online = subst (AreOnline head events) (sym c.online.ensures.online) (online_all head events c.args.processors.now standing) in
-    c.next-in-Freeze.ensures head events o f.primary lawful op f.op_is walking f.is online (c.wakeup.ensures ∙ suspended.wakeup_is)
+    c.next-in-Freeze.ensures.by_journal head events o f.primary lawful op f.op_is walking f.is online (c.wakeup.ensures ∙ suspended.wakeup_is)
 
 pub returns-in-Thaw : goal.returns-in-Thaw
 returns-in-Thaw c = λ head events o lawful held op walking standing suspended.
     let is : IsSequence head o.before events o.op c.args.self.now.sequence = of_held head events c.args.self.now o held op in
     let t = thaw_is head events o c.in-Thaw.thaw (subst (IsSequence head o.before events o.op) c.in-Thaw.is is) in
-    c.next-in-Thaw.ensures head events o lawful op t.0 walking t.1
+    c.next-in-Thaw.ensures.by_journal head events o lawful op t.0 walking t.1
     (subst (AreFrozen head events) (sym c.frozen.ensures)
     (flags_all head (λ cpu. among cpu (frozen events)) c.args.suspended.now.frozen suspended.frozen_is))
     (subst (AreSettled head events) (sym c.settled-settled.ensures.settled) (settled_all head events c.args.processors.now standing))
@@ -35,6 +35,6 @@ pub returns-in-Boot : goal.returns-in-Boot
 returns-in-Boot c = λ head events o lawful held op walking standing suspended.
     let is : IsSequence head o.before events o.op c.args.self.now.sequence = of_held head events c.args.self.now o held op in
     let b = boot_is head events o c.in-Boot.boot (subst (IsSequence head o.before events o.op) c.in-Boot.is is) in
-    c.next-in-Boot.ensures head events o b.max lawful op b.op_is walking b.is
+    c.next-in-Boot.ensures.by_journal head events o b.max lawful op b.op_is walking b.is
     (subst (ArePresent head) (sym c.present.ensures) (flags_all head (is_present head) c.args.processors.now.present standing.present_is))
     (subst (AreOnline head events) (sym c.online-in-Boot.ensures.online) (online_all head events c.args.processors.now standing))
