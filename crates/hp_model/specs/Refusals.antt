@@ -26,15 +26,20 @@ use Rattle.hp_model.specs.RefusalsAtOnce.{Check, if_so, first_that_holds, refusa
 abbrev pub one_online : Head → List Event → Bool
 one_online head events = length (online head events) == 1
 
--- a target above the state is a way up, one below it a way down
+-- the way of a processor from the state where it stands: a target above the state is a way up, one below it a way down
+abbrev pub refusals_of_way : Head → List Event → (cpu to now : ℕ) → List Check
+refusals_of_way head events c to now =
+    if_so (nat_lt now to && is_disabled events) EBUSY
+    ∷ if_so (nat_lt now to && not (is_present head c)) EINVAL
+    ∷ if_so (nat_lt to now && is_disabled events) EBUSY
+    ∷ if_so (nat_lt to now && one_online head events) EBUSY ∷ []
+
+-- a target has a name, a walk can be aimed at it, and the way to it isn't refused
 abbrev pub refusals_of_target : Head → List Event → (cpu to now : ℕ) → List Check
 refusals_of_target head events c to now =
     if_so (not (is_named head to events)) EINVAL
     ∷ if_so (not (is_stop to)) EINVAL
-    ∷ if_so (nat_lt now to && is_disabled events) EBUSY
-    ∷ if_so (nat_lt now to && not (is_present head c)) EINVAL
-    ∷ if_so (nat_lt to now && is_disabled events) EBUSY
-    ∷ if_so (nat_lt to now && one_online head events) EBUSY ∷ []
+    ∷ refusals_of_way head events c to now
 
 -- whether a state is registered with a callback of some direction
 abbrev pub can_be_armed : Head → (state : ℕ) → List Event → Bool
