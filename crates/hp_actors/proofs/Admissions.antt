@@ -14,7 +14,7 @@ use Rattle.hp_model.specs.Journal.{EachAfter}
 use Rattle.hp_model.specs.Lawful.{Stands, IsLawful}
 use Rattle.hp_model.specs.Lists.{numbers}
 use Rattle.hp_model.specs.Processors.{is_present, present}
-use Rattle.hp_model.specs.Run.{admissions, ap_admits, client_admits}
+use Rattle.hp_model.specs.Admissions.{admissions, ap_admits, client_admits}
 use Rattle.hp_model.specs.Seats.{admits}
 use Rattle.hp_model.proofs.Laws.{EachAfter_push, EachAfter_front}
 use Rattle.hp_model.proofs.RunLemmas.{admissions_lawful}

@@ -23,7 +23,7 @@ use Rattle.hp_model.specs.ApTurn.{IsEntryOf, IsApTurn}
 use Rattle.hp_model.specs.Events.{seat_of, is_call}
 use Rattle.hp_model.specs.Lawful.{IsLawful}
 use Rattle.hp_model.specs.NextEvent.{next_event, due_entry, is_full}
-use Rattle.hp_model.specs.ScriptTurns.{Progress, counted, turn}
+use Rattle.hp_model.specs.ScriptTurns.{RunState, counted, turn}
 use Rattle.hp_model.specs.Seats.{is_busy}
 use Rattle.hp_model.specs.Waits.{Wait, maps_held, is_waiting}
 use Rattle.hp_model.specs.MapLock.{is_map_held}
@@ -298,7 +298,7 @@ none_known {H} board threads actors unmarked = record {
 
 stays : (head : Head) (events : List Event) (answers : List ℕ) (k i : ℕ) (o : Option Op) → event_for head events k o ≡ None →
     answers_for head events k o ≡ false →
-    ◌≡◌ {A = Progress} (record { events = events ++ option_to_list (event_for head events k o); answers = counted i (answers_for head events k o) answers })
+    ◌≡◌ {A = RunState} (record { events = events ++ option_to_list (event_for head events k o); answers = counted i (answers_for head events k o) answers })
     (record { events = events; answers = answers })
 stays head events answers k i o none unanswered = rw (none, unanswered, append-nil) refl
 
@@ -314,7 +314,7 @@ nothing_made board threads i k actors actor p is at none unanswered =
     ∙ (ap (λ (o : Option Op). done o) asks
     ∙ stays board.head board.events (map answered_of actors) k i (asked actor) none unanswered)
   where
-    done : Option Op → Progress
+    done : Option Op → RunState
     done o =
         record {
           events = board.events ++ option_to_list (event_for board.head board.events k o);
@@ -385,5 +385,5 @@ pub passed : (now : Position) (seat : ℕ) → turn now.head now.actors now.prog
     now ≡ record { head = now.head; actors = now.actors; progress = turn now.head now.actors now.progress seat }
 passed now seat still = ap at (sym still)
   where
-    at : Progress → Position
+    at : RunState → Position
     at q = record { head = now.head; actors = now.actors; progress = q }

@@ -9,10 +9,10 @@ use Rattle.hp_event.specs.declared.event.Event.{Event}
 use Rattle.hp_board.specs.Contents.{Contents}
 use Rattle.hp_ledger.specs.TableChanges.{is_setup}
 use Rattle.hp_model.specs.Processors.{present}
-use Rattle.hp_model.specs.Run.{admissions, ap_admits}
+use Rattle.hp_model.specs.Admissions.{admissions, ap_admits}
 use Rattle.hp_model.specs.Scripts.{IsScript}
 use Rattle.hp_model.specs.ScriptRun.{start}
-use Rattle.hp_model.specs.ScriptTurns.{Progress, after_turns}
+use Rattle.hp_model.specs.ScriptTurns.{RunState, after_turns}
 use Rattle.hp_model.specs.Seats.{is_busy, holds_map, registers}
 use Rattle.hp_model.specs.Registrations.{registration}
 use Rattle.hp_model.proofs.Roster.{operation_first, registration_first}
@@ -73,7 +73,7 @@ at_start board threads actors head ops o =
     same board.events (map answered_of actors) (admissions head ops) (replicate (length ops) 0) events answers
   where
     same : (es : List Event) (ns : List ℕ) (fs : List Event) (ms : List ℕ) → es ≡ fs → ns ≡ ms →
-        ◌≡◌ {A = Progress} (record { events = es; answers = ns }) (record { events = fs; answers = ms })
+        ◌≡◌ {A = RunState} (record { events = es; answers = ns }) (record { events = fs; answers = ms })
     same es ns fs ms a b = rw (a, b) refl
 
 pub opened_position : {H : Type 0} (board : Contents) (threads : ℕ) (actors : List (Actor H)) (head : Head) (ops : List (List Op)) →
@@ -83,7 +83,7 @@ opened_position board threads actors head ops o =
     same board.head (map ops_of actors) (progress_of board.events actors) head ops (start head ops) o.head_is o.ops_are
     (at_start board threads actors head ops o)
   where
-    same : (h : Head) (a : List (List Op)) (p : Progress) (i : Head) (b : List (List Op)) (q : Progress) → h ≡ i → a ≡ b → p ≡ q →
+    same : (h : Head) (a : List (List Op)) (p : RunState) (i : Head) (b : List (List Op)) (q : RunState) → h ≡ i → a ≡ b → p ≡ q →
         ◌≡◌ {A = Position} (record { head = h; actors = a; progress = p }) (record { head = i; actors = b; progress = q })
     same h a p i b q x y z = rw (x, y, z) refl
 

@@ -12,7 +12,7 @@ use Rattle.hp_model.specs.NextEvent.{due_entry}
 use Rattle.hp_model.specs.Processors.{present}
 use Rattle.hp_model.specs.Scripts.{IsScript}
 use Rattle.hp_model.specs.ScriptRun.{start, answered_below, is_over, after_round, after_rounds, IsRun}
-use Rattle.hp_model.specs.ScriptTurns.{Progress, unanswered, turn, after_turns}
+use Rattle.hp_model.specs.ScriptTurns.{RunState, unanswered, turn, after_turns}
 use Rattle.hp_model.proofs.RoundsEnd.{turns_go_on, turns_bounded}
 use Rattle.hp_board.specs.declared.turn.Ask.{Ask}
 use Rattle.hp_actors.specs.Asking.{IsReached}
@@ -20,7 +20,7 @@ use Rattle.hp_actors.specs.Positions.{Position, op_of}
 use Rattle.hp_actors.proofs.Progressing.{turns_push, turns_none, idle_turn}
 
 -- seats that nothing is due from are passed over
-pub idle_until : (head : Head) (actors : List (List Op)) (at : Progress) (m d n : ℕ) → n ≡ m + d → n ≤ length (present head) →
+pub idle_until : (head : Head) (actors : List (List Op)) (at : RunState) (m d n : ℕ) → n ≡ m + d → n ≤ length (present head) →
     ((k : ℕ) → m ≤ k → k < n → due_entry head (after_turns head actors at (numbers m)).events k ≡ None) →
     after_turns head actors at (numbers n) ≡ after_turns head actors at (numbers m)
 idle_until head actors at m zero n is few none =
@@ -35,14 +35,14 @@ idle_until head actors at m (suc d) n is few none =
     ∙ (turns_push head actors at (numbers k) k ∙ (ap (λ z. turn head actors z k) before ∙ idle))
 
 -- one seat more
-pub numbers_more : (head : Head) (actors : List (List Op)) (at : Progress) (k : ℕ) →
+pub numbers_more : (head : Head) (actors : List (List Op)) (at : RunState) (k : ℕ) →
     after_turns head actors at (numbers (k + 1)) ≡ turn head actors (after_turns head actors at (numbers k)) k
 numbers_more head actors at k =
     let e : k + 1 ≡ suc k = omega arith in
     ap (λ z. after_turns head actors at (numbers z)) e ∙ turns_push head actors at (numbers k) k
 
 -- the next seat that something is due from has its turn
-pub due_turn : (head : Head) (actors : List (List Op)) (at now : Progress) (m k : ℕ) →
+pub due_turn : (head : Head) (actors : List (List Op)) (at now : RunState) (m k : ℕ) →
     now ≡ after_turns head actors at (numbers m) → m ≤ k → k < length (present head) →
     ((j : ℕ) → m ≤ j → j < k → due_entry head now.events j ≡ None) →
     turn head actors now k ≡ after_turns head actors at (numbers (k + 1))
@@ -52,7 +52,7 @@ due_turn head actors at now m k is from below none =
     (λ j a b. ap (λ z. due_entry head z.events j) (sym is) ∙ none j a b) in
     ap (λ z. turn head actors z k) (is ∙ sym passed) ∙ sym (numbers_more head actors at k)
 
-pub none_due : (head : Head) (actors : List (List Op)) (at now : Progress) (m : ℕ) →
+pub none_due : (head : Head) (actors : List (List Op)) (at now : RunState) (m : ℕ) →
     now ≡ after_turns head actors at (numbers m) → m ≤ length (present head) →
     ((j : ℕ) → m ≤ j → j < length (present head) → due_entry head now.events j ≡ None) →
     now ≡ after_turns head actors at (numbers (length (present head)))
@@ -118,7 +118,7 @@ all_served old now next s none =
     (λ k a b. ap (λ h. due_entry h now.progress.events k) (sym s.head) ∙ none k a (omega (arith, b, e))) in
     same now.head now.actors now.progress old.head old.actors _ s.head s.actors t
   where
-    same : (h : Head) (a : List (List Op)) (p : Progress) (i : Head) (b : List (List Op)) (q : Progress) → h ≡ i → a ≡ b → p ≡ q →
+    same : (h : Head) (a : List (List Op)) (p : RunState) (i : Head) (b : List (List Op)) (q : RunState) → h ≡ i → a ≡ b → p ≡ q →
         ◌≡◌ {A = Position} (record { head = h; actors = a; progress = p }) (record { head = i; actors = b; progress = q })
     same h a p i b q x y z = rw (x, y, z) refl
 
@@ -172,17 +172,17 @@ answered_more actors answers i h none =
 -- ---- rounds
 
 -- so many rounds after a schedule's turns were made, and none of them once all was answered
-pub record HasRounds (head : Head) (actors : List (List Op)) (seats : List ℕ) (now : Progress) : Type 0 where
+pub record HasRounds (head : Head) (actors : List (List Op)) (seats : List ℕ) (now : RunState) : Type 0 where
   pub count : ℕ
   pub now_is : now ≡ after_rounds head actors seats count
   pub no_sooner : (n : ℕ) → n < count → is_over actors (after_rounds head actors seats n) ≡ false
 
-pub first_round : (head : Head) (actors : List (List Op)) (seats : List ℕ) (now : Progress) →
+pub first_round : (head : Head) (actors : List (List Op)) (seats : List ℕ) (now : RunState) →
     now ≡ after_turns head actors (start head actors) seats → HasRounds head actors seats now
 first_round head actors seats now is =
     record { count = 0; now_is = is; no_sooner = λ n below. absurd (omega (arith, below)) }
 
-pub next_round : (head : Head) (actors : List (List Op)) (seats : List ℕ) (now after : Progress) → HasRounds head actors seats now →
+pub next_round : (head : Head) (actors : List (List Op)) (seats : List ℕ) (now after : RunState) → HasRounds head actors seats now →
     is_over actors now ≡ false → after ≡ after_round head actors now → HasRounds head actors seats after
 next_round head actors seats now after r goes is = record {
   count = suc r.count;
@@ -197,7 +197,7 @@ next_round head actors seats now after r goes is = record {
         let same : n ≡ r.count = omega (arith, below, m) in
         ap (λ z. is_over actors (after_rounds head actors seats z)) same ∙ (ap (is_over actors) (sym r.now_is) ∙ goes)
 
-pub last_round : (head : Head) (actors : List (List Op)) (seats : List ℕ) (now : Progress) → HasRounds head actors seats now →
+pub last_round : (head : Head) (actors : List (List Op)) (seats : List ℕ) (now : RunState) → HasRounds head actors seats now →
     is_over actors now ≡ true → IsRun head actors seats now.events
 last_round head actors seats now r over = record {
   rounds = r.count;
@@ -207,7 +207,7 @@ last_round head actors seats now r over = record {
 }
 
 -- a round comes nearer to the end
-pub round_nearer : (head : Head) (actors : List (List Op)) (now after : Progress) → IsScript head actors →
+pub round_nearer : (head : Head) (actors : List (List Op)) (now after : RunState) → IsScript head actors →
     IsReached head actors now → IsReached head actors after → is_over actors now ≡ false → after ≡ after_round head actors now →
     (MAX_EVENTS + sum_by (λ ops. length ops) actors) - distance after
     < (MAX_EVENTS + sum_by (λ ops. length ops) actors) - distance now

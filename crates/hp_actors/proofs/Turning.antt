@@ -8,18 +8,18 @@ use Rattle.hp_model.specs.Draws.{draws, draw_of, state_after}
 use Rattle.hp_model.specs.Heads.{IsHead}
 use Rattle.hp_model.specs.Processors.{present}
 use Rattle.hp_model.specs.ScriptRun.{start, IsRun}
-use Rattle.hp_model.specs.ScriptTurns.{Progress, turn, after_turns}
+use Rattle.hp_model.specs.ScriptTurns.{RunState, turn, after_turns}
 use Rattle.hp_actors.specs.Positions.{Position}
 use Rattle.hp_actors.proofs.Admissions.{present_below, present_split}
 use Rattle.hp_actors.proofs.Progressing.{turns_none}
 
-turns_cons : (head : Head) (actors : List (List Op)) (at : Progress) (k : ℕ) (seats : List ℕ) →
+turns_cons : (head : Head) (actors : List (List Op)) (at : RunState) (k : ℕ) (seats : List ℕ) →
     after_turns head actors at (k ∷ seats) ≡ after_turns head actors (turn head actors at k) seats
 unfolding after_turns
 turns_cons head actors at k seats = refl
 
 -- one turn is made of those that are left
-pub turn_left : (old now after : Position) (k : ℕ) (rest : List ℕ) (whole : Progress) → now.head ≡ old.head → now.actors ≡ old.actors →
+pub turn_left : (old now after : Position) (k : ℕ) (rest : List ℕ) (whole : RunState) → now.head ≡ old.head → now.actors ≡ old.actors →
     after_turns old.head old.actors now.progress (k ∷ rest) ≡ whole →
     after ≡ record { head = now.head; actors = now.actors; progress = turn now.head now.actors now.progress k } →
     after_turns old.head old.actors after.progress rest ≡ whole
@@ -50,11 +50,11 @@ pub stands_at : (old now : Position) (seats : List ℕ) → now.head ≡ old.hea
     now ≡ record { head = old.head; actors = old.actors; progress = after_turns old.head old.actors old.progress seats }
 stands_at old now seats head actors progress = same now.head now.actors now.progress old.head old.actors _ head actors progress
   where
-    same : (h : Head) (a : List (List Op)) (p : Progress) (i : Head) (b : List (List Op)) (q : Progress) → h ≡ i → a ≡ b → p ≡ q →
+    same : (h : Head) (a : List (List Op)) (p : RunState) (i : Head) (b : List (List Op)) (q : RunState) → h ≡ i → a ≡ b → p ≡ q →
         ◌≡◌ {A = Position} (record { head = h; actors = a; progress = p }) (record { head = i; actors = b; progress = q })
     same h a p i b q x y z = rw (x, y, z) refl
 
-pub all_made : (head : Head) (actors : List (List Op)) (at whole : Progress) (left : List ℕ) → left ≡ [] →
+pub all_made : (head : Head) (actors : List (List Op)) (at whole : RunState) (left : List ℕ) → left ≡ [] →
     after_turns head actors at left ≡ whole → at ≡ whole
 all_made head actors at whole left none is =
     sym (ap (after_turns head actors at) none ∙ turns_none head actors at) ∙ is

@@ -11,7 +11,7 @@ use Rattle.hp_ledger.specs.TableChanges.{is_setup}
 use Rattle.hp_model.specs.Processors.{present}
 use Rattle.hp_model.specs.Scripts.{IsScript}
 use Rattle.hp_model.specs.ScriptRun.{start}
-use Rattle.hp_model.specs.ScriptTurns.{Progress, after_turns}
+use Rattle.hp_model.specs.ScriptTurns.{RunState, after_turns}
 use Rattle.hp_model.specs.Seats.{is_busy}
 use Rattle.hp_actors.specs.declared.actor.Actor.{Actor}
 use Rattle.hp_script.specs.Playable.{setups_in}
@@ -29,7 +29,7 @@ HasHooks {H} events k actor =
     is_some ask.hook ≡ wants_hook events k actor.answered j ask.op
 
 -- turns of some seats made it
-abbrev pub IsReached : Head → (actors : List (List Op)) → Progress → Type 0
+abbrev pub IsReached : Head → (actors : List (List Op)) → RunState → Type 0
 IsReached head actors at = (seats : List ℕ) × (at ≡ after_turns head actors (start head actors) seats)
 
 pub record IsPlaying {H : Type 0} (board : Contents) (threads : ℕ) (actors : List (Actor H)) : Type 0 where

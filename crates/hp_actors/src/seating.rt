@@ -8,7 +8,7 @@ ghost use Rattle.hp_model.specs.Heads.{IsHead};
 ghost use Rattle.hp_model.specs.Lawful.{Stands};
 ghost use Rattle.hp_event.specs.declared.event.Role.TheVariants.{Ap};
 ghost use Rattle.hp_model.specs.Processors.{is_present, present};
-ghost use Rattle.hp_model.specs.Run.{admissions};
+ghost use Rattle.hp_model.specs.Admissions.{admissions};
 ghost use Rattle.hp_model.specs.Seats.{admits};
 ghost use Rattle.hp_states.specs.declared.limits.TheConstants.{MAX_SEATS};
 

@@ -3,7 +3,7 @@ use Rattle.std.proofs.Common.{◌≡◌, ℕ, ◌+◌, ◌<◌, ◌≤◌, Bool,
 use Rattle.std.proofs.lemmas.Option.{slice_get_within, get_or_from_slice_get}
 use Rattle.std.proofs.lemmas.Bool.{true≢false, eqb-true, eq-eqb}
 use Rattle.hp_event.specs.declared.op.Op.{Op}
-use Rattle.hp_model.specs.Run.{first_unanswered}
+use Rattle.hp_model.specs.Tasks.{first_unanswered}
 use Rattle.hp_model.specs.Scripts.{lock_step, is_locked}
 use Rattle.hp_model.specs.ScriptTurns.{unanswered, counted}
 use Rattle.hp_model.proofs.Owners.{none_some}

@@ -12,10 +12,11 @@ use Rattle.hp_model.specs.Events.{seat_of, is_answer, answered}
 use Rattle.hp_model.specs.Processors.{present}
 use Rattle.hp_model.specs.Full.{IsFull}
 use Rattle.hp_model.specs.Pending.{IsAllowed}
-use Rattle.hp_model.specs.Run.{Task, entries, operation, nothing, task_of, IsFor, admissions}
+use Rattle.hp_model.specs.Admissions.{admissions}
+use Rattle.hp_model.specs.Tasks.{Task, entries, operation, nothing, task_of, IsFor}
 use Rattle.hp_model.specs.Scripts.{IsScript}
 use Rattle.hp_model.specs.NextEvent.{is_full}
-use Rattle.hp_model.specs.ScriptTurns.{Progress, unanswered, counted, turn, after_turns}
+use Rattle.hp_model.specs.ScriptTurns.{RunState, unanswered, counted, turn, after_turns}
 use Rattle.hp_model.specs.ScriptRun.{start}
 use Rattle.hp_model.specs.TurnMakes.{task, CanTake, LacksRoom, TurnMakes}
 use Rattle.hp_model.specs.WithoutEvent.{is_without_room, answers_without_event, answered_without_event}
@@ -34,7 +35,7 @@ answered_push : (k : ℕ) (xs : List Event) (e : Event) →
 answered_push k xs e = count_push (λ e. is_answer e && eqb (seat_of e) k) xs e
 
 -- an event more is counted for its actor exactly where it answers
-pub counts_more : (head : Head) (actors : List (List Op)) (at : Progress) (k : ℕ) (e : Event) (without j : ℕ) →
+pub counts_more : (head : Head) (actors : List (List Op)) (at : RunState) (k : ℕ) (e : Event) (without j : ℕ) →
     IsGoing head actors at → j < length actors →
     get_or at.answers j 0 ≡ answered (length (present head) + j) at.events + without → CanTake head actors at k e →
     get_or (counted (k - length (present head)) (is_answer e) at.answers) j 0
@@ -108,13 +109,13 @@ pub none_answered : (head : Head) (actors : List (List Op)) (k : ℕ) → ◌≡
 none_answered head actors k = admits_answer k (admissions head actors) (admissions_are head actors)
 
 -- a turn that answers an operation of an actor without an event
-record AnswersSo (head : Head) (actors : List (List Op)) (at : Progress) (k i : ℕ) : Type 0 where
+record AnswersSo (head : Head) (actors : List (List Op)) (at : RunState) (k i : ℕ) : Type 0 where
   pub seat_is : k ≡ length (present head) + i
   pub op : Op
   pub asked : unanswered actors at.answers i ≡ Some op
   pub full : is_full head at.events k op ≡ true
 
-answers_so : (head : Head) (actors : List (List Op)) (at : Progress) (k i : ℕ) → answers_without_event head actors at k i ≡ true →
+answers_so : (head : Head) (actors : List (List Op)) (at : RunState) (k i : ℕ) → answers_without_event head actors at k i ≡ true →
     AnswersSo head actors at k i
 answers_so head actors at k i h =
     let p = and_parts (eqb k (length (present head) + i)) (is_without_room head at.events k (unanswered actors at.answers i)) h in
@@ -125,7 +126,7 @@ answers_so head actors at k i h =
     go None u f s = absurd (false≢true f)
     go (Some op) u f s = record { seat_is = s; op = op; asked = u; full = f }
 
-so_answers : (head : Head) (actors : List (List Op)) (at : Progress) (k i : ℕ) (op : Op) → k ≡ length (present head) + i →
+so_answers : (head : Head) (actors : List (List Op)) (at : RunState) (k i : ℕ) (op : Op) → k ≡ length (present head) + i →
     unanswered actors at.answers i ≡ Some op → is_full head at.events k op ≡ true → answers_without_event head actors at k i ≡ true
 so_answers head actors at k i op s u f =
     both (eqb k (length (present head) + i)) (is_without_room head at.events k (unanswered actors at.answers i))
@@ -134,7 +135,7 @@ so_answers head actors at k i op s u f =
     both : (x y : Bool) → x ≡ true → y ≡ true → (x && y) ≡ true
     both x y p q = rw (p, q) refl
 
-task_is : (head : Head) (actors : List (List Op)) (at : Progress) (k i : ℕ) (op : Op) → k ≡ length (present head) + i →
+task_is : (head : Head) (actors : List (List Op)) (at : RunState) (k i : ℕ) (op : Op) → k ≡ length (present head) + i →
     unanswered actors at.answers i ≡ Some op → task head actors at k ≡ operation op
 task_is head actors at k i op s u =
     ap (λ z. cond z entries (task_of (unanswered actors at.answers (k - length (present head))))) (le-ltb k (length (present head)) (omega (arith, s)))
@@ -144,7 +145,7 @@ task_is head actors at k i op s u =
     less s = omega (arith, s)
 
 -- a turn counts what it answers, by an event or without one
-step_counts : (head : Head) (actors : List (List Op)) (at : Progress) (k i without : ℕ) → IsScript head actors →
+step_counts : (head : Head) (actors : List (List Op)) (at : RunState) (k i without : ℕ) → IsScript head actors →
     IsGoing head actors at → i < length actors →
     get_or at.answers i 0 ≡ answered (length (present head) + i) at.events + without →
     get_or (turn head actors at k).answers i 0
@@ -156,7 +157,7 @@ step_counts head actors at k i without s g h old =
     P : ℕ
     P = length (present head)
 
-    Counts : (more : Bool) → Progress → Type 0
+    Counts : (more : Bool) → RunState → Type 0
     Counts more after = get_or after.answers i 0 ≡ answered (P + i) after.events + (without + cond more 1 0)
 
     allowed : (a : AnswersSo head actors at k i) → IsAllowed head at.events (record { seat = k; op = a.op })
@@ -229,7 +230,7 @@ step_counts head actors at k i without s g h old =
     go more m (inr (inr t)) =
         subst (λ z. Counts z (turn head actors at k)) (sym m) (subst (Counts more) (sym t.2) (stays more m t.1))
 
-turns_count : (head : Head) (actors : List (List Op)) (ks : List ℕ) (at : Progress) (i without : ℕ) → IsScript head actors →
+turns_count : (head : Head) (actors : List (List Op)) (ks : List ℕ) (at : RunState) (i without : ℕ) → IsScript head actors →
     IsGoing head actors at → i < length actors →
     get_or at.answers i 0 ≡ answered (length (present head) + i) at.events + without →
     get_or (after_turns head actors at ks).answers i 0

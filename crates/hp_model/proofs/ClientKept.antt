@@ -11,7 +11,9 @@ use Rattle.hp_event.specs.declared.event.Event.TheVariants.{Admit, Leave}
 use Rattle.hp_model.specs.Journal.{over_from, EachAfter}
 use Rattle.hp_model.specs.Processors.{present}
 use Rattle.hp_model.specs.Seats.{role_of, role_step}
-use Rattle.hp_model.specs.Run.{Task, IsFor, task, CanTake, ap_admits, admissions}
+use Rattle.hp_model.specs.Admissions.{ap_admits, admissions}
+use Rattle.hp_model.specs.Tasks.{Task, IsFor}
+use Rattle.hp_model.specs.RunByRounds.{task_after, CanTakeAfter}
 use Rattle.hp_model.specs.OneClient.{OneClient}
 use Rattle.hp_model.specs.Steps.{IsStep}
 use Rattle.hp_model.proofs.Laws.{role_push}
@@ -57,9 +59,9 @@ role_same Task.nothing (Leave seat) s found before h = elim h [ ]
 role_same t e s found before h = refl
 
 pub one_client_more : (head : Head) (actors : List (List Op)) (p : ℕ) (xs : List Event) (k : ℕ) (e : Event) → OneClient p xs →
-    CanTake head actors xs k e → OneClient p (xs ++ e ∷ [])
+    CanTakeAfter head actors xs k e → OneClient p (xs ++ e ∷ [])
 one_client_more head actors p xs k e one c =
-    λ s q. one s (sym (role_push s xs e ∙ role_same (task head actors xs k) e s (role_of s xs) xs c.is_for) ∙ q)
+    λ s q. one s (sym (role_push s xs e ∙ role_same (task_after head actors xs k) e s (role_of s xs) xs c.is_for) ∙ q)
 
 one_client_from : (head : Head) (actors : List (List Op)) (p : ℕ) (before es : List Event) → OneClient p before →
     EachAfter (IsStep head actors) before es → OneClient p (before ++ es)

@@ -25,7 +25,7 @@ use Rattle.hp_model.specs.Promised.{promised, promised_to_walks}
 use Rattle.hp_model.specs.Files.{named_states}
 use Rattle.hp_model.specs.UnderWay.{under_way}
 use Rattle.hp_model.specs.NextEvent.{due_entry, next_event, is_full}
-use Rattle.hp_model.specs.ScriptTurns.{Progress, after_turns}
+use Rattle.hp_model.specs.ScriptTurns.{RunState, after_turns}
 use Rattle.hp_model.specs.ScriptRun.{is_over, after_rounds}
 use Rattle.hp_model.proofs.RunExamples.{plain}
 
@@ -36,7 +36,7 @@ dynamic_slots_head =
 abbrev dynamic_slots_actors : List (List Op)
 dynamic_slots_actors = (Setup 141 1 plain ∷ Setup 141 1 plain ∷ Setup 141 1 plain ∷ Setup 141 1 plain ∷ Setup 141 1 plain ∷ Setup 141 1 plain ∷ Setup 141 1 plain ∷ Setup 141 1 plain ∷ Setup 141 1 plain ∷ Setup 141 1 plain ∷ Setup 141 1 plain ∷ Setup 141 1 plain ∷ Setup 141 1 plain ∷ Setup 141 1 plain ∷ Setup 141 1 plain ∷ Setup 141 1 plain ∷ Setup 141 1 plain ∷ Setup 141 1 plain ∷ Setup 141 1 plain ∷ Setup 141 1 plain ∷ Setup 141 1 plain ∷ Setup 141 1 plain ∷ Setup 141 1 plain ∷ Setup 141 1 plain ∷ Setup 141 1 plain ∷ Setup 141 1 plain ∷ Setup 141 1 plain ∷ Setup 141 1 plain ∷ Setup 141 1 plain ∷ Setup 141 1 plain ∷ Setup 141 1 plain ∷ Setup 141 1 plain ∷ Remove 150 plain ∷ Setup 141 1 plain ∷ []) ∷ []
 
-abbrev dynamic_slots_progress : Progress
+abbrev dynamic_slots_progress : RunState
 dynamic_slots_progress = after_rounds dynamic_slots_head dynamic_slots_actors [] 120
 
 -- 31 setups fill the range, one more is refused, and a state that was removed is taken again

@@ -20,7 +20,7 @@ use Rattle.hp_model.specs.Full.{IsFull}
 use Rattle.hp_model.specs.Pending.{Pending, IsInFlight, IsAllowed}
 use Rattle.hp_model.specs.NextEvent.{due_entry, next_event, is_full}
 use Rattle.hp_model.specs.Scripts.{IsScript, lock_step, is_locked}
-use Rattle.hp_model.specs.ScriptTurns.{Progress, unanswered, counted, after_entry, after_event, after_asking, turn, after_turns}
+use Rattle.hp_model.specs.ScriptTurns.{RunState, unanswered, counted, after_entry, after_event, after_asking, turn, after_turns}
 use Rattle.hp_model.proofs.HeadlineProof.{lawful_more}
 use Rattle.hp_model.proofs.OneNext.{owners}
 use Rattle.hp_model.proofs.Owners.{same_some, none_some}
@@ -29,7 +29,7 @@ use Rattle.hp_model.proofs.NextStands.{next_stands, next_belongs}
 use Rattle.hp_model.proofs.NextGives.{full_only}
 use Rattle.hp_model.proofs.Roster.{Roster, roster_more, roster_first, operation_first, registration_first, reading_first}
 use Rattle.hp_model.proofs.RunLemmas.{admissions_lawful}
-use Rattle.hp_model.specs.Run.{admissions}
+use Rattle.hp_model.specs.Admissions.{admissions}
 use Rattle.hp_model.specs.ScriptRun.{start}
 use Rattle.hp_model.proofs.FlightSteps.{Begins, enters, registers, Goes, flight_step, free_not}
 use Rattle.hp_model.proofs.LockSteps.{reads_before, reads_other, reads_unless, unlocks, full_unlocks}
@@ -223,17 +223,17 @@ going_full head actors xs ns k i op g u s full = record {
         subst (λ z. is_locked (done_ops actors (counted i true ns) z) ≡ true) (sym same)
         (own (subst (λ z. is_reading (P + z) xs ≡ true) same r))
 
-abbrev pub IsGoing : Head → (actors : List (List Op)) → Progress → Type 0
+abbrev pub IsGoing : Head → (actors : List (List Op)) → RunState → Type 0
 IsGoing head actors at = Going head actors at.events at.answers
 
 -- so a turn keeps it
-after_entry_going : (head : Head) (actors : List (List Op)) (k : ℕ) (at : Progress) → IsGoing head actors at → (o : Option Event) →
+after_entry_going : (head : Head) (actors : List (List Op)) (k : ℕ) (at : RunState) → IsGoing head actors at → (o : Option Event) →
     due_entry head at.events k ≡ o → IsGoing head actors (after_entry o at)
 after_entry_going head actors k at g None f = g
 after_entry_going head actors k at g (Some e) f =
     let d = due_stands head at.events k e f in going_entry head actors at.events at.answers e g d.0 d.1
 
-after_event_going : (head : Head) (actors : List (List Op)) (k i : ℕ) (op : Op) (at : Progress) → IsScript head actors →
+after_event_going : (head : Head) (actors : List (List Op)) (k i : ℕ) (op : Op) (at : RunState) → IsScript head actors →
     IsGoing head actors at → k ≡ length (present head) + i → unanswered actors at.answers i ≡ Some op → (o : Option Event) →
     next_event head at.events k op ≡ o → (full : Bool) → is_full head at.events k op ≡ full →
     IsGoing head actors (after_event i o full at)
@@ -246,14 +246,14 @@ after_event_going head actors k i op at s g e u (Some x) f full q =
     going_event head actors at.events at.answers i op x g u d.0 (d.1 ∙ e)
     (next_belongs head at.events (record { seat = k; op = op }) x g.lawful a f)
 
-after_asking_going : (head : Head) (actors : List (List Op)) (k i : ℕ) (at : Progress) → IsScript head actors →
+after_asking_going : (head : Head) (actors : List (List Op)) (k i : ℕ) (at : RunState) → IsScript head actors →
     IsGoing head actors at → k ≡ length (present head) + i → (o : Option Op) → unanswered actors at.answers i ≡ o →
     IsGoing head actors (after_asking head k i o at)
 after_asking_going head actors k i at s g e None u = g
 after_asking_going head actors k i at s g e (Some op) u =
     after_event_going head actors k i op at s g e u (next_event head at.events k op) refl (is_full head at.events k op) refl
 
-pub turn_going : (head : Head) (actors : List (List Op)) (at : Progress) (k : ℕ) → IsScript head actors → IsGoing head actors at →
+pub turn_going : (head : Head) (actors : List (List Op)) (at : RunState) (k : ℕ) → IsScript head actors → IsGoing head actors at →
     IsGoing head actors (turn head actors at k)
 turn_going head actors at k s g = go (ltb k P) refl
   where
@@ -268,7 +268,7 @@ turn_going head actors at k s g = go (ltb k P) refl
         let l = ltb-false k P f in
         after_asking_going head actors k (k - P) at s g (omega (arith, l)) (unanswered actors at.answers (k - P)) refl
 
-pub turns_going : (head : Head) (actors : List (List Op)) (seats : List ℕ) (at : Progress) → IsScript head actors →
+pub turns_going : (head : Head) (actors : List (List Op)) (seats : List ℕ) (at : RunState) → IsScript head actors →
     IsGoing head actors at → IsGoing head actors (after_turns head actors at seats)
 unfolding after_turns
 turns_going head actors [] at s g = g

@@ -15,9 +15,9 @@ use Rattle.hp_model.specs.Readers.{is_reading}
 use Rattle.hp_model.specs.Seats.{role_of}
 use Rattle.hp_model.specs.Pending.{Pending, IsInFlight, IsAllowed}
 use Rattle.hp_model.specs.Moves.{ArePending, CanMove}
-use Rattle.hp_model.specs.Run.{entries, operation, task_of, IsFor, first_unanswered}
+use Rattle.hp_model.specs.Tasks.{entries, operation, task_of, IsFor, first_unanswered}
 use Rattle.hp_model.specs.Scripts.{IsScript, is_locked}
-use Rattle.hp_model.specs.ScriptTurns.{Progress, unanswered}
+use Rattle.hp_model.specs.ScriptTurns.{RunState, unanswered}
 use Rattle.hp_model.specs.ScriptRun.{answered_below, is_over}
 use Rattle.hp_model.specs.TurnMakes.{task, CanTake, LacksRoom}
 use Rattle.hp_model.proofs.Owners.{Owners, none_some}
@@ -146,7 +146,7 @@ not_empty : (ps : List Pending) (p : Pending) → Has ps p → is_empty ps ≡ f
 not_empty [] p h = elim h [ ]
 not_empty (q ∷ ps) p h = refl
 
-are_pending : (head : Head) (actors : List (List Op)) (at : Progress) → IsScript head actors → IsGoing head actors at →
+are_pending : (head : Head) (actors : List (List Op)) (at : RunState) → IsScript head actors → IsGoing head actors at →
     is_over actors at ≡ false → ArePending head at.events (pendings head actors at.answers (length actors))
 are_pending head actors at s g over = record {
   some =
@@ -193,12 +193,12 @@ are_pending head actors at s g over = record {
         (subst (λ z. Has ps (record { seat = z; op = p.op })) (sym a.2) (has_pending head actors ns A a.0 p.op a.1 u))
 
 -- a seat whose turn does something
-pub record Moves (head : Head) (actors : List (List Op)) (at : Progress) : Type 0 where
+pub record Moves (head : Head) (actors : List (List Op)) (at : RunState) : Type 0 where
   pub seat : ℕ
   pub is_seat : seat < length (present head) + length actors
   pub does : ((e : Event) × CanTake head actors at seat e) ⊎ LacksRoom head at seat (task head actors at seat)
 
-pub moves : (head : Head) (actors : List (List Op)) (at : Progress) → IsScript head actors → IsGoing head actors at →
+pub moves : (head : Head) (actors : List (List Op)) (at : RunState) → IsScript head actors → IsGoing head actors at →
     is_over actors at ≡ false → Moves head actors at
 moves head actors at s g over =
     go (some_moves head at.events ps g.lawful (are_pending head actors at s g over))

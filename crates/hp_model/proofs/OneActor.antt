@@ -8,7 +8,8 @@ use Rattle.hp_event.specs.declared.event.Event.{Event}
 use Rattle.hp_event.specs.declared.event.Event.TheVariants.{Call, WalkEnd, RegEnd}
 use Rattle.hp_model.specs.Events.{seat_of, is_call, answered, BelongsTo}
 use Rattle.hp_model.specs.Processors.{present}
-use Rattle.hp_model.specs.Run.{task, task_of, first_unanswered, Task, IsFor, CanTake}
+use Rattle.hp_model.specs.Tasks.{task_of, first_unanswered, Task, IsFor}
+use Rattle.hp_model.specs.RunByRounds.{task_after, CanTakeAfter}
 use Rattle.hp_model.specs.OneClient.{OneClient}
 use Rattle.hp_model.specs.StandsOperations.{WalkEnds}
 use Rattle.hp_model.specs.StandsRegistrations.{RegEnds}
@@ -155,7 +156,7 @@ of_op : (next : Option Op) (e : Event) → IsFor (task_of next) e → IsOfActor 
 of_op None e h = elim h [ ]
 of_op (Some op) e h = inr (op, refl, h)
 
-pub of_actor : (head : Head) (ops : List Op) (xs : List Event) (k : ℕ) (e : Event) → IsFor (task head (ops ∷ []) xs k) e →
+pub of_actor : (head : Head) (ops : List Op) (xs : List Event) (k : ℕ) (e : Event) → IsFor (task_after head (ops ∷ []) xs k) e →
     IsOfActor (slice_get ops (answered (length (present head)) xs)) e
 of_actor head ops xs k e h = go (ltb k (length (present head))) refl h
   where
@@ -188,7 +189,7 @@ one_of_actor head xs p next e f lawful one h w (inr b) (inr c) =
     one_client_next head xs p b.0 e f lawful one h w b.2 (rw same at c.2)
 
 pub one_actor_next : (head : Head) (ops : List Op) (xs : List Event) (k j : ℕ) (e f : Event) → IsLawful head xs →
-    OneClient (length (present head)) xs → CanTake head (ops ∷ []) xs k e → CanTake head (ops ∷ []) xs j f → e ≡ f
+    OneClient (length (present head)) xs → CanTakeAfter head (ops ∷ []) xs k e → CanTakeAfter head (ops ∷ []) xs j f → e ≡ f
 one_actor_next head ops xs k j e f lawful one h w =
     one_of_actor head xs (length (present head)) (slice_get ops (answered (length (present head)) xs)) e f lawful one
     h.stands w.stands (of_actor head ops xs k e h.is_for) (of_actor head ops xs j f w.is_for)

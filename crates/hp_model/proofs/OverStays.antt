@@ -11,9 +11,9 @@ use Rattle.hp_model.specs.Processors.{present}
 use Rattle.hp_model.specs.Seats.{role_of}
 use Rattle.hp_model.specs.Lawful.{Stands}
 use Rattle.hp_model.specs.Pending.{Pending, IsInFlight}
-use Rattle.hp_model.specs.Run.{Task, entries, operation, nothing, IsFor}
+use Rattle.hp_model.specs.Tasks.{Task, entries, operation, nothing, IsFor}
 use Rattle.hp_model.specs.Scripts.{IsScript}
-use Rattle.hp_model.specs.ScriptTurns.{Progress, unanswered, turn, after_turns}
+use Rattle.hp_model.specs.ScriptTurns.{RunState, unanswered, turn, after_turns}
 use Rattle.hp_model.specs.ScriptRun.{start, answered_below, is_over}
 use Rattle.hp_model.specs.TurnMakes.{task, LacksRoom, TurnMakes}
 use Rattle.hp_model.proofs.OneNext.{owners}
@@ -39,13 +39,13 @@ none_unanswered actors ns (suc n) i op h l u =
     go true e q r = some_not (unanswered actors ns n) (subst (λ z. unanswered actors ns z ≡ Some op) (eqb-true i n e) u) q
     go false e q r = r (grind (arith, nat_tests))
 
-all_answered : (actors : List (List Op)) (at : Progress) (i : ℕ) (op : Op) → is_over actors at ≡ true →
+all_answered : (actors : List (List Op)) (at : RunState) (i : ℕ) (op : Op) → is_over actors at ≡ true →
     unanswered actors at.answers i ≡ Some op → ⊥
 all_answered actors at i op h u =
     let n = nth_of actors at.answers i op u in none_unanswered actors at.answers (length actors) i op h n.within u
 
 -- nothing is in flight
-none_in_flight : (head : Head) (actors : List (List Op)) (at : Progress) (p : Pending) → IsGoing head actors at →
+none_in_flight : (head : Head) (actors : List (List Op)) (at : RunState) (p : Pending) → IsGoing head actors at →
     is_over actors at ≡ true → IsInFlight at.events p → ⊥
 none_in_flight head actors at p g h f =
     let o = owners head at.events g.lawful in
@@ -62,7 +62,7 @@ none_in_flight head actors at p g h f =
         all_answered actors at a.0 p.op h
         (g.asked a.0 p.op (subst (λ z. IsInFlight at.events (record { seat = z; op = p.op })) a.2 f))
 
-none_due : (head : Head) (actors : List (List Op)) (at : Progress) (e : Event) → IsGoing head actors at → is_over actors at ≡ true →
+none_due : (head : Head) (actors : List (List Op)) (at : RunState) (e : Event) → IsGoing head actors at → is_over actors at ≡ true →
     Stands head at.events e → is_call e ≡ true → ⊥
 none_due head actors at e g h s c = go (under_comes head at.events e (entry_under head at.events e s c))
   where
@@ -74,7 +74,7 @@ none_due head actors at e g h s c = go (under_comes head at.events e (entry_unde
     go (of_registration r f given) =
         none_in_flight head actors at (record { seat = r.seat; op = r.op }) g h (inr (r, f, refl, refl))
 
-pub over_stays : (head : Head) (actors : List (List Op)) (at : Progress) (k : ℕ) → IsScript head actors → IsGoing head actors at →
+pub over_stays : (head : Head) (actors : List (List Op)) (at : RunState) (k : ℕ) → IsScript head actors → IsGoing head actors at →
     is_over actors at ≡ true → turn head actors at k ≡ at
 over_stays head actors at k s g h = go (turn_makes head actors at k s g)
   where

@@ -18,7 +18,7 @@ use Rattle.hp_model.specs.MapLock.{operation_step, operation}
 use Rattle.hp_model.specs.Registrations.{registration_step, registration}
 use Rattle.hp_model.specs.Readers.{reading_since_step, reading_since, is_reading}
 use Rattle.hp_model.specs.Seats.{role_step, role_of, ap_step, ap_seat}
-use Rattle.hp_model.specs.Run.{ap_admits, client_admits, admissions}
+use Rattle.hp_model.specs.Admissions.{ap_admits, client_admits, admissions}
 use Rattle.hp_model.proofs.Laws.{role_push, ap_push}
 use Rattle.hp_model.proofs.ClientKept.{no_client}
 use Rattle.hp_model.proofs.ListLemmas.{occurs-filter, occurs-numbers}

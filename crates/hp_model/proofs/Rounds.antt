@@ -10,13 +10,14 @@ use Rattle.hp_model.specs.Journal.{EachAfter}
 use Rattle.hp_model.specs.Lists.{occurs, numbers}
 use Rattle.hp_model.specs.Processors.{present}
 use Rattle.hp_model.specs.Events.{seat_of}
-use Rattle.hp_model.specs.Run.{admissions, CanTake, Turns, all_answered, Rounds, IsRun}
+use Rattle.hp_model.specs.Admissions.{admissions}
+use Rattle.hp_model.specs.RunByRounds.{CanTakeAfter, Turns, all_answered, Rounds, IsRunByRounds}
 use Rattle.hp_model.specs.Steps.{IsStep}
 use Rattle.hp_model.proofs.ListLemmas.{occurs-numbers}
 
 -- no seat can take an event
 abbrev Still : Head → (actors : List (List Op)) → List Event → Type 0
-Still head actors xs = (k : ℕ) (f : Event) → CanTake head actors xs k f → ⊥
+Still head actors xs = (k : ℕ) (f : Event) → CanTakeAfter head actors xs k f → ⊥
 
 -- where the first step's seat is among those that have a turn, it is taken
 abbrev Moves : (seats : List ℕ) → (rest left : List Event) → Type 0
@@ -50,7 +51,7 @@ other_seat : (j k n : ℕ) → eqb j k ≡ false → 0 < cond (eqb k j) 1 0 + n 
 other_seat j k n e h = grind (arith, nat_tests)
 
 not_mine : (head : Head) (actors : List (List Op)) (k : ℕ) (before : List Event) (e : Event) → IsStep head actors before e →
-    eqb (seat_of e) k ≡ false → (f : Event) → CanTake head actors before k f → ⊥
+    eqb (seat_of e) k ≡ false → (f : Event) → CanTakeAfter head actors before k f → ⊥
 not_mine head actors k before e s b f c =
     let same : f ≡ e = s.only k f c in
     let by : seat_of e ≡ k = rw same at c.by in
@@ -142,8 +143,8 @@ rounds head actors (suc most) before (e ∷ es) short h still =
 pub steps_make_run : (head : Head) (actors : List (List Op)) (rest : List Event) →
     EachAfter (IsStep head actors) (admissions head actors) rest →
     all_answered head actors (admissions head actors ++ rest) ≡ true →
-    ((k : ℕ) (f : Event) → CanTake head actors (admissions head actors ++ rest) k f → ⊥) →
-    IsRun head actors (admissions head actors ++ rest)
+    ((k : ℕ) (f : Event) → CanTakeAfter head actors (admissions head actors ++ rest) k f → ⊥) →
+    IsRunByRounds head actors (admissions head actors ++ rest)
 steps_make_run head actors rest h finished still =
     let r = rounds head actors (length rest) (admissions head actors) rest (omega arith) h still in
     record { rounds = r.0; played = r.1; finished = finished }

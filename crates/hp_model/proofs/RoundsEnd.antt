@@ -12,9 +12,9 @@ use Rattle.hp_event.specs.declared.event.Event.{Event}
 use Rattle.hp_model.specs.Lists.{occurs, numbers}
 use Rattle.hp_model.specs.Events.{is_answer}
 use Rattle.hp_model.specs.Processors.{present}
-use Rattle.hp_model.specs.Run.{Task, entries, operation, nothing, task_of, IsFor}
+use Rattle.hp_model.specs.Tasks.{Task, entries, operation, nothing, task_of, IsFor}
 use Rattle.hp_model.specs.Scripts.{IsScript}
-use Rattle.hp_model.specs.ScriptTurns.{Progress, unanswered, counted, turn, after_turns}
+use Rattle.hp_model.specs.ScriptTurns.{RunState, unanswered, counted, turn, after_turns}
 use Rattle.hp_model.specs.ScriptRun.{start, is_over, after_round, after_rounds, IsRun}
 use Rattle.hp_model.specs.Distance.{distance}
 use Rattle.hp_model.specs.TurnMakes.{task, CanTake, LacksRoom, Stays, TurnMakes}
@@ -49,7 +49,7 @@ asked_task (Some other) op h = same h
     same : operation other ≡ operation op → Some other ≡ Some op
     same q = cc
 
-pub asked_by : (head : Head) (actors : List (List Op)) (at : Progress) (k : ℕ) (op : Op) →
+pub asked_by : (head : Head) (actors : List (List Op)) (at : RunState) (k : ℕ) (op : Op) →
     task head actors at k ≡ operation op → unanswered actors at.answers (k - length (present head)) ≡ Some op
 asked_by head actors at k op t = go (ltb k (length (present head))) t
   where
@@ -63,12 +63,12 @@ asked_by head actors at k op t = go (ltb k (length (present head))) t
     go true h = absurd (differ h)
     go false h = asked_task u op h
 
-task_counts : (head : Head) (actors : List (List Op)) (at : Progress) (k : ℕ) (op : Op) → IsGoing head actors at →
+task_counts : (head : Head) (actors : List (List Op)) (at : RunState) (k : ℕ) (op : Op) → IsGoing head actors at →
     task head actors at k ≡ operation op → k - length (present head) < length at.answers
 task_counts head actors at k op g t =
     of_task head actors at.events at.answers (k - length (present head)) op g (asked_by head actors at k op t)
 
-answer_counts : (head : Head) (actors : List (List Op)) (at : Progress) (k : ℕ) (e : Event) → IsGoing head actors at →
+answer_counts : (head : Head) (actors : List (List Op)) (at : RunState) (k : ℕ) (e : Event) → IsGoing head actors at →
     CanTake head actors at k e → is_answer e ≡ true → k - length (present head) < length at.answers
 answer_counts head actors at k e g c a = go (task head actors at k) refl c.is_for
   where
@@ -77,7 +77,7 @@ answer_counts head actors at k e g c a = go (task head actors at k) refl c.is_fo
     go (operation op) f h = task_counts head actors at k op g f
     go nothing f h = elim h [ ]
 
-lacks_counts : (head : Head) (actors : List (List Op)) (at : Progress) (k : ℕ) → IsGoing head actors at →
+lacks_counts : (head : Head) (actors : List (List Op)) (at : RunState) (k : ℕ) → IsGoing head actors at →
     LacksRoom head at k (task head actors at k) → k - length (present head) < length at.answers
 lacks_counts head actors at k g l = go (task head actors at k) refl l
   where
@@ -87,7 +87,7 @@ lacks_counts head actors at k g l = go (task head actors at k) refl l
     go nothing f h = elim h [ ]
 
 -- a turn goes on, or leaves all as it is
-pub goes_on : (head : Head) (actors : List (List Op)) (at after : Progress) (k : ℕ) → IsGoing head actors at →
+pub goes_on : (head : Head) (actors : List (List Op)) (at after : RunState) (k : ℕ) → IsGoing head actors at →
     TurnMakes head actors at k after → (distance at < distance after) ⊎ Stays head actors at k after
 goes_on head actors at after k g (inl m) =
     let l = length-append at.events (m.0 ∷ []) in
@@ -98,7 +98,7 @@ goes_on head actors at after k g (inr (inl m)) =
     inl (subst (λ z. distance at < distance z) (sym m.1) (omega (arith, c)))
 goes_on head actors at after k g (inr (inr m)) = inr m
 
-turn_far : (head : Head) (actors : List (List Op)) (at : Progress) (k : ℕ) → IsScript head actors → IsGoing head actors at →
+turn_far : (head : Head) (actors : List (List Op)) (at : RunState) (k : ℕ) → IsScript head actors → IsGoing head actors at →
     distance at ≤ distance (turn head actors at k)
 turn_far head actors at k s g = go (goes_on head actors at (turn head actors at k) k g (turn_makes head actors at k s g))
   where
@@ -107,7 +107,7 @@ turn_far head actors at k s g = go (goes_on head actors at (turn head actors at 
     go (inl h) = omega (arith, h)
     go (inr h) = subst (λ z. distance at ≤ distance z) (sym h.2) (omega arith)
 
-turns_far : (head : Head) (actors : List (List Op)) (ks : List ℕ) (at : Progress) → IsScript head actors → IsGoing head actors at →
+turns_far : (head : Head) (actors : List (List Op)) (ks : List ℕ) (at : RunState) → IsScript head actors → IsGoing head actors at →
     distance at ≤ distance (after_turns head actors at ks)
 unfolding after_turns
 turns_far head actors [] at s g = omega arith
@@ -117,16 +117,16 @@ turns_far head actors (k ∷ ks) at s g =
     omega (arith, a, b)
 
 -- what a seat's turn can do
-abbrev Does : Head → (actors : List (List Op)) → Progress → (seat : ℕ) → Type 0
+abbrev Does : Head → (actors : List (List Op)) → RunState → (seat : ℕ) → Type 0
 Does head actors at k = ((e : Event) × CanTake head actors at k e) ⊎ LacksRoom head at k (task head actors at k)
 
-not_still : (head : Head) (actors : List (List Op)) (at after : Progress) (k : ℕ) → Does head actors at k →
+not_still : (head : Head) (actors : List (List Op)) (at after : RunState) (k : ℕ) → Does head actors at k →
     Stays head actors at k after → ⊥
 not_still head actors at after k (inl c) h = h.0 c.0 c.1
 not_still head actors at after k (inr l) h = h.1 l
 
 -- where one of some seats can do something, their turns go on
-turns_go : (head : Head) (actors : List (List Op)) (ks : List ℕ) (at : Progress) (k : ℕ) → IsScript head actors →
+turns_go : (head : Head) (actors : List (List Op)) (ks : List ℕ) (at : RunState) (k : ℕ) → IsScript head actors →
     IsGoing head actors at → 0 < occurs k ks → Does head actors at k → distance at < distance (after_turns head actors at ks)
 unfolding after_turns
 turns_go head actors [] at k s g i d = absurd (omega (arith, i))
@@ -149,7 +149,7 @@ turns_go head actors (j ∷ js) at k s g i d =
     go (inr h) far r =
         subst (λ z. distance at < distance (after_turns head actors z js)) (sym h.2) (r (still (eqb j k) refl h i))
 
-pub round_goes : (head : Head) (actors : List (List Op)) (at : Progress) → IsScript head actors → IsGoing head actors at →
+pub round_goes : (head : Head) (actors : List (List Op)) (at : RunState) → IsScript head actors → IsGoing head actors at →
     is_over actors at ≡ false → distance at < distance (after_round head actors at)
 round_goes head actors at s g over =
     let m = moves head actors at s g over in
@@ -175,7 +175,7 @@ sum_within (n ∷ ns) (ops ∷ more) h w =
     let c : n ≤ length ops = w 0 in
     omega (arith, r, a, b, c)
 
-far_enough : (head : Head) (actors : List (List Op)) (at : Progress) → IsGoing head actors at →
+far_enough : (head : Head) (actors : List (List Op)) (at : RunState) → IsGoing head actors at →
     distance at ≤ MAX_EVENTS + sum_by (λ ops. length ops) actors
 far_enough head actors at g =
     let a = promises_fit head at.events g.lawful in

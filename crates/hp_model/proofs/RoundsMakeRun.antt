@@ -13,10 +13,10 @@ use Rattle.hp_model.specs.Events.{is_answer, answered}
 use Rattle.hp_model.specs.Processors.{present}
 use Rattle.hp_model.specs.Lawful.{IsLawful}
 use Rattle.hp_model.specs.Full.{IsFull}
-use Rattle.hp_model.specs.Run.{Task, entries, operation, nothing, task_of, IsFor, first_unanswered, admissions, Turn, Turns, all_answered_from, all_answered, Rounds}
-use Rattle.hp_model.specs.Run as run
+use Rattle.hp_model.specs.Tasks.{Task, entries, operation, nothing, task_of, IsFor, first_unanswered}
+use Rattle.hp_model.specs.RunByRounds.{task_after, CanTakeAfter, Turn, Turns, all_answered_from, all_answered, Rounds, IsRunByRounds}
 use Rattle.hp_model.specs.Scripts.{IsScript}
-use Rattle.hp_model.specs.ScriptTurns.{Progress, unanswered, counted, turn, after_turns}
+use Rattle.hp_model.specs.ScriptTurns.{RunState, unanswered, counted, turn, after_turns}
 use Rattle.hp_model.specs.ScriptRun.{start, answered_below, is_over, after_rounds, IsRun}
 use Rattle.hp_model.specs.TurnMakes.{task, CanTake, LacksRoom, TurnMakes}
 use Rattle.hp_model.proofs.OneNext.{one_next}
@@ -38,8 +38,8 @@ abbrev pub HasRoom : Head → List Event → Type 0
 HasRoom head events = (front : List Event) (k : ℕ) (op : Op) → IsFront events front → IsFull head front k op → ⊥
 
 -- the task of a turn is the same
-task_same : (head : Head) (actors : List (List Op)) (at : Progress) (k : ℕ) → Tied head actors at.events at.answers →
-    run.task head actors at.events k ≡ task head actors at k
+task_same : (head : Head) (actors : List (List Op)) (at : RunState) (k : ℕ) → Tied head actors at.events at.answers →
+    task_after head actors at.events k ≡ task head actors at k
 task_same head actors at k t = go (ltb k P) refl
   where
     P : ℕ
@@ -61,7 +61,7 @@ task_same head actors at k t = go (ltb k P) refl
     go false f = ap task_of (listed false f refl (slice_get actors (k - P)) refl)
 
 -- at most one event can be taken
-one_taken : (head : Head) (actors : List (List Op)) (at : Progress) (k : ℕ) (e f : Event) → IsLawful head at.events →
+one_taken : (head : Head) (actors : List (List Op)) (at : RunState) (k : ℕ) (e f : Event) → IsLawful head at.events →
     CanTake head actors at k e → CanTake head actors at k f → e ≡ f
 one_taken head actors at k e f lawful c d = go (task head actors at k) c.is_for d.is_for
   where
@@ -71,18 +71,18 @@ one_taken head actors at k e f lawful c d = go (task head actors at k) c.is_for 
     go (operation op) a b = one_next head at.events op e f lawful c.stands d.stands (c.by ∙ sym d.by) a b
     go nothing a b = elim a [ ]
 
-as_new : (head : Head) (actors : List (List Op)) (at : Progress) (k : ℕ) (e : Event) → Tied head actors at.events at.answers →
-    run.CanTake head actors at.events k e → CanTake head actors at k e
+as_new : (head : Head) (actors : List (List Op)) (at : RunState) (k : ℕ) (e : Event) → Tied head actors at.events at.answers →
+    CanTakeAfter head actors at.events k e → CanTake head actors at k e
 as_new head actors at k e t c =
     record { stands = c.stands; by = c.by; is_for = subst (λ z. IsFor z e) (task_same head actors at k t) c.is_for }
 
-as_old : (head : Head) (actors : List (List Op)) (at : Progress) (k : ℕ) (e : Event) → Tied head actors at.events at.answers →
-    CanTake head actors at k e → run.CanTake head actors at.events k e
+as_old : (head : Head) (actors : List (List Op)) (at : RunState) (k : ℕ) (e : Event) → Tied head actors at.events at.answers →
+    CanTake head actors at k e → CanTakeAfter head actors at.events k e
 as_old head actors at k e t c =
     record { stands = c.stands; by = c.by; is_for = subst (λ z. IsFor z e) (sym (task_same head actors at k t)) c.is_for }
 
 -- one event more keeps the counts tied
-tied_more : (head : Head) (actors : List (List Op)) (at : Progress) (k : ℕ) (e : Event) → IsGoing head actors at →
+tied_more : (head : Head) (actors : List (List Op)) (at : RunState) (k : ℕ) (e : Event) → IsGoing head actors at →
     Tied head actors at.events at.answers → CanTake head actors at k e →
     Tied head actors (at.events ++ e ∷ []) (counted (k - length (present head)) (is_answer e) at.answers)
 tied_more head actors at k e g t c =
@@ -94,12 +94,12 @@ tied_more head actors at k e g t c =
     }
 
 -- what a turn makes is what the relation says
-pub record Same (head : Head) (actors : List (List Op)) (at : Progress) (after : List Event) : Type 0 where
+pub record Same (head : Head) (actors : List (List Op)) (at : RunState) (after : List Event) : Type 0 where
   pub events_are : at.events ≡ after
   pub tied : Tied head actors at.events at.answers
   pub going : IsGoing head actors at
 
-turn_same : (head : Head) (actors : List (List Op)) (at : Progress) (k : ℕ) (after : List Event) → IsScript head actors →
+turn_same : (head : Head) (actors : List (List Op)) (at : RunState) (k : ℕ) (after : List Event) → IsScript head actors →
     IsGoing head actors at → Tied head actors at.events at.answers → ((k : ℕ) (op : Op) → IsFull head at.events k op → ⊥) →
     Turn head actors k at.events after → Same head actors (turn head actors at k) after
 turn_same head actors at k after s g t room h = go (turn_makes head actors at k s g) h
@@ -155,7 +155,7 @@ front_rounds head actors events (suc n) before after h f =
     front_turns head actors events _ before h.0 h.2 (front_rounds head actors events n h.0 after h.3 f)
 
 -- and so do the turns of a round
-turns_same : (head : Head) (actors : List (List Op)) (events : List Event) (ks : List ℕ) (at : Progress) (after : List Event) →
+turns_same : (head : Head) (actors : List (List Op)) (events : List Event) (ks : List ℕ) (at : RunState) (after : List Event) →
     IsScript head actors → IsGoing head actors at → Tied head actors at.events at.answers → HasRoom head events →
     IsFront events after → Turns head actors ks at.events after → Same head actors (after_turns head actors at ks) after
 unfolding after_turns
@@ -236,7 +236,7 @@ below_only actors ns (suc n) i h l =
     go true e q r = subst (λ z. is_none (unanswered actors ns z) ≡ true) (sym (eqb-true i n e)) q
     go false e q r = r (grind (arith, nat_tests))
 
-over_if : (head : Head) (actors : List (List Op)) (at : Progress) → Tied head actors at.events at.answers →
+over_if : (head : Head) (actors : List (List Op)) (at : RunState) → Tied head actors at.events at.answers →
     all_answered head actors at.events ≡ true → is_over actors at ≡ true
 over_if head actors at t h =
     below_if actors at.answers (length actors)
@@ -246,7 +246,7 @@ over_if head actors at t h =
     let c = t.counts i l in
     none_left actors at.answers i l (omega (arith, a, c)))
 
-over_only : (head : Head) (actors : List (List Op)) (at : Progress) → Tied head actors at.events at.answers →
+over_only : (head : Head) (actors : List (List Op)) (at : RunState) → Tied head actors at.events at.answers →
     is_over actors at ≡ true → all_answered head actors at.events ≡ true
 over_only head actors at t h =
     all_if (length (present head)) actors at.events
@@ -255,7 +255,7 @@ over_only head actors at t h =
     let c = t.counts i l in
     le-leb (length (get_or actors i [])) (answered (length (present head) + i) at.events) (omega (arith, a, c)))
 
-not_over : (head : Head) (actors : List (List Op)) (at : Progress) → Tied head actors at.events at.answers →
+not_over : (head : Head) (actors : List (List Op)) (at : RunState) → Tied head actors at.events at.answers →
     all_answered head actors at.events ≡ false → is_over actors at ≡ false
 not_over head actors at t h = go (is_over actors at) refl
   where
@@ -306,7 +306,7 @@ start_tied head actors s =
     record { counts = λ i h. let n = none_counted (length actors) i in let m = none_answered head actors (length (present head) + i) in omega (arith, n, m) }
 
 pub rounds_make_run : (head : Head) (actors : List (List Op)) (events : List Event) → IsScript head actors → HasRoom head events →
-    run.IsRun head actors events → IsRun head actors [] events
+    IsRunByRounds head actors events → IsRun head actors [] events
 unfolding after_turns
 rounds_make_run head actors events s room r =
     let h = rounds_same head actors events 0 r.rounds events s room ([], sym (append-nil events)) (start_tied head actors s) r.played in

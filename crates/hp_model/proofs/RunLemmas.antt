@@ -17,7 +17,8 @@ use Rattle.hp_model.specs.Heads.{IsHead}
 use Rattle.hp_model.specs.Promised.{promised}
 use Rattle.hp_model.specs.Room.{has_room}
 use Rattle.hp_model.specs.Lawful.{Stands, IsLawful}
-use Rattle.hp_model.specs.Run.{ap_admits, client_admits, admissions, Turn, Turns, Rounds, IsRun}
+use Rattle.hp_model.specs.Admissions.{ap_admits, client_admits, admissions}
+use Rattle.hp_model.specs.RunByRounds.{Turn, Turns, Rounds, IsRunByRounds}
 use Rattle.hp_model.proofs.Laws.{admits_push, ap_push}
 use Rattle.hp_model.proofs.Promises.{admit_at_most, promised_none}
 use Rattle.hp_model.proofs.ListLemmas.{occurs-filter, occurs-numbers}
@@ -152,6 +153,6 @@ rounds_lawful head actors (suc n) before after h r =
     rounds_lawful head actors n r.0 after (turns_lawful head actors _ before r.0 h r.2) r.3
 
 pub run_lawful : (head : Head) (actors : List (List Op)) (events : List Event) → IsHead head →
-    length (present head) + length actors ≤ MAX_SEATS → IsRun head actors events → IsLawful head events
+    length (present head) + length actors ≤ MAX_SEATS → IsRunByRounds head actors events → IsLawful head events
 run_lawful head actors events h few r =
     rounds_lawful head actors r.rounds (admissions head actors) events (admissions_lawful head actors h few) r.played

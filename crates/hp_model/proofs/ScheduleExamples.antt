@@ -29,7 +29,7 @@ use Rattle.hp_model.specs.Promised.{promised, promised_to_walks}
 use Rattle.hp_model.specs.Files.{named_states}
 use Rattle.hp_model.specs.UnderWay.{under_way}
 use Rattle.hp_model.specs.NextEvent.{due_entry, next_event, is_full}
-use Rattle.hp_model.specs.ScriptTurns.{Progress, after_turns}
+use Rattle.hp_model.specs.ScriptTurns.{RunState, after_turns}
 use Rattle.hp_model.specs.ScriptRun.{is_over, after_rounds}
 use Rattle.hp_model.specs.Schedule.{first_turns, mix}
 use Rattle.hp_model.proofs.RunExamples.{plain}
@@ -41,7 +41,7 @@ mixed_head =
 abbrev mixed_actors : List (List Op)
 mixed_actors = (Setup 120 1 plain ∷ Op.Up 1 ∷ []) ∷ (Op.Lock ∷ ShowState 1 ∷ Op.Unlock ∷ []) ∷ []
 
-abbrev mixed_progress : Progress
+abbrev mixed_progress : RunState
 mixed_progress = after_rounds mixed_head mixed_actors (first_turns 4 (mix 42 12)) 8
 
 -- twelve turns drawn from 42, and closing rounds
@@ -60,7 +60,7 @@ target_file_head =
 abbrev target_file_actors : List (List Op)
 target_file_actors = (Setup 150 1 plain ∷ Target 1 (pos 150) ∷ ShowState 1 ∷ Target 1 (pos 120) ∷ Target 1 (pos 0) ∷ []) ∷ []
 
-abbrev target_file_progress : Progress
+abbrev target_file_progress : RunState
 target_file_progress = after_rounds target_file_head target_file_actors [] 20
 
 -- up to a state where one can stop, and down from it
@@ -84,7 +84,7 @@ wakeup_stops_head =
 abbrev wakeup_stops_actors : List (List Op)
 wakeup_stops_actors = (Op.Up 1 ∷ Op.Wakeup ∷ Freeze (pos 0) ∷ Op.Down 1 ∷ Thaw ∷ []) ∷ []
 
-abbrev wakeup_stops_progress : Progress
+abbrev wakeup_stops_progress : RunState
 wakeup_stops_progress = after_rounds wakeup_stops_head wakeup_stops_actors [] 20
 
 -- a pending wakeup ends a freeze before its walk

@@ -10,7 +10,7 @@ use Rattle.hp_model.specs.Heads.{IsHead}
 use Rattle.hp_model.specs.Processors.{present}
 use Rattle.hp_model.specs.Lawful.{IsLawful}
 use Rattle.hp_model.specs.NextEvent.{due_entry, next_event, is_full}
-use Rattle.hp_model.specs.ScriptTurns.{Progress, unanswered, after_entry, after_event, after_asking, turn, after_turns}
+use Rattle.hp_model.specs.ScriptTurns.{RunState, unanswered, after_entry, after_event, after_asking, turn, after_turns}
 use Rattle.hp_model.specs.ScriptRun.{start, after_rounds, IsRun}
 use Rattle.hp_model.proofs.HeadlineProof.{lawful_more}
 use Rattle.hp_model.proofs.RunLemmas.{admissions_lawful}
@@ -35,23 +35,23 @@ one_run head actors schedule a b r s =
     ∙ (ap (λ n. (after_rounds head actors schedule n).events) (same_rounds head actors schedule a b r s) ∙ sym s.events_are)
 
 -- a turn keeps a journal lawful
-entry_lawful : (head : Head) (k : ℕ) (at : Progress) → IsLawful head at.events → (o : Option Event) → due_entry head at.events k ≡ o →
+entry_lawful : (head : Head) (k : ℕ) (at : RunState) → IsLawful head at.events → (o : Option Event) → due_entry head at.events k ≡ o →
     IsLawful head (after_entry o at).events
 entry_lawful head k at h None f = h
 entry_lawful head k at h (Some e) f = lawful_more head at.events e h (due_stands head at.events k e f).0
 
-event_lawful : (head : Head) (k i : ℕ) (op : Op) (full : Bool) (at : Progress) → IsLawful head at.events → (o : Option Event) →
+event_lawful : (head : Head) (k i : ℕ) (op : Op) (full : Bool) (at : RunState) → IsLawful head at.events → (o : Option Event) →
     next_event head at.events k op ≡ o → IsLawful head (after_event i o full at).events
 event_lawful head k i op full at h None f = h
 event_lawful head k i op full at h (Some e) f = lawful_more head at.events e h (next_stands head at.events k op e f).0
 
-asking_lawful : (head : Head) (k i : ℕ) (o : Option Op) (at : Progress) → IsLawful head at.events →
+asking_lawful : (head : Head) (k i : ℕ) (o : Option Op) (at : RunState) → IsLawful head at.events →
     IsLawful head (after_asking head k i o at).events
 asking_lawful head k i None at h = h
 asking_lawful head k i (Some op) at h =
     event_lawful head k i op (is_full head at.events k op) at h (next_event head at.events k op) refl
 
-pub turn_lawful : (head : Head) (actors : List (List Op)) (at : Progress) (k : ℕ) → IsLawful head at.events →
+pub turn_lawful : (head : Head) (actors : List (List Op)) (at : RunState) (k : ℕ) → IsLawful head at.events →
     IsLawful head (turn head actors at k).events
 turn_lawful head actors at k h = go (ltb k P)
   where
@@ -64,7 +64,7 @@ turn_lawful head actors at k h = go (ltb k P)
     go true = entry_lawful head k at h (due_entry head at.events k) refl
     go false = asking_lawful head k (k - P) (unanswered actors at.answers (k - P)) at h
 
-pub turns_lawful : (head : Head) (actors : List (List Op)) (seats : List ℕ) (at : Progress) → IsLawful head at.events →
+pub turns_lawful : (head : Head) (actors : List (List Op)) (seats : List ℕ) (at : RunState) → IsLawful head at.events →
     IsLawful head (after_turns head actors at seats).events
 unfolding after_turns
 turns_lawful head actors [] at h = h

@@ -9,9 +9,9 @@ use Rattle.hp_model.specs.Events.{is_call, is_answer}
 use Rattle.hp_model.specs.Processors.{present}
 use Rattle.hp_model.specs.Pending.{IsAllowed}
 use Rattle.hp_model.specs.NextEvent.{due_entry, next_event, is_full}
-use Rattle.hp_model.specs.Run.{Task, entries, operation, nothing, task_of, IsFor}
+use Rattle.hp_model.specs.Tasks.{Task, entries, operation, nothing, task_of, IsFor}
 use Rattle.hp_model.specs.Scripts.{IsScript}
-use Rattle.hp_model.specs.ScriptTurns.{Progress, unanswered, counted, after_entry, after_event, after_asking, turn, after_turns}
+use Rattle.hp_model.specs.ScriptTurns.{RunState, unanswered, counted, after_entry, after_event, after_asking, turn, after_turns}
 use Rattle.hp_model.specs.ScriptRun.{start}
 use Rattle.hp_model.specs.TurnMakes.{task, CanTake, LacksRoom, TurnMakes}
 use Rattle.hp_model.proofs.Owners.{none_some}
@@ -25,15 +25,15 @@ no_answer (Call seat cpu state inst dir how) q = refl
 no_answer e q = absurd (false≢true q)
 
 -- with its task named, so that the task's cases can be told
-abbrev pub MakesAs : Head → (actors : List (List Op)) → Progress → (seat : ℕ) → Task → (after : Progress) → Type 0
+abbrev pub MakesAs : Head → (actors : List (List Op)) → RunState → (seat : ℕ) → Task → (after : RunState) → Type 0
 MakesAs head actors at k t after = task head actors at k ≡ t → TurnMakes head actors at k after
 
-no_take : (head : Head) (actors : List (List Op)) (at : Progress) (k : ℕ) → task head actors at k ≡ nothing → (e : Event) →
+no_take : (head : Head) (actors : List (List Op)) (at : RunState) (k : ℕ) → task head actors at k ≡ nothing → (e : Event) →
     CanTake head actors at k e → ⊥
 no_take head actors at k t e c = subst (λ z. IsFor z e) t c.is_for
 
 -- the turn of a thread
-entry_makes : (head : Head) (actors : List (List Op)) (at : Progress) (k : ℕ) → IsGoing head actors at → (o : Option Event) →
+entry_makes : (head : Head) (actors : List (List Op)) (at : RunState) (k : ℕ) → IsGoing head actors at → (o : Option Event) →
     due_entry head at.events k ≡ o → MakesAs head actors at k entries (after_entry o at)
 entry_makes head actors at k g None f t =
     inr (inr (
@@ -50,7 +50,7 @@ entry_makes head actors at k g (Some e) f t =
     )
 
 -- the turn of an actor
-event_makes : (head : Head) (actors : List (List Op)) (at : Progress) (k : ℕ) (op : Op) → IsGoing head actors at →
+event_makes : (head : Head) (actors : List (List Op)) (at : RunState) (k : ℕ) (op : Op) → IsGoing head actors at →
     IsAllowed head at.events (record { seat = k; op = op }) → (o : Option Event) → next_event head at.events k op ≡ o →
     (full : Bool) → is_full head at.events k op ≡ full →
     MakesAs head actors at k (operation op) (after_event (k - length (present head)) o full at)
@@ -72,7 +72,7 @@ event_makes head actors at k op g a None f false q t =
       refl,
     ))
 
-asking_makes : (head : Head) (actors : List (List Op)) (at : Progress) (k : ℕ) → IsScript head actors → IsGoing head actors at →
+asking_makes : (head : Head) (actors : List (List Op)) (at : RunState) (k : ℕ) → IsScript head actors → IsGoing head actors at →
     k ≡ length (present head) + (k - length (present head)) → (o : Option Op) →
     unanswered actors at.answers (k - length (present head)) ≡ o →
     MakesAs head actors at k (task_of o) (after_asking head k (k - length (present head)) o at)
@@ -82,7 +82,7 @@ asking_makes head actors at k s g e (Some op) u t =
     event_makes head actors at k op g (asks_allowed head actors at.events at.answers k (k - length (present head)) op s g e u)
     (next_event head at.events k op) refl (is_full head at.events k op) refl t
 
-pub turn_makes : (head : Head) (actors : List (List Op)) (at : Progress) (k : ℕ) → IsScript head actors → IsGoing head actors at →
+pub turn_makes : (head : Head) (actors : List (List Op)) (at : RunState) (k : ℕ) → IsScript head actors → IsGoing head actors at →
     TurnMakes head actors at k (turn head actors at k)
 turn_makes head actors at k s g = go (ltb k P) refl
   where

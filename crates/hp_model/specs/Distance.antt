@@ -1,6 +1,6 @@
 -- How far a run has come: its events and its answers, counted together. This project's own.
 use Rattle.std.specs.Prelude.{ℕ, ◌+◌, length, sum}
-use Rattle.hp_model.specs.ScriptTurns.{Progress}
+use Rattle.hp_model.specs.ScriptTurns.{RunState}
 
-abbrev pub distance : Progress → ℕ
+abbrev pub distance : RunState → ℕ
 distance at = length at.events + sum at.answers

@@ -55,7 +55,9 @@ pub mod FirstEvent
 pub mod NextEvent
 pub mod Net
 pub mod Found
-pub mod Run
+pub mod Admissions
+pub mod Tasks
+pub mod RunByRounds
 pub mod ScriptTurns
 pub mod ScriptRun
 pub mod Draws

@@ -6,11 +6,11 @@ use Rattle.hp_event.specs.declared.head.Head.{Head}
 use Rattle.hp_event.specs.declared.event.Event.{Event}
 use Rattle.hp_model.specs.Lists.{numbers}
 use Rattle.hp_model.specs.Processors.{present}
-use Rattle.hp_model.specs.Run.{admissions}
-use Rattle.hp_model.specs.ScriptTurns.{Progress, unanswered, after_turns}
+use Rattle.hp_model.specs.Admissions.{admissions}
+use Rattle.hp_model.specs.ScriptTurns.{RunState, unanswered, after_turns}
 
 -- nothing is answered yet
-abbrev pub start : Head → (actors : List (List Op)) → Progress
+abbrev pub start : Head → (actors : List (List Op)) → RunState
 start head actors = record { events = admissions head actors; answers = replicate (length actors) 0 }
 
 -- whether every operation of the first actors is answered
@@ -19,14 +19,14 @@ answered_below actors answers zero = true
 answered_below actors answers (suc n) = answered_below actors answers n && is_none (unanswered actors answers n)
 
 -- whether every operation is
-abbrev pub is_over : (actors : List (List Op)) → Progress → Bool
+abbrev pub is_over : (actors : List (List Op)) → RunState → Bool
 is_over actors at = answered_below actors at.answers (length actors)
 
-abbrev pub after_round : Head → (actors : List (List Op)) → Progress → Progress
+abbrev pub after_round : Head → (actors : List (List Op)) → RunState → RunState
 after_round head actors at = after_turns head actors at (numbers (length (present head) + length actors))
 
 -- after the schedule and so many closing rounds
-abbrev pub after_rounds : Head → (actors : List (List Op)) → (schedule : List ℕ) → (rounds : ℕ) → Progress
+abbrev pub after_rounds : Head → (actors : List (List Op)) → (schedule : List ℕ) → (rounds : ℕ) → RunState
 after_rounds head actors schedule zero = after_turns head actors (start head actors) schedule
 after_rounds head actors schedule (suc n) = after_round head actors (after_rounds head actors schedule n)
 

@@ -18,9 +18,9 @@
 //! 8. `Pending`, `SeatWaits`, `ApTurn`, `Full`, `Turns`, `Moves`: what a turn finds, and that some seat
 //!    can move. `Trees`, `Remaining`, `UnderWay`, `FirstEvent`, `NextEvent`: what comes next, found by
 //!    functions.
-//! 9. `Scripts`, `ScriptTurns`, `ScriptRun`, `Draws`, `Schedule`, `TurnMakes`, `WithoutEvent`,
-//!    `Distance`: the run of a script by its schedule. `Run`, `Steps`, `OneClient`: a run by rounds as
-//!    a relation, with one actor.
+//! 9. `Scripts`, `Admissions`, `Tasks`, `ScriptTurns`, `ScriptRun`, `Draws`, `Schedule`, `TurnMakes`,
+//!    `WithoutEvent`, `Distance`: the run of a script by its schedule. `RunByRounds`, `Steps`,
+//!    `OneClient`: a run by rounds as a relation, with one actor.
 //! 10. `EventLine`, `JournalText`, `Summary`: the texts.
 //!
 //! The functions of this file have empty bodies: their contracts are the laws, which callers cite.
@@ -52,10 +52,11 @@ ghost use Rattle.hp_model.specs.Completes.{Completes};
 ghost use Rattle.hp_model.specs.OneWalk.{WalksAlone};
 ghost use Rattle.hp_model.specs.Keys.{AreKeysInForce, AreKeysAtRest};
 ghost use Rattle.hp_model.specs.Events.{seat_of, is_call, answered, BelongsTo};
-ghost use Rattle.hp_model.specs.Run.{admissions, CanTake, all_answered, IsRun};
+ghost use Rattle.hp_model.specs.Admissions.{admissions};
+ghost use Rattle.hp_model.specs.RunByRounds.{CanTakeAfter, all_answered, IsRunByRounds};
 ghost use Rattle.hp_model.specs.Scripts.{IsScript};
 ghost use Rattle.hp_model.specs.ScriptTurns.{unanswered, turn, after_turns};
-ghost use Rattle.hp_model.specs.ScriptRun.{start, is_over, after_round, IsRun as IsScriptRun};
+ghost use Rattle.hp_model.specs.ScriptRun.{start, is_over, after_round, IsRun};
 ghost use Rattle.hp_model.specs.Draws.{draws};
 ghost use Rattle.hp_model.specs.TurnMakes.{TurnMakes};
 ghost use Rattle.hp_model.specs.WithoutEvent.{answered_without_event};
@@ -243,12 +244,12 @@ pub fn some_seat_can_move(head: &Head, events: &[Event])
         ArePending head.now events.now pending → CanMove head.now events.now pending }
 {}
 
-/// The run of a script's actors is a lawful journal, where its head is one that a machine can be
+/// A run of a script's actors by rounds is a lawful journal, where its head is one that a machine can be
 /// started with and there are seats for all.
 pub fn run_lawful(head: &Head, events: &[Event])
     ensures { (actors : List (List AnOp)) → IsHead head.now →
         length (present head.now) + length actors ≤ MAX_SEATS →
-        IsRun head.now actors events.now → IsLawful head.now events.now }
+        IsRunByRounds head.now actors events.now → IsLawful head.now events.now }
 {}
 
 /// With one actor, after a lawful journal in which no seat but the actor's is in as a client, at
@@ -256,12 +257,12 @@ pub fn run_lawful(head: &Head, events: &[Event])
 pub fn one_actor_next(head: &Head, ops: &[Op], before: &[Event], one: &Event, other: &Event)
     ensures { (seat another : ℕ) → IsLawful head.now before.now →
         OneClient (length (present head.now)) before.now →
-        CanTake head.now (ops.now ∷ []) before.now seat one.now →
-        CanTake head.now (ops.now ∷ []) before.now another other.now →
+        CanTakeAfter head.now (ops.now ∷ []) before.now seat one.now →
+        CanTakeAfter head.now (ops.now ∷ []) before.now another other.now →
         one.now ≡ other.now }
 {}
 
-/// Steps make a run. Where each event after the admissions is the only one that any seat could take
+/// Steps make a run by rounds. Where each event after the admissions is the only one that any seat could take
 /// then, all operations are answered at the end and no earlier, and no seat can take an event
 /// after it, the journal is one that turns make by rounds.
 pub fn steps_make_run(head: &Head, rest: &[Event])
@@ -269,14 +270,14 @@ pub fn steps_make_run(head: &Head, rest: &[Event])
         EachAfter (IsStep head.now actors) (admissions head.now actors) rest.now →
         all_answered head.now actors (admissions head.now actors ++ rest.now) ≡ true →
         ((seat : ℕ) (event : AnEvent) →
-        CanTake head.now actors (admissions head.now actors ++ rest.now) seat event → ⊥) →
-        IsRun head.now actors (admissions head.now actors ++ rest.now) }
+        CanTakeAfter head.now actors (admissions head.now actors ++ rest.now) seat event → ⊥) →
+        IsRunByRounds head.now actors (admissions head.now actors ++ rest.now) }
 {}
 
 /// A script has one run for its schedule.
 pub fn one_run(head: &Head, one: &[Event], other: &[Event])
     ensures { (actors : List (List AnOp)) (schedule : List ℕ) →
-        IsScriptRun head.now actors schedule one.now → IsScriptRun head.now actors schedule other.now →
+        IsRun head.now actors schedule one.now → IsRun head.now actors schedule other.now →
         one.now ≡ other.now }
 {}
 
@@ -285,7 +286,7 @@ pub fn one_run(head: &Head, one: &[Event], other: &[Event])
 pub fn script_run_lawful(head: &Head, events: &[Event])
     ensures { (actors : List (List AnOp)) (schedule : List ℕ) → IsHead head.now →
         length (present head.now) + length actors ≤ MAX_SEATS →
-        IsScriptRun head.now actors schedule events.now → IsLawful head.now events.now }
+        IsRun head.now actors schedule events.now → IsLawful head.now events.now }
 {}
 
 /// After any turns of a script, the operation that an actor's turn is for is one that its seat may ask
@@ -337,7 +338,7 @@ pub fn round_goes(head: &Head)
 /// The closing rounds of a script end: it has a run, whatever its schedule.
 pub fn run_ends(head: &Head)
     ensures { (actors : List (List AnOp)) (schedule : List ℕ) → IsScript head.now actors →
-        (events : List AnEvent) × IsScriptRun head.now actors schedule events }
+        (events : List AnEvent) × IsRun head.now actors schedule events }
 {}
 
 /// Where every operation of a script is answered, no turn does anything more.
@@ -354,7 +355,7 @@ pub fn rounds_make_run(head: &Head, events: &[Event])
     ensures { (actors : List (List AnOp)) → IsScript head.now actors →
         ((front rest : List AnEvent) (seat : ℕ) (op : AnOp) → events.now ≡ front ++ rest →
         IsFull head.now front seat op → ⊥) →
-        IsRun head.now actors events.now → IsScriptRun head.now actors [] events.now }
+        IsRunByRounds head.now actors events.now → IsRun head.now actors [] events.now }
 {}
 
 /// No event of the next seat stands in a lawful journal, nor of any above it: seats are numbered by how

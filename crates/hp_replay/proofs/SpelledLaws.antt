@@ -1,30 +1,21 @@
 -- What stands after events can be said by the text.
-use Rattle.std.proofs.Common.{ℕ, List, refl, sym, subst}
+use Rattle.std.proofs.Common.{List, refl, sym, subst}
 use Rattle.hp_event.specs.declared.answer.Answer.{Answer}
-use Rattle.hp_event.specs.declared.event.File.{File}
-use Rattle.hp_event.specs.declared.event.File.TheVariants.{State, Target, Fail, States}
 use Rattle.hp_event.specs.declared.head.Head.{Head}
 use Rattle.hp_event.specs.declared.event.Event.{Event}
 use Rattle.hp_event.specs.declared.event.Event.TheVariants.{Admit, Leave, Enter, Refused, WalkBegin, Call, WalkEnd, OpEnd, RegBegin, RegEnd, ReadLock, ReadUnlock, Armed, Shown, Wakeup}
 use Rattle.hp_model.specs.WalkShape.{Outcome, went, returned, stopped, IsAnswer}
-use Rattle.hp_model.specs.Files.{HasFile}
 use Rattle.hp_model.specs.Lawful.{Comes, Stands}
-use Rattle.hp_replay.specs.Spelled.{IsWalkAnswer, IsFileOf, IsSpelled}
+use Rattle.hp_replay.specs.Spelled.{IsWalkAnswer, IsSpelled}
 
 answered : (outcome : Outcome) (entries : List Event) (a : Answer) → IsAnswer outcome entries a → IsWalkAnswer a
 answered went entries a h = subst IsWalkAnswer (sym h) refl
 answered returned entries a h = subst IsWalkAnswer (sym h.2) tt
 answered (stopped at) entries a h = subst IsWalkAnswer (sym h.3) tt
 
-file_of : (file : File) (cpu : ℕ) → HasFile file cpu → IsFileOf file cpu
-file_of State cpu h = tt
-file_of Target cpu h = tt
-file_of Fail cpu h = tt
-file_of States cpu h = h
-
 comes_spelled : (head : Head) (before : List Event) (e : Event) → Comes head before e → IsSpelled e
 comes_spelled head before (WalkEnd seat cpu a) h = answered h.whole.outcome _ a h.whole.answered
-comes_spelled head before (Shown seat file cpu value) h = file_of file cpu h.has_file
+comes_spelled head before (Shown seat file cpu value) h = h.has_file
 comes_spelled head before (Admit seat role) h = tt
 comes_spelled head before (Leave seat) h = tt
 comes_spelled head before (Enter seat op) h = tt

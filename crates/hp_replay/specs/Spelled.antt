@@ -4,10 +4,9 @@
 use Rattle.std.specs.Prelude.{◌≡◌, ℕ, pos}
 use Rattle.hp_event.specs.declared.answer.Answer.{Answer}
 use Rattle.hp_event.specs.declared.answer.Answer.TheVariants.{Ok, Refused, Fault, Stuck, LogFull}
-use Rattle.hp_event.specs.declared.event.File.{File}
-use Rattle.hp_event.specs.declared.event.File.TheVariants.{State, Target, Fail, States}
 use Rattle.hp_event.specs.declared.event.Event.{Event}
 use Rattle.hp_event.specs.declared.event.Event.TheVariants.{WalkEnd, Shown}
+use Rattle.hp_model.specs.Files.{HasFile}
 
 abbrev pub IsWalkAnswer : Answer → Type 0
 IsWalkAnswer (Ok value) = value ≡ pos 0
@@ -16,13 +15,7 @@ IsWalkAnswer (Fault code) = Unit {0}
 IsWalkAnswer (Stuck first second at) = Unit {0}
 IsWalkAnswer LogFull = ⊥
 
-abbrev pub IsFileOf : File → (cpu : ℕ) → Type 0
-IsFileOf State cpu = Unit {0}
-IsFileOf Target cpu = Unit {0}
-IsFileOf Fail cpu = Unit {0}
-IsFileOf States cpu = cpu ≡ 0
-
 abbrev pub IsSpelled : Event → Type 0
 IsSpelled (WalkEnd seat cpu answer) = IsWalkAnswer answer
-IsSpelled (Shown seat file cpu value) = IsFileOf file cpu
+IsSpelled (Shown seat file cpu value) = HasFile file cpu
 IsSpelled _ = Unit {0}

@@ -22,7 +22,8 @@ use Rattle.hp_walk.specs.declared.position.Position.{Position}
 use Rattle.hp_walk.specs.declared.position.Position.TheVariants.{Forward, UndoingPart, Back, RedoingPart, Ended}
 use Rattle.hp_walk.specs.declared.walk.Walk.{Walk}
 use Rattle.hp_walk.specs.Asked.{slot_of}
-use Rattle.hp_walk.specs.Faulted.{is_ok, is_faultless}
+use Rattle.hp_model.specs.Suspend.{is_ok}
+use Rattle.hp_walk.specs.Faulted.{is_faultless}
 use Rattle.hp_walk.specs.After.{rollback_tree, tree_of, HasFaults, IsAfter, ComesNext}
 use Rattle.hp_walk.proofs.Steps.{visit_at, part_at}
 use Rattle.hp_walk.proofs.Going.{onward, undoing, going}

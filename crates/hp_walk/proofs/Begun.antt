@@ -8,7 +8,8 @@ use Rattle.hp_model.proofs.PlanLemmas.{plan_up_none}
 use Rattle.hp_walk.specs.declared.position.Position.{Position}
 use Rattle.hp_walk.specs.declared.walk.Walk.{Walk}
 use Rattle.hp_walk.specs.After.{tree_of, entries_left, IsAfter}
-use Rattle.hp_walk.specs.Took.{IsNextOnTheWay, keys_on}
+use Rattle.hp_model.specs.Plan.{keys_on}
+use Rattle.hp_walk.specs.Took.{IsNextOnTheWay}
 use Rattle.hp_walk.proofs.Crossed.{begins_between}
 use Rattle.hp_walk.proofs.Steps.{depth_walk}
 use Rattle.hp_walk.proofs.Moves.{tree_ahead, at_ahead, faults_ahead}

@@ -1,13 +1,8 @@
 -- Whether a callback of a walk has faulted, by where it stands. This project's own.
 use Rattle.std.specs.Prelude.{Bool, true, false}
-use Rattle.hp_event.specs.declared.answer.Answer.{Answer}
-use Rattle.hp_event.specs.declared.answer.Answer.TheVariants.{Ok}
+use Rattle.hp_model.specs.Suspend.{is_ok}
 use Rattle.hp_walk.specs.declared.position.Position.{Position}
 use Rattle.hp_walk.specs.declared.position.Position.TheVariants.{Forward, Ended}
-
-abbrev pub is_ok : Answer → Bool
-is_ok (Ok value) = true
-is_ok _ = false
 
 abbrev pub is_faultless : Position → Bool
 is_faultless (Forward s k) = true

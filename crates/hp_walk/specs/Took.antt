@@ -1,20 +1,15 @@
--- What it means that a walk went on past an entry, and how many keys a walk has before it. This project's own.
-use Rattle.std.specs.Prelude.{◌≡◌, ℕ, pos, ◌<◌, List, [], ◌∷◌, ◌++◌, length, sum_by}
+-- What it means that a walk went on past an entry. This project's own.
+use Rattle.std.specs.Prelude.{◌≡◌, ℕ, pos, ◌<◌, List, [], ◌∷◌, ◌++◌}
 use Rattle.hp_states.specs.declared.dir.Dir.{Dir}
 use Rattle.hp_event.specs.declared.answer.Answer.TheVariants.{Ok, Fault}
 use Rattle.hp_event.specs.declared.event.Event.{Event}
 use Rattle.hp_event.specs.declared.how.How.{How}
-use Rattle.hp_model.specs.Plan.{plan}
 use Rattle.hp_walk.specs.declared.position.Position.{Position}
 use Rattle.hp_walk.specs.declared.position.Position.TheVariants.{Forward, Back, Ended}
 use Rattle.hp_walk.specs.Keys.{IsNextState, IsNoState}
 use Rattle.hp_walk.specs.declared.walk.Walk.{Walk}
 use Rattle.hp_walk.specs.Asked.{asked, IfCall, entry_of}
 use Rattle.hp_walk.specs.After.{IsWithin, IsAfter, entries_left}
-
--- the keys of the states of a walk's plan
-abbrev pub keys_on : (keys : ℕ → List ℕ) → (from to : ℕ) → ℕ
-keys_on keys from to = sum_by (λ s. length (keys s)) (plan keys from to)
 
 -- It stands after one entry more, which was made so, whoever made it; and fewer can come.
 pub record Took (keys : ℕ → List ℕ) (how : How) (old new : Walk) : Type 0 where

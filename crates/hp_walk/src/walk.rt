@@ -9,7 +9,8 @@ ghost use Rattle.hp_states.specs.Crossings.{state_after};
 ghost use Rattle.hp_walk.specs.Keys.{keys_by};
 ghost use Rattle.hp_walk.specs.Asked.{asked, call_at, CanTake};
 ghost use Rattle.hp_walk.specs.After.{IsWithin, IsAfter, Asks, entries_left};
-ghost use Rattle.hp_walk.specs.Took.{Took, IsNextOnTheWay, IsNextInRollback, keys_on};
+ghost use Rattle.hp_model.specs.Plan.{keys_on};
+ghost use Rattle.hp_walk.specs.Took.{Took, IsNextOnTheWay, IsNextInRollback};
 
 use crate::position::Position;
 use crate::states::next_state;

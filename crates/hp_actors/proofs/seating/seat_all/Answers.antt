@@ -6,7 +6,7 @@ use Rattle.hp_event.specs.declared.event.Role.TheVariants.{Client, Ap}
 use Rattle.hp_event.specs.declared.head.Head.{Head}
 use Rattle.hp_board.specs.Contents.{Contents}
 use Rattle.hp_model.specs.Lawful.{Stands}
-use Rattle.hp_model.specs.Run.{ap_admits}
+use Rattle.hp_model.specs.Admissions.{ap_admits}
 use Rattle.hp_model.specs.Seats.{admits}
 use Rattle.hp_actors.proofs.Admissions.{seated, present_below, seated_none, ap_stands, ap_next, client_stands, clients_admitted, seated_more}
 use Rattle.hp_actors.proofs.seating.seat_all.Goals as goal

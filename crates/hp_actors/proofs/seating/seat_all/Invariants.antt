@@ -1,5 +1,5 @@
 use Rattle.std.proofs.Common.{◌≡◌}
-use Rattle.hp_model.specs.Run.{ap_admits}
+use Rattle.hp_model.specs.Admissions.{ap_admits}
 use Rattle.hp_actors.proofs.Admissions.{present_below, seated}
 use Rattle.hp_actors.proofs.seating.seat_all.Given as goal
 

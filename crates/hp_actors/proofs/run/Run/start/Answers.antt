@@ -1,7 +1,7 @@
 -- The run is at its start.
 use Rattle.std.proofs.Common.{[], length, replicate, ap, ◌∙◌}
 use Rattle.hp_model.specs.Processors.{present}
-use Rattle.hp_model.specs.Run.{admissions}
+use Rattle.hp_model.specs.Admissions.{admissions}
 use Rattle.hp_board.proofs.Homes.{none_home}
 use Rattle.hp_actors.proofs.Knowing.{none_known}
 use Rattle.hp_actors.proofs.Opening.{Opened, opened_position, opened_playing}

@@ -5,7 +5,7 @@ use Rattle.std.proofs.lemmas.Option.{slice_get_read}
 use Rattle.hp_actors.proofs.Knowing.{turn_knows}
 use Rattle.hp_actors.proofs.Playing.{lawful_of, allowed_of, turn_playing_at, turn_position_at, failed_position, no_seat}
 use Rattle.hp_model.specs.Pending.{IsAllowed}
-use Rattle.hp_model.specs.ScriptTurns.{Progress, turn}
+use Rattle.hp_model.specs.ScriptTurns.{RunState, turn}
 use Rattle.hp_actors.specs.Asking.{HasHooks}
 use Rattle.hp_actors.specs.Positions.{Position, position_of, ops_of}
 use Rattle.hp_actors.proofs.run.Run.turn.Goals as goal
@@ -16,7 +16,7 @@ returns-then-place-len-clause-ok g c =
     let past : c.self.inside.threads + length c.self.inside.actors.items ≤ c.args.seat = omega arith in
     subst (λ (z : Position). z ≡ record { head = z.head; actors = z.actors; progress = turn z.head z.actors z.progress c.args.seat })
     c.self.view_is
-    (ap (λ (q : Progress). record { head = b.head; actors = map ops_of c.self.inside.actors.items; progress = q })
+    (ap (λ (q : RunState). record { head = b.head; actors = map ops_of c.self.inside.actors.items; progress = q })
     (sym (no_seat b c.self.inside.threads c.self.inside.actors.items c.args.seat c.self.invariant.playing past)))
 
 pub turn-requires-clause-allowed : goal.turn-requires-clause-allowed

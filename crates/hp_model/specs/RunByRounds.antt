@@ -1,65 +1,34 @@
 -- The run of a script's actors by rounds alone, as a relation: each round gives one turn to each seat, and rounds go on
 -- until every operation is answered. `ScriptRun.antt` has the run for any schedule, by functions. This project's own.
-use Rattle.std.specs.Prelude.{◌≡◌, ℕ, zero, suc, ◌+◌, ◌-◌, Bool, true, false, ◌&&◌, nat_le, nat_lt, if◌then◌else◌, Option, Some, None, List, [], ◌∷◌, ◌++◌, ◌⊎◌, length, slice_get}
+use Rattle.std.specs.Prelude.{◌≡◌, ℕ, zero, suc, ◌+◌, ◌-◌, Bool, true, false, ◌&&◌, nat_le, nat_lt, if◌then◌else◌, List, [], ◌∷◌, ◌++◌, ◌⊎◌, length, slice_get}
 use Rattle.hp_event.specs.declared.op.Op.{Op}
-use Rattle.hp_event.specs.declared.event.Role.TheVariants.{Client, Ap}
 use Rattle.hp_event.specs.declared.head.Head.{Head}
 use Rattle.hp_event.specs.declared.event.Event.{Event}
-use Rattle.hp_event.specs.declared.event.Event.TheVariants.{Admit}
 use Rattle.hp_model.specs.Lists.{numbers}
 use Rattle.hp_model.specs.Processors.{present}
-use Rattle.hp_model.specs.Events.{is_call, seat_of, answered, BelongsTo}
+use Rattle.hp_model.specs.Admissions.{admissions}
+use Rattle.hp_model.specs.Tasks.{Task, entries, task_of, first_unanswered, IsFor}
+use Rattle.hp_model.specs.Events.{seat_of, answered}
 use Rattle.hp_model.specs.Lawful.{Stands}
 
--- the seats of the present processors, in rising number, and then one client for each actor
-abbrev pub ap_admits : (seat : ℕ) → (cpus : List ℕ) → List Event
-ap_admits k [] = []
-ap_admits k (c ∷ cs) = Admit k (Ap c) ∷ ap_admits (k + 1) cs
-
-abbrev pub client_admits : (seat : ℕ) → (actors : List (List Op)) → List Event
-client_admits k [] = []
-client_admits k (ops ∷ more) = Admit k Client ∷ client_admits (k + 1) more
-
-abbrev pub admissions : Head → (actors : List (List Op)) → List Event
-admissions head actors = ap_admits 0 (present head) ++ client_admits (length (present head)) actors
-
--- what a turn of a seat is for: the entries of a processor's thread, or an operation
-pub data Task : Type 0 where
-  entries : Task
-  operation : Op → Task
-  nothing : Task
-
-abbrev pub task_of : Option Op → Task
-task_of None = nothing
-task_of (Some op) = operation op
-
--- the first operation of an actor that isn't answered
-abbrev pub first_unanswered : Option (List Op) → (answers : ℕ) → Option Op
-first_unanswered None n = None
-first_unanswered (Some ops) n = slice_get ops n
-
-abbrev pub task : Head → (actors : List (List Op)) → List Event → (seat : ℕ) → Task
-task head actors events k =
+-- what the turn of a seat is for after a journal, by the answers that the journal shows
+abbrev pub task_after : Head → (actors : List (List Op)) → List Event → (seat : ℕ) → Task
+task_after head actors events k =
     if nat_lt k (length (present head))
     then entries
     else task_of (first_unanswered (slice_get actors (k - length (present head))) (answered k events))
 
-abbrev pub IsFor : Task → Event → Type 0
-IsFor entries e = is_call e ≡ true
-IsFor (operation op) e = BelongsTo op e
-IsFor nothing e = ⊥
-
--- an event that a turn of a seat can append
-pub record CanTake (head : Head) (actors : List (List Op)) (before : List Event) (seat : ℕ) (e : Event) : Type 0 where
+-- an event that the turn of a seat can append after a journal
+pub record CanTakeAfter (head : Head) (actors : List (List Op)) (before : List Event) (seat : ℕ) (e : Event) : Type 0 where
   pub stands : Stands head before e
   pub by : seat_of e ≡ seat
-  pub is_for : IsFor (task head actors before seat) e
+  pub is_for : IsFor (task_after head actors before seat) e
 
 -- a turn appends such an event, or nothing where there is none
 abbrev pub Turn : Head → (actors : List (List Op)) → (seat : ℕ) → (before after : List Event) → Type 0
 Turn head actors k before after =
-    ((e : Event) × CanTake head actors before k e × (after ≡ before ++ e ∷ []))
-    ⊎ (((e : Event) → CanTake head actors before k e → ⊥) × (after ≡ before))
+    ((e : Event) × CanTakeAfter head actors before k e × (after ≡ before ++ e ∷ []))
+    ⊎ (((e : Event) → CanTakeAfter head actors before k e → ⊥) × (after ≡ before))
 
 -- a turn of each of some seats, one after another
 abbrev pub Turns : Head → (actors : List (List Op)) → (seats : List ℕ) → (before after : List Event) → Type 0
@@ -84,7 +53,7 @@ Rounds head actors (suc n) before after =
     × Turns head actors (numbers (length (present head) + length actors)) before between
     × Rounds head actors n between after
 
-pub record IsRun (head : Head) (actors : List (List Op)) (events : List Event) : Type 0 where
+pub record IsRunByRounds (head : Head) (actors : List (List Op)) (events : List Event) : Type 0 where
   pub rounds : ℕ
   pub played : Rounds head actors rounds (admissions head actors) events
   pub finished : all_answered head actors events ≡ true
