@@ -149,6 +149,7 @@ fn a_refused_record_comes_back(rt: HostRuntime) -> Result<(), Fail> {
     ]
     .iter()
     {
+        assert!(rt; rec.is_home());
         match table.install(state, rec) {
             Ok(()) => return Err(Fail::from(TableError::NoSpace)),
             Err((error, back)) => {
