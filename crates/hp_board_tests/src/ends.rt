@@ -64,6 +64,7 @@ fn rack(alloc: Global) -> Result<Rack<Marked>, Fail> {
     hooks.push(Marked {
         mark: 200,
         hook: ScriptHook::new(),
+        calls: None,
     })?;
     Ok(Rack { hooks })
 }

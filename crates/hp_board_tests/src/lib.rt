@@ -1,14 +1,18 @@
-//! The tests of hp_board: that boards can be kept, that turns come out as written by hand, that the very
-//! hook that went in comes back, and how a board ends.
+//! The tests of hp_board: that boards can be kept, that turns come out as written by hand, which hooks are
+//! lent and who waits for them, that the very hook that went in comes back, and how a board ends.
 //!
 //! They use hp_board as any crate does. They stand apart from it because a crate with tests is proved
 //! twice, once with them and once without.
 #![tactic(auto)]
 
 #[cfg(test)]
+mod back;
+#[cfg(test)]
 mod ends;
 #[cfg(test)]
 mod lending;
+#[cfg(test)]
+mod loans;
 #[cfg(test)]
 mod refusals;
 #[cfg(test)]

@@ -1,6 +1,6 @@
-//! Turns that come out as written by hand, and the very hook that went in, which comes back.
+//! Turns that come out as written by hand.
 
-ghost use Rattle.std.specs.Prelude.{◌<◌, ◌≤◌, IfOk, IfSome};
+ghost use Rattle.std.specs.Prelude.{◌<◌, ◌≤◌, All, IfOk, IfSome};
 ghost use Rattle.hp_model.specs.Heads.{IsSub};
 ghost use Rattle.hp_states.specs.declared.limits.TheConstants.{MAX_CODE};
 
@@ -10,13 +10,16 @@ use hp_hook::{Hook, ScriptHook};
 use hp_locks::Why;
 use hp_states::{Dir, HookPlan, Rule};
 use std::alloc::Global;
+use std::sync::Arc;
+use std::sync::atomic::{AtomicU64, Ordering};
 use std::test::Fail;
 
-/// A hook that carries a mark.
+/// A hook that carries a mark, and counts its calls where the test sees them too, if it is to.
 #[derive(Drop)]
 pub(crate) struct Marked {
     pub(crate) mark: u32,
     pub(crate) hook: ScriptHook,
+    pub(crate) calls: Option<Arc<AtomicU64, Global>>,
 }
 
 impl Hook for Marked {
@@ -27,6 +30,9 @@ impl Hook for Marked {
     }
 
     fn call(&mut self, cpu: u32, inst: u32, dir: Dir) -> u32 {
+        if let Some(calls) = &self.calls {
+            calls.fetch_add(1, Ordering::SeqCst);
+        }
         self.hook.call(cpu, inst, dir)
     }
 
@@ -71,6 +77,13 @@ pub(crate) fn board(alloc: Global, sub: Sub, clients: u32) -> Result<Board<Marke
 {
     let mut subs = Subs::new(alloc);
     subs.push(sub)?;
+    board_of(alloc, subs, clients)
+}
+
+/// The same with these subsystems.
+pub(crate) fn board_of(alloc: Global, subs: Subs, clients: u32) -> Result<Board<Marked>, Fail>
+    requires { All IsSub subs }
+{
     let plan = CpuPlan {
         possible: 2,
         absent: Numbers::new(alloc),
@@ -104,6 +117,7 @@ pub(crate) fn ask(op: Op) -> Ask<Marked> {
         Op::Setup { state, .. } => Some(Marked {
             mark: state,
             hook: ScriptHook::new(),
+            calls: None,
         }),
         _ => None,
     };
@@ -194,14 +208,9 @@ pub(crate) const FORM: Form = Form {
     nocalls: false,
 };
 
-const SETUP: Op = Op::Setup {
+pub(crate) const SETUP: Op = Op::Setup {
     state: 150,
     sub: 1,
-    form: FORM,
-};
-
-const REMOVE: Op = Op::Remove {
-    state: 150,
     form: FORM,
 };
 
@@ -294,95 +303,5 @@ fn two_readers_and_a_registration_keep_a_walk_out(rt: HostRuntime) -> Result<(),
     let played = play(rt.alloc(), &mut board, READERS.as_slice(), None);
     assert!(rt; board.journal().len() == 20);
     assert!(rt; played?);
-    Ok(())
-}
-
-/// A setup and a remove.
-const REMOVED: [Step; 6] = [
-    (2, Some(SETUP), Turn::Made { at: 3 }),
-    (0, None, Turn::Made { at: 4 }),
-    (
-        2,
-        None,
-        Turn::Answered {
-            at: Some(5),
-            answer: OK,
-        },
-    ),
-    (2, Some(REMOVE), Turn::Made { at: 6 }),
-    (0, None, Turn::Made { at: 7 }),
-    (
-        2,
-        None,
-        Turn::Answered {
-            at: Some(8),
-            answer: OK,
-        },
-    ),
-];
-
-/// A setup of a state that is taken.
-const TAKEN: [Step; 4] = [
-    (2, Some(SETUP), Turn::Made { at: 3 }),
-    (0, None, Turn::Made { at: 4 }),
-    (
-        2,
-        None,
-        Turn::Answered {
-            at: Some(5),
-            answer: OK,
-        },
-    ),
-    (
-        2,
-        Some(SETUP),
-        Turn::Answered {
-            at: Some(6),
-            answer: Answer::Refused(16),
-        },
-    ),
-];
-
-/// A setup whose startup faults on the second processor.
-const FAULTED: [Step; 9] = [
-    (2, Some(Op::Up(1)), Turn::Made { at: 3 }),
-    (2, None, Turn::Made { at: 4 }),
-    (2, None, Turn::Made { at: 5 }),
-    (
-        2,
-        None,
-        Turn::Answered {
-            at: Some(6),
-            answer: OK,
-        },
-    ),
-    (2, Some(SETUP), Turn::Made { at: 7 }),
-    (0, None, Turn::Made { at: 8 }),
-    (1, None, Turn::Made { at: 9 }),
-    (0, None, Turn::Made { at: 10 }),
-    (
-        2,
-        None,
-        Turn::Answered {
-            at: Some(11),
-            answer: Answer::Fault(5),
-        },
-    ),
-];
-
-/// Whether one client's turns answer so, where the startup answers this code on processor 1, and its hook is with
-/// the ask then.
-fn comes_back(alloc: Global, steps: &[Step], code: Option<u32>) -> Result<bool, Fail>
-    requires { IfSome code (λ n. (0 < n) × (n ≤ MAX_CODE)) }
-{
-    let mut board = board(alloc, subsystem(alloc, code)?, 1)?;
-    play(alloc, &mut board, steps, Some(150))
-}
-
-#[test]
-fn the_very_hook_comes_back(rt: HostRuntime) -> Result<(), Fail> {
-    assert!(rt; comes_back(rt.alloc(), REMOVED.as_slice(), None)?);
-    assert!(rt; comes_back(rt.alloc(), TAKEN.as_slice(), None)?);
-    assert!(rt; comes_back(rt.alloc(), FAULTED.as_slice(), Some(5))?);
     Ok(())
 }
