@@ -14,6 +14,8 @@
 
 mod grown;
 mod law;
+#[cfg(test)]
+mod lent;
 mod lock;
 #[cfg(test)]
 mod notes;

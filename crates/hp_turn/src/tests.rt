@@ -13,7 +13,7 @@ use std::sync::{Arc, Wait};
 use std::test::Fail;
 use std::thread::{Threads, join};
 
-fn empty(alloc: Global) -> Notes
+pub(crate) fn empty(alloc: Global) -> Notes
     ensures { result.events.items ≡ [] }
 {
     let head = Head {
