@@ -379,11 +379,3 @@ pub known_held : {H : Type 0} (board : Contents) (threads last i : ℕ) (actors 
 known_held board threads last i actors actor w at noted held =
     map_nothing board.head board.events (threads + i) (asked actor)
     (subst (IsKnown board.head board.events last (threads + i) (asked actor)) noted (w.each i actor at)) held
-
--- the run as it is, as after a turn that makes nothing
-pub passed : (now : Position) (seat : ℕ) → turn now.head now.actors now.progress seat ≡ now.progress →
-    now ≡ record { head = now.head; actors = now.actors; progress = turn now.head now.actors now.progress seat }
-passed now seat still = ap at (sym still)
-  where
-    at : RunState → Position
-    at q = record { head = now.head; actors = now.actors; progress = q }

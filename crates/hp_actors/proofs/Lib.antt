@@ -12,3 +12,5 @@ mod Opening
 mod Waiting
 mod Knowing
 mod ThreadsTurn
+mod HooksTurned
+mod Giving

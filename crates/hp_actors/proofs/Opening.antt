@@ -7,6 +7,7 @@ use Rattle.hp_event.specs.declared.op.Op.{Op}
 use Rattle.hp_event.specs.declared.head.Head.{Head}
 use Rattle.hp_event.specs.declared.event.Event.{Event}
 use Rattle.hp_board.specs.Contents.{Contents}
+use Rattle.hp_hook.specs.Counted.{Counts}
 use Rattle.hp_ledger.specs.TableChanges.{is_setup}
 use Rattle.hp_model.specs.Processors.{present}
 use Rattle.hp_model.specs.Admissions.{admissions, ap_admits}
@@ -18,7 +19,7 @@ use Rattle.hp_model.specs.Registrations.{registration}
 use Rattle.hp_model.proofs.Roster.{operation_first, registration_first}
 use Rattle.hp_actors.specs.declared.actor.Actor.{Actor}
 use Rattle.hp_actors.specs.Asking.{HasHooks, IsPlaying}
-use Rattle.hp_actors.specs.Positions.{Position, position_of, ops_of, answered_of, progress_of}
+use Rattle.hp_actors.specs.Positions.{Position, position_of, hooks_of, ops_of, answered_of, progress_of}
 use Rattle.hp_actors.specs.Racks.{AreLoaded, IsFresh}
 use Rattle.hp_board.specs.HookCount.{hook_count}
 use Rattle.hp_actors.proofs.Holding.{fresh_count}
@@ -76,15 +77,17 @@ at_start board threads actors head ops o =
         ◌≡◌ {A = RunState} (record { events = es; answers = ns }) (record { events = fs; answers = ms })
     same es ns fs ms a b = rw (a, b) refl
 
-pub opened_position : {H : Type 0} (board : Contents) (threads : ℕ) (actors : List (Actor H)) (head : Head) (ops : List (List Op)) →
+pub opened_position : {H : Type 0} (seen : H → Counts) (board : Contents) (threads : ℕ) (actors : List (Actor H)) (head : Head) (ops : List (List Op)) →
     Opened board threads actors head ops →
-    position_of board actors ≡ record { head = head; actors = ops; progress = start head ops }
-opened_position board threads actors head ops o =
+    position_of seen board actors
+    ≡ record { head = head; actors = ops; progress = start head ops; hooks = map (hooks_of seen) actors }
+opened_position seen board threads actors head ops o =
     same board.head (map ops_of actors) (progress_of board.events actors) head ops (start head ops) o.head_is o.ops_are
     (at_start board threads actors head ops o)
   where
-    same : (h : Head) (a : List (List Op)) (p : RunState) (i : Head) (b : List (List Op)) (q : RunState) → h ≡ i → a ≡ b → p ≡ q →
-        ◌≡◌ {A = Position} (record { head = h; actors = a; progress = p }) (record { head = i; actors = b; progress = q })
+    same : (h : Head) (a : List (List Op)) (p : Progress) (i : Head) (b : List (List Op)) (q : Progress) → h ≡ i → a ≡ b → p ≡ q →
+        ◌≡◌ {A = Position} (record { head = h; actors = a; progress = p; hooks = map (hooks_of seen) actors })
+        (record { head = i; actors = b; progress = q; hooks = map (hooks_of seen) actors })
     same h a p i b q x y z = rw (x, y, z) refl
 
 pub opened_playing : {H : Type 0} (board : Contents) (threads : ℕ) (actors : List (Actor H)) (head : Head) (ops : List (List Op)) →

@@ -7,6 +7,7 @@ use Rattle.std.proofs.lemmas.Option.{slice_get-map, get_or_from_slice_get}
 use Rattle.hp_event.specs.declared.op.Op.{Op}
 use Rattle.hp_event.specs.declared.head.Head.{Head}
 use Rattle.hp_event.specs.declared.event.Event.{Event}
+use Rattle.hp_hook.specs.Counted.{Counts}
 use Rattle.hp_board.specs.Contents.{Contents}
 use Rattle.hp_board.specs.HookCount.{hook_count}
 use Rattle.hp_board.specs.Turns.{IsServed}
@@ -31,7 +32,7 @@ use Rattle.hp_model.proofs.DueGives.{due_stands}
 use Rattle.hp_model.proofs.NextStands.{next_stands}
 use Rattle.hp_model.proofs.Owners.{same_some}
 use Rattle.hp_actors.specs.declared.actor.Actor.{Actor}
-use Rattle.hp_actors.specs.Positions.{position_of, progress_of, ops_of, op_of, answered_of}
+use Rattle.hp_actors.specs.Positions.{position_of, progress_of, hooks_of, ops_of, op_of, answered_of}
 use Rattle.hp_actors.specs.Asking.{HasHooks, IsReached, IsPlaying}
 use Rattle.hp_actors.specs.Racks.{hooks_with}
 use Rattle.hp_actors.specs.Turned.{asked, event_for, answers_for}
@@ -102,11 +103,11 @@ served k old new (NotYet Idle) s =
 served k old new t s = absurd s
 
 -- after a thread's turn
-pub thread_position : {H : Type 0} (old new : Contents) (actors : List (Actor H)) (threads k : ℕ) →
+pub thread_position : {H : Type 0} (seen : H → Counts) (old new : Contents) (actors : List (Actor H)) (threads k : ℕ) →
     IsPlaying old threads actors → k < threads → Served k old new →
-    position_of new actors
-    ≡ record (position_of old actors) { progress = turn old.head (map ops_of actors) (progress_of old.events actors) k }
-thread_position old new actors threads k p below s =
+    position_of seen new actors
+    ≡ record (position_of seen old actors) { progress = turn old.head (map ops_of actors) (progress_of old.events actors) k }
+thread_position seen old new actors threads k p below s =
     let t = thread_turn old.head (map ops_of actors) (progress_of old.events actors) k (omega (arith, p.threads_are)) in
     rw (s.head_is, t, s.events_are) refl
 
@@ -180,13 +181,14 @@ after_turn old new actors threads i actor now p at t =
     rw (made, asks, t.events_are, counted_so) refl
 
 -- after an actor's turn
-pub actor_position : {H : Type 0} (old new : Contents) (actors : List (Actor H)) (threads i : ℕ) (actor now : Actor H) →
+pub actor_position : {H : Type 0} (seen : H → Counts) (old new : Contents) (actors : List (Actor H)) (threads i : ℕ) (actor now : Actor H) →
     IsPlaying old threads actors → slice_get actors i ≡ Some actor → ActorTurned (threads + i) old new actor now →
-    position_of new (set actors i now)
-    ≡ record (position_of old actors) {
+    position_of seen new (set actors i now)
+    ≡ record (position_of seen old actors) {
       progress = turn old.head (map ops_of actors) (progress_of old.events actors) (threads + i);
+      hooks = map (hooks_of seen) (set actors i now);
     }
-actor_position old new actors threads i actor now p at t =
+actor_position seen old new actors threads i actor now p at t =
     let done = after_turn old new actors threads i actor now p at t in
     let ops = ops_kept actors i actor now at t.ops_are in
     rw (t.head_is, ops, done) refl
@@ -299,21 +301,22 @@ turn_playing (Ok x) old new actors threads i actor now p at head events answered
 turn_playing (Err e) old new actors threads i actor now p at head events answered ops hooks kept err =
     failed_playing old new actors threads i actor now p at err.0 err.1 ops hooks kept
 
-pub turn_position : {H E F : Type 0} (r : Result E F) (old new : Contents) (actors : List (Actor H)) (threads i : ℕ)
+pub turn_position : {H E F : Type 0} (r : Result E F) (seen : H → Counts) (old new : Contents) (actors : List (Actor H)) (threads i : ℕ)
     (actor now : Actor H) → IsPlaying old threads actors → slice_get actors i ≡ Some actor → new.head ≡ old.head →
     OnOk r (new.events ≡ old.events ++ option_to_list (event_for old.head old.events (threads + i) (asked actor))) →
     OnOk r (now.answered ≡ actor.answered + (cond (answers_for old.head old.events (threads + i) (asked actor)) 1 0)) →
     ops_of now ≡ ops_of actor → HasHooks new.events (threads + i) now →
     hook_count new.places + hooks_with now ≡ hook_count old.places + hooks_with actor →
     OnOk r
-    (position_of new (set actors i now)
-    ≡ record (position_of old actors) {
+    (position_of seen new (set actors i now)
+    ≡ record (position_of seen old actors) {
       progress = turn old.head (map ops_of actors) (progress_of old.events actors) (threads + i);
+      hooks = map (hooks_of seen) (set actors i now);
     })
-turn_position (Ok x) old new actors threads i actor now p at head events answered ops hooks kept =
-    actor_position old new actors threads i actor now p at
+turn_position (Ok x) seen old new actors threads i actor now p at head events answered ops hooks kept =
+    actor_position seen old new actors threads i actor now p at
     (record { head_is = head; events_are = events; answered_is = answered; ops_are = ops; hooks = hooks; kept = kept })
-turn_position (Err e) old new actors threads i actor now p at head events answered ops hooks kept = tt
+turn_position (Err e) seen old new actors threads i actor now p at head events answered ops hooks kept = tt
 
 -- a number that is no seat does nothing
 pub no_seat : {H : Type 0} (board : Contents) (threads : ℕ) (actors : List (Actor H)) (seat : ℕ) → IsPlaying board threads actors →
@@ -339,7 +342,7 @@ turn_playing_at r old new actors threads i k actor now e p at head events answer
     (subst (λ z. OnOk r (now.answered ≡ actor.answered + (cond (answers_for old.head old.events z (asked actor)) 1 0))) (sym e) answered)
     ops (subst (λ z. HasHooks new.events z now) (sym e) hooks) kept err
 
-pub turn_position_at : {H E F : Type 0} (r : Result E F) (old new : Contents) (actors : List (Actor H)) (threads i k : ℕ)
+pub turn_position_at : {H E F : Type 0} (r : Result E F) (seen : H → Counts) (old new : Contents) (actors : List (Actor H)) (threads i k : ℕ)
     (actor now : Actor H) → threads + i ≡ k → IsPlaying old threads actors → slice_get actors i ≡ Some actor →
     new.head ≡ old.head →
     OnOk r (new.events ≡ old.events ++ option_to_list (event_for old.head old.events k (asked actor))) →
@@ -347,24 +350,32 @@ pub turn_position_at : {H E F : Type 0} (r : Result E F) (old new : Contents) (a
     ops_of now ≡ ops_of actor → HasHooks new.events k now →
     hook_count new.places + hooks_with now ≡ hook_count old.places + hooks_with actor →
     OnOk r
-    (position_of new (set actors i now)
-    ≡ record (position_of old actors) { progress = turn old.head (map ops_of actors) (progress_of old.events actors) k })
-turn_position_at r old new actors threads i k actor now e p at head events answered ops hooks kept =
+    (position_of seen new (set actors i now)
+    ≡ record (position_of seen old actors) {
+      progress = turn old.head (map ops_of actors) (progress_of old.events actors) k;
+      hooks = map (hooks_of seen) (set actors i now);
+    })
+turn_position_at r seen old new actors threads i k actor now e p at head events answered ops hooks kept =
     subst (λ z.
     OnOk r
-    (position_of new (set actors i now)
-    ≡ record (position_of old actors) { progress = turn old.head (map ops_of actors) (progress_of old.events actors) z })) e
-    (turn_position r old new actors threads i actor now p at head
+    (position_of seen new (set actors i now)
+    ≡ record (position_of seen old actors) {
+      progress = turn old.head (map ops_of actors) (progress_of old.events actors) z;
+      hooks = map (hooks_of seen) (set actors i now);
+    })) e
+    (turn_position r seen old new actors threads i actor now p at head
     (subst (λ z. OnOk r (new.events ≡ old.events ++ option_to_list (event_for old.head old.events z (asked actor)))) (sym e) events)
     (subst (λ z. OnOk r (now.answered ≡ actor.answered + (cond (answers_for old.head old.events z (asked actor)) 1 0))) (sym e) answered)
     ops (subst (λ z. HasHooks new.events z now) (sym e) hooks) kept)
 
-pub failed_position : {H E F : Type 0} (r : Result E F) (old new : Contents) (actors : List (Actor H)) (i : ℕ) (actor now : Actor H) →
+pub failed_position : {H E F : Type 0} (r : Result E F) (seen : H → Counts) (old new : Contents) (actors : List (Actor H)) (i : ℕ) (actor now : Actor H) →
     slice_get actors i ≡ Some actor → ops_of now ≡ ops_of actor → OnErr r ((new ≡ old) × (now.answered ≡ actor.answered)) →
-    OnErr r (position_of new (set actors i now) ≡ position_of old actors)
-failed_position (Ok x) old new actors i actor now at ops err = tt
-failed_position (Err e) old new actors i actor now at ops err =
+    OnErr r (hooks_of seen now ≡ hooks_of seen actor) → OnErr r (position_of seen new (set actors i now) ≡ position_of seen old actors)
+failed_position (Ok x) seen old new actors i actor now at ops err own = tt
+failed_position (Err e) seen old new actors i actor now at ops err own =
+    let hooks : map (hooks_of seen) (set actors i now) ≡ map (hooks_of seen) actors =
+    map-set_same (hooks_of seen) actors i now actor (own ∙ ap (hooks_of seen) (sym (get_or_from_slice_get actors i actor actor at))) in
     let same : map ops_of (set actors i now) ≡ map ops_of actors = ops_kept actors i actor now at ops in
     let counts : map answered_of (set actors i now) ≡ map answered_of actors =
     let z : now.answered ≡ actor.answered + 0 = omega (arith, err.1) in answers_are actors i actor now false at z in
-    rw (err.0, same, counts) refl
+    rw (err.0, same, counts, hooks) refl

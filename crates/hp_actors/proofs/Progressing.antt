@@ -50,7 +50,7 @@ pub idle_turn : (head : Head) (actors : List (List Op)) (at : RunState) (k : ℕ
     due_entry head at.events k ≡ None → turn head actors at k ≡ at
 idle_turn head actors at k below none = rw (lt-ltb k (length (present head)) below, none) refl
 
-not_below : (a b : ℕ) → b ≤ a → ltb a b ≡ false
+pub not_below : (a b : ℕ) → b ≤ a → ltb a b ≡ false
 not_below a b h = go (ltb a b) refl
   where
     go : (t : Bool) → ltb a b ≡ t → t ≡ false

@@ -6,6 +6,7 @@ use Rattle.std.proofs.lemmas.Bool.{true≢false, eqb-true, eqb-false, ltb-true, 
 use Rattle.hp_states.specs.declared.limits.TheConstants.{MAX_EVENTS}
 use Rattle.hp_event.specs.declared.op.Op.{Op}
 use Rattle.hp_event.specs.declared.head.Head.{Head}
+use Rattle.hp_hook.specs.Counted.{Counts}
 use Rattle.hp_model.specs.Distance.{distance}
 use Rattle.hp_model.specs.Lists.{numbers}
 use Rattle.hp_model.specs.NextEvent.{due_entry}
@@ -17,7 +18,7 @@ use Rattle.hp_model.proofs.RoundsEnd.{turns_go_on, turns_bounded}
 use Rattle.hp_board.specs.declared.turn.Ask.{Ask}
 use Rattle.hp_actors.specs.Asking.{IsReached}
 use Rattle.hp_actors.specs.Positions.{Position, op_of}
-use Rattle.hp_actors.proofs.Progressing.{turns_push, turns_none, idle_turn}
+use Rattle.hp_actors.proofs.Progressing.{turns_push, turns_none, thread_turn, idle_turn}
 
 -- seats that nothing is due from are passed over
 pub idle_until : (head : Head) (actors : List (List Op)) (at : RunState) (m d n : ℕ) → n ≡ m + d → n ≤ length (present head) →
@@ -67,6 +68,7 @@ pub record IsServed (old now : Position) (next : ℕ) : Type 0 where
   pub actors : now.actors ≡ old.actors
   pub few : next ≤ length (present old.head)
   pub turned : now.progress ≡ after_turns old.head old.actors old.progress (numbers next)
+  pub hooks : now.hooks ≡ old.hooks
 
 pub first_served : (old : Position) → IsServed old old 0
 first_served old = record {
@@ -74,12 +76,19 @@ first_served old = record {
   actors = refl;
   few = omega arith;
   turned = sym (turns_none old.head old.actors old.progress);
+  hooks = refl;
 }
 
 pub more_served : (old now after : Position) (next seat : ℕ) → IsServed old now next → next ≤ seat →
     seat < length (present now.head) →
     ((k : ℕ) → next ≤ k → k < seat → due_entry now.head now.progress.events k ≡ None) →
-    after ≡ record { head = now.head; actors = now.actors; progress = turn now.head now.actors now.progress seat } →
+    after
+    ≡ record {
+      head = now.head;
+      actors = now.actors;
+      progress = turn now.head now.actors now.progress seat;
+      hooks = now.hooks;
+    } →
     IsServed old after (seat + 1)
 more_served old now after next seat s from below none is = record {
   head = ap (λ p. p.head) is ∙ s.head;
@@ -91,15 +100,25 @@ more_served old now after next seat s from below none is = record {
       ∙ (ap (λ h. turn h now.actors now.progress seat) s.head ∙ (ap (λ a. turn old.head a now.progress seat) s.actors
       ∙ due_turn old.head old.actors old.progress now.progress next seat s.turned from (omega (arith, below, e))
       (λ k a b. ap (λ h. due_entry h now.progress.events k) (sym s.head) ∙ none k a b)));
+  hooks = ap (λ p. p.hooks) is ∙ s.hooks;
 }
+
+-- threads answer nothing
+pub threads_answer : (head : Head) (actors : List (List Op)) (at : Progress) (n : ℕ) → n ≤ length (present head) →
+    (after_turns head actors at (numbers n)).answers ≡ at.answers
+threads_answer head actors at zero few = ap (λ q. q.answers) (turns_none head actors at)
+threads_answer head actors at (suc n) few =
+    let before = after_turns head actors at (numbers n) in
+    ap (λ q. q.answers) (turns_push head actors at (numbers n) n ∙ thread_turn head actors before n (omega (arith, few)))
+    ∙ threads_answer head actors at n (omega (arith, few))
 
 -- one seat more of a round
 pub seat_more : (old now after : Position) (seat : ℕ) → now.head ≡ old.head → now.actors ≡ old.actors →
     now.progress ≡ after_turns old.head old.actors old.progress (numbers seat) →
-    after ≡ record { head = now.head; actors = now.actors; progress = turn now.head now.actors now.progress seat } →
+    after.progress ≡ turn now.head now.actors now.progress seat →
     after.progress ≡ after_turns old.head old.actors old.progress (numbers (seat + 1))
 seat_more old now after seat head actors turned is =
-    ap (λ p. p.progress) is
+    is
     ∙ (ap (λ h. turn h now.actors now.progress seat) head ∙ (ap (λ a. turn old.head a now.progress seat) actors
     ∙ (ap (λ q. turn old.head old.actors q seat) turned ∙ sym (numbers_more old.head old.actors old.progress seat))))
 
@@ -110,17 +129,20 @@ pub all_served : (old now : Position) (next : ℕ) → IsServed old now next →
       head = old.head;
       actors = old.actors;
       progress = after_turns old.head old.actors old.progress (numbers (length (present old.head)));
+      hooks = old.hooks;
     }
 all_served old now next s none =
     let e : length (present now.head) ≡ length (present old.head) = ap (λ h. length (present h)) s.head in
     let t =
     none_due old.head old.actors old.progress now.progress next s.turned s.few
     (λ k a b. ap (λ h. due_entry h now.progress.events k) (sym s.head) ∙ none k a (omega (arith, b, e))) in
-    same now.head now.actors now.progress old.head old.actors _ s.head s.actors t
+    same now.head now.actors now.progress now.hooks old.head old.actors _ old.hooks s.head s.actors t s.hooks
   where
-    same : (h : Head) (a : List (List Op)) (p : RunState) (i : Head) (b : List (List Op)) (q : RunState) → h ≡ i → a ≡ b → p ≡ q →
-        ◌≡◌ {A = Position} (record { head = h; actors = a; progress = p }) (record { head = i; actors = b; progress = q })
-    same h a p i b q x y z = rw (x, y, z) refl
+    same : (h : Head) (a : List (List Op)) (p : Progress) (hs : List (List (Option Counts))) (i : Head) (b : List (List Op)) (q : Progress)
+        (gs : List (List (Option Counts))) → h ≡ i → a ≡ b → p ≡ q → hs ≡ gs →
+        ◌≡◌ {A = Position} (record { head = h; actors = a; progress = p; hooks = hs })
+        (record { head = i; actors = b; progress = q; hooks = gs })
+    same h a p hs i b q gs x y z w = rw (x, y, z, w) refl
 
 -- ---- whether all is answered
 
@@ -227,26 +249,26 @@ pub record IsRound (now after : Position) : Type 0 where
   pub reached : IsReached now.head now.actors now.progress
   pub reached_after : IsReached after.head after.actors after.progress
   pub goes : is_over now.actors now.progress ≡ false
-  pub after_is :
-      after ≡ record { head = now.head; actors = now.actors; progress = after_round now.head now.actors now.progress }
+  pub head_is : after.head ≡ now.head
+  pub actors_are : after.actors ≡ now.actors
+  pub after_is : after.progress ≡ after_round now.head now.actors now.progress
 
 pub round_smaller : (now after : Position) → IsRound now after →
     (MAX_EVENTS + sum_by (λ ops. length ops) after.actors) - distance after.progress
     < (MAX_EVENTS + sum_by (λ ops. length ops) now.actors) - distance now.progress
 round_smaller now after r =
-    let actors : after.actors ≡ now.actors = ap (λ p. p.actors) r.after_is in
     let reached =
-    subst (λ h. IsReached h now.actors after.progress) (ap (λ p. p.head) r.after_is)
-    (subst (λ a. IsReached after.head a after.progress) actors r.reached_after) in
+    subst (λ h. IsReached h now.actors after.progress) r.head_is
+    (subst (λ a. IsReached after.head a after.progress) r.actors_are r.reached_after) in
     subst (λ a.
     (MAX_EVENTS + sum_by (λ ops. length ops) a) - distance after.progress
-    < (MAX_EVENTS + sum_by (λ ops. length ops) now.actors) - distance now.progress) (sym actors)
-    (round_nearer now.head now.actors now.progress after.progress r.script r.reached reached r.goes (ap (λ p. p.progress) r.after_is))
+    < (MAX_EVENTS + sum_by (λ ops. length ops) now.actors) - distance now.progress) (sym r.actors_are)
+    (round_nearer now.head now.actors now.progress after.progress r.script r.reached reached r.goes r.after_is)
 
 -- rounds of a script, one more
 pub more_rounds : (old now after : Position) → now.head ≡ old.head → now.actors ≡ old.actors → IsRound now after →
     (seats : List ℕ) → HasRounds old.head old.actors seats now.progress → HasRounds old.head old.actors seats after.progress
 more_rounds old now after head actors r seats h =
     next_round old.head old.actors seats now.progress after.progress h (ap (λ a. is_over a now.progress) (sym actors) ∙ r.goes)
-    (ap (λ p. p.progress) r.after_is
+    (r.after_is
     ∙ (ap (λ z. after_round z now.actors now.progress) head ∙ ap (λ a. after_round old.head a now.progress) actors))

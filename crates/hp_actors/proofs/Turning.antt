@@ -21,12 +21,11 @@ turns_cons head actors at k seats = refl
 -- one turn is made of those that are left
 pub turn_left : (old now after : Position) (k : ℕ) (rest : List ℕ) (whole : RunState) → now.head ≡ old.head → now.actors ≡ old.actors →
     after_turns old.head old.actors now.progress (k ∷ rest) ≡ whole →
-    after ≡ record { head = now.head; actors = now.actors; progress = turn now.head now.actors now.progress k } →
+    after.progress ≡ turn now.head now.actors now.progress k →
     after_turns old.head old.actors after.progress rest ≡ whole
 turn_left old now after k rest whole head actors left is =
     ap (λ q. after_turns old.head old.actors q rest)
-    (ap (λ p. p.progress) is
-    ∙ (ap (λ h. turn h now.actors now.progress k) head ∙ ap (λ a. turn old.head a now.progress k) actors))
+    (is ∙ (ap (λ h. turn h now.actors now.progress k) head ∙ ap (λ a. turn old.head a now.progress k) actors))
     ∙ (sym (turns_cons old.head old.actors now.progress k rest) ∙ left)
 
 pub seats_left : (seats : List ℕ) (i k : ℕ) → i < length seats → k ≡ get_or seats i 0 → drop i seats ≡ k ∷ drop (i + 1) seats
@@ -44,17 +43,7 @@ draws_left m x n a below = let e : n - a ≡ suc (n - (a + 1)) = omega (arith, b
 pub no_draws : (m x n a : ℕ) → n ≤ a → draws m x (n - a) ≡ []
 no_draws m x n a past = let e : n - a ≡ 0 = omega (arith, past) in ap (draws m x) e
 
--- where the run stands, by its parts
-pub stands_at : (old now : Position) (seats : List ℕ) → now.head ≡ old.head → now.actors ≡ old.actors →
-    now.progress ≡ after_turns old.head old.actors old.progress seats →
-    now ≡ record { head = old.head; actors = old.actors; progress = after_turns old.head old.actors old.progress seats }
-stands_at old now seats head actors progress = same now.head now.actors now.progress old.head old.actors _ head actors progress
-  where
-    same : (h : Head) (a : List (List Op)) (p : RunState) (i : Head) (b : List (List Op)) (q : RunState) → h ≡ i → a ≡ b → p ≡ q →
-        ◌≡◌ {A = Position} (record { head = h; actors = a; progress = p }) (record { head = i; actors = b; progress = q })
-    same h a p i b q x y z = rw (x, y, z) refl
-
-pub all_made : (head : Head) (actors : List (List Op)) (at whole : RunState) (left : List ℕ) → left ≡ [] →
+pub all_made : (head : Head) (actors : List (List Op)) (at whole : Progress) (left : List ℕ) → left ≡ [] →
     after_turns head actors at left ≡ whole → at ≡ whole
 all_made head actors at whole left none is =
     sym (ap (after_turns head actors at) none ∙ turns_none head actors at) ∙ is
@@ -69,12 +58,14 @@ some_present head h =
 
 -- rounds after a schedule's turns from the start make the run
 pub schedule_ran : {E F : Type 0} (r : Result E F) (old mid : Position) (seats : List ℕ) (events : List Event) →
-    mid ≡ record { head = old.head; actors = old.actors; progress = after_turns old.head old.actors old.progress seats } →
+    mid.head ≡ old.head → mid.actors ≡ old.actors → mid.progress ≡ after_turns old.head old.actors old.progress seats →
     old.progress ≡ start old.head old.actors →
     ((s : List ℕ) → mid.progress ≡ after_turns mid.head mid.actors (start mid.head mid.actors) s → OnOk r (IsRun mid.head mid.actors s events)) →
     OnOk r (IsRun old.head old.actors seats events)
-schedule_ran r old mid seats events is first ran =
-    subst (λ (m : Position).
-    ((s : List ℕ) → m.progress ≡ after_turns m.head m.actors (start m.head m.actors) s → OnOk r (IsRun m.head m.actors s events)) →
-    OnOk r (IsRun old.head old.actors seats events)) (sym is)
-    (λ f. f seats (ap (λ q. after_turns old.head old.actors q seats) first)) ran
+schedule_ran r old mid seats events head actors is first ran =
+    subst (λ (h : Head).
+    ((s : List ℕ) → mid.progress ≡ after_turns h old.actors (start h old.actors) s → OnOk r (IsRun h old.actors s events)) →
+    OnOk r (IsRun old.head old.actors seats events)) (sym head)
+    (λ f. f seats (is ∙ ap (λ q. after_turns old.head old.actors q seats) first))
+    (subst (λ (a : List (List Op)).
+    (s : List ℕ) → mid.progress ≡ after_turns mid.head a (start mid.head a) s → OnOk r (IsRun mid.head a s events)) actors ran)

@@ -2,4 +2,5 @@ pub mod Positions
 pub mod Asking
 pub mod Turned
 pub mod Racks
+pub mod Hooks
 pub mod Waiting

@@ -1,9 +1,8 @@
--- The hooks of a rack that setups take, and those that come back. This project's own.
-use Rattle.std.specs.Prelude.{◌≡◌, ℕ, ◌+◌, is_some, Option, List, ◌++◌, map, length, All}
+-- The hooks of a rack that setups take, and how many a run has. This project's own.
+use Rattle.std.specs.Prelude.{◌≡◌, ℕ, ◌+◌, is_some, Option, List, ◌++◌, length, All}
 use Rattle.std.specs.List.{sum_by}
 use Rattle.hp_board.specs.HookCount.{hook_count, held}
 use Rattle.hp_board.specs.declared.turn.Ask.{Ask}
-use Rattle.hp_hook.specs.Counted.{Counts}
 use Rattle.hp_table.specs.Step.{Step}
 use Rattle.hp_ledger.specs.TableChanges.{is_setup}
 use Rattle.hp_actors.specs.declared.actor.Actor.{Actor}
@@ -29,10 +28,3 @@ pub record Takes {H : Type 0} (old new : List H) (count : ℕ) : Type 0 where
   pub taken : List H
   pub old_is : old ≡ new ++ taken
   pub count_is : length taken ≡ count
-
--- the last hooks have these counts
-pub record EndsWith {H : Type 0} (seen : H → Counts) (hooks : List H) (last : List Counts) : Type 0 where
-  pub front : List H
-  pub back : List H
-  pub hooks_are : hooks ≡ front ++ back
-  pub last_are : map seen back ≡ last

@@ -10,7 +10,8 @@ ghost use Rattle.hp_table.specs.Step.{AllHome};
 ghost use Rattle.hp_model.specs.Lawful.{IsLawful};
 ghost use Rattle.hp_model.specs.Pending.{IsAllowed};
 ghost use Rattle.hp_actors.specs.Asking.{HasHooks};
-ghost use Rattle.hp_actors.specs.Positions.{ops_of};
+ghost use Rattle.hp_actors.specs.Hooks.{hooks_after};
+ghost use Rattle.hp_actors.specs.Positions.{ops_of, hooks_of};
 ghost use Rattle.hp_actors.specs.Turned.{asked, event_for, answers_for};
 ghost use Rattle.hp_actors.specs.Waiting.{EndsNothing, KnowsWait, is_end, noted};
 ghost use Rattle.hp_event.specs.declared.event.Event.{Event as AnEvent};
@@ -85,7 +86,7 @@ impl<H: Hook> Actor<H> {
 
 impl<H: Hook> Actor<H> {
     /// One turn of the actor's seat: a turn of the machine for its first operation that isn't answered, and
-    /// nothing where all are. Notes whether it waits, and what ended.
+    /// nothing where all are. The other operations keep their hooks. Notes whether it waits, and what ended.
     ///
     /// Takes memory as the machine's turn does; where that is wanting nothing has changed: `NoMemory`.
     pub(crate) fn turn(
@@ -109,6 +110,9 @@ impl<H: Hook> Actor<H> {
             + (if answers_for board.old.head board.old.events seat (asked self.old) then 1 else 0)) }
         ensures ops { ops_of self.new ≡ ops_of self.old }
         ensures hooks { HasHooks board.new.events seat self.new }
+        ensures own_hooks { OnOk result (hooks_of H.counts self.new
+            ≡ hooks_after board.old.head board.old.events seat self.old.answered (asked self.old) (hooks_of H.counts self.old)) }
+        ensures same_hooks { OnErr result (hooks_of H.counts self.new ≡ hooks_of H.counts self.old) }
         ensures kept { hook_count board.new.places + hooks_with self.new ≡ hook_count board.old.places + hooks_with self.old }
         ensures err { OnErr result ((board.new ≡ board.old) × (self.new.answered ≡ self.old.answered)) }
         ensures last_end { (last_end.old ≤ last_end.new) × (last_end.new ≤ length board.new.events) }
@@ -127,7 +131,8 @@ impl<H: Hook> Actor<H> {
         Ok(())
     }
 
-    /// A turn of the machine for the actor's first operation that isn't answered, and what it did.
+    /// A turn of the machine for the actor's first operation that isn't answered, and what it did. The other
+    /// operations keep their hooks.
     ///
     /// Not all of its operations are answered. Takes memory as the machine's turn does; where that is wanting
     /// nothing has changed: `NoMemory`.
@@ -150,6 +155,9 @@ impl<H: Hook> Actor<H> {
             + (if answers_for board.old.head board.old.events seat (asked self.old) then 1 else 0)) }
         ensures ops { ops_of self.new ≡ ops_of self.old }
         ensures hooks { HasHooks board.new.events seat self.new }
+        ensures own_hooks { OnOk result (hooks_of H.counts self.new
+            ≡ hooks_after board.old.head board.old.events seat self.old.answered (asked self.old) (hooks_of H.counts self.old)) }
+        ensures same_hooks { OnErr result (hooks_of H.counts self.new ≡ hooks_of H.counts self.old) }
         ensures kept { hook_count board.new.places + hooks_with self.new ≡ hook_count board.old.places + hooks_with self.old }
         ensures waits { self.new.waits ≡ self.old.waits }
         ensures err { OnErr result ((board.new ≡ board.old) × (self.new.answered ≡ self.old.answered)) }

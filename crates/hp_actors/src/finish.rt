@@ -1,13 +1,13 @@
 //! The end of a run.
 
-ghost use Rattle.std.specs.Prelude.{◌≡◌, ◌+◌, true, is_some, None, OnOk, length, sum_by};
-ghost use Rattle.hp_board.specs.HookCount.{held};
+ghost use Rattle.std.specs.Prelude.{◌≡◌, ◌+◌, ◌++◌, true, None, OnOk, length, option_to_list, sum_by};
+ghost use Rattle.std.specs.List.{flat_map};
 ghost use Rattle.hp_script.specs.Playable.{setups_in};
-ghost use Rattle.hp_board.specs.Retired.{registered_hooks};
+ghost use Rattle.hp_board.specs.Retired.{IsRacked, registered_hooks};
 ghost use Rattle.hp_model.specs.MapLock.{operation};
 ghost use Rattle.hp_model.specs.Registrations.{registration};
 ghost use Rattle.hp_model.specs.ScriptRun.{is_over};
-ghost use Rattle.hp_actors.specs.Racks.{EndsWith, hooks_with};
+ghost use Rattle.hp_actors.specs.Hooks.{hooks_there};
 
 use crate::actor::Actor;
 use crate::run::Run;
@@ -36,16 +36,17 @@ impl<H: Hook> Run<H> {
         let _ = &self.threads;
     }
 
-    /// Gives the run up: its hooks go behind those of the rack, first those that came back, and last those of
-    /// the registered states, in rising state. No hook is lost: those of all setups are there.
+    /// Gives the run up: its hooks go behind those of the rack, which stay as they are. First come those that
+    /// operations have, by actor and operation, as they came back; and last those of the registered states, in
+    /// rising state, each with the plan of its subsystem and having counted the calls of the journal. No hook is
+    /// lost: those of all setups are there.
     ///
     /// Every operation is answered. The rack may be any. Takes memory for places in it; where that is wanting, some
     /// hooks are lost: `NoMemory`. This project's own.
     pub fn finish(self, rack: &mut Rack<H>) -> Result<(), NoMemory>
         requires { is_over self.actors self.progress ≡ true }
-        ensures last { OnOk result (EndsWith
-            H.counts
-            rack.new.hooks.items (registered_hooks self.head self.progress.events)) }
+        ensures hooks { OnOk result (IsRacked H.counts rack.old.hooks.items rack.new.hooks.items
+            (hooks_there self.hooks ++ registered_hooks self.head self.progress.events)) }
         ensures all { OnOk result (
             length rack.new.hooks.items ≡ length rack.old.hooks.items + sum_by setups_in self.actors) }
     {
@@ -61,7 +62,8 @@ impl<H: Hook> Run<H> {
 
 /// Puts the hooks that actors have behind those of the rack.
 fn give_back<H: Hook>(actors: Vec<Actor<H>>, rack: &mut Rack<H>) -> Result<(), NoMemory>
-    ensures { OnOk result (length rack.new.hooks.items ≡ length rack.old.hooks.items + sum_by hooks_with actors.items) }
+    ensures { OnOk result (rack.new.hooks.items ≡ rack.old.hooks.items
+        ++ flat_map (λ actor. flat_map (λ ask. option_to_list ask.hook) actor.asks.items) actors.items) }
 {
     for actor in actors {
         give_asks(actor.asks, rack)?;
@@ -71,8 +73,8 @@ fn give_back<H: Hook>(actors: Vec<Actor<H>>, rack: &mut Rack<H>) -> Result<(), N
 
 /// Puts the hooks of operations behind those of the rack.
 fn give_asks<H: Hook>(asks: Vec<Ask<H>>, rack: &mut Rack<H>) -> Result<(), NoMemory>
-    ensures { OnOk result (length rack.new.hooks.items
-        ≡ length rack.old.hooks.items + sum_by (λ ask. held (is_some ask.hook)) asks.items) }
+    ensures { OnOk result (rack.new.hooks.items
+        ≡ rack.old.hooks.items ++ flat_map (λ ask. option_to_list ask.hook) asks.items) }
 {
     for ask in asks {
         give_hook(ask.hook, rack)?;
@@ -82,7 +84,7 @@ fn give_asks<H: Hook>(asks: Vec<Ask<H>>, rack: &mut Rack<H>) -> Result<(), NoMem
 
 /// Puts a hook, if there is one, behind those of the rack.
 fn give_hook<H: Hook>(hook: Option<H>, rack: &mut Rack<H>) -> Result<(), NoMemory>
-    ensures { OnOk result (length rack.new.hooks.items ≡ length rack.old.hooks.items + held (is_some hook)) }
+    ensures { OnOk result (rack.new.hooks.items ≡ rack.old.hooks.items ++ option_to_list hook) }
 {
     if let Some(hook) = hook {
         rack.hooks.push(hook)?;

@@ -7,6 +7,7 @@ ghost use Rattle.hp_model.specs.NextEvent.{due_entry};
 ghost use Rattle.hp_model.specs.Processors.{present};
 ghost use Rattle.hp_model.specs.ScriptRun.{start, is_over, after_round, IsRun};
 ghost use Rattle.hp_model.specs.ScriptTurns.{after_turns};
+ghost use Rattle.hp_actors.specs.Hooks.{KeepsHooks};
 
 use crate::run::Run;
 use hp_hook::Hook;
@@ -22,6 +23,7 @@ impl<H: Hook> Run<H> {
             OnOk result (IsRun self.old.head self.old.actors seats self.new.progress.events) }
         ensures head { self.new.head ≡ self.old.head }
         ensures actors { self.new.actors ≡ self.old.actors }
+        ensures kept { KeepsHooks self.old self.new }
         ensures over { OnOk result (is_over self.new.actors self.new.progress ≡ true) }
     {
         self.sound();
@@ -36,10 +38,11 @@ impl<H: Hook> Run<H> {
     ///
     /// Takes memory as turns do; where that is wanting the run stands where it came: `NoMemory`.
     fn round(&mut self) -> Result<(), NoMemory>
-        ensures ok { OnOk result (self.new
-            ≡ record self.old { progress = after_round self.old.head self.old.actors self.old.progress }) }
+        ensures ok { OnOk result (self.new.progress
+            ≡ after_round self.old.head self.old.actors self.old.progress) }
         ensures head { self.new.head ≡ self.old.head }
         ensures actors { self.new.actors ≡ self.old.actors }
+        ensures kept { KeepsHooks self.old self.new }
     {
         self.serve_threads();
         let (first, last) = self.actors_seats();

@@ -5,6 +5,7 @@ ghost use Rattle.hp_model.specs.Processors.{present};
 ghost use Rattle.hp_model.specs.ScriptTurns.{turn};
 ghost use Rattle.hp_event.specs.declared.op.Op.{Op as AnOp};
 ghost use Rattle.hp_actors.specs.Asking.{IsReached};
+ghost use Rattle.hp_actors.specs.Hooks.{KeepsHooks, turned};
 ghost use Rattle.hp_actors.specs.Waiting.{MakesNoEvent, WaitsForThread};
 ghost use Rattle.hp_model.specs.Scripts.{IsScript};
 
@@ -16,9 +17,10 @@ use std::marker::Model;
 
 /// A run of a script: the machine, and the actors whose turns come.
 ///
-/// Contracts see the script's head, the operations of each actor, and how far the run has come
-/// (`Position`): the events so far, and how many operations of each actor are answered. The script is one that
-/// can be played, and turns of its seats made the run at any time.
+/// Contracts see the script's head, the operations of each actor, how far the run has come (`Position`): the
+/// events so far, and how many operations of each actor are answered; and what the hook of each operation has
+/// counted, where it has one. The script is one that can be played, and turns of its seats made the run at any
+/// time.
 #[derive(Drop)]
 pub struct Run<H: Hook> {
     pub(crate) board: Board<H>,
@@ -38,7 +40,7 @@ impl<H: Hook> Model for Run<H> {
 
     ghost Value = { Position };
 
-    ghost view = { λ r. position_of r.board r.actors.items };
+    ghost view = { λ r. position_of H.counts r.board r.actors.items };
 
     ghost invariant = { λ r. record {
       playing : IsPlaying r.board r.threads r.actors.items;
@@ -57,7 +59,8 @@ impl<H: Hook> Run<H> {
         let _ = &self.threads;
     }
 
-    /// One turn of a thread's seat: it makes the entry that is due from it, if one is. Takes no memory.
+    /// One turn of a thread's seat: it makes the entry that is due from it, if one is. The operations keep
+    /// their hooks. Takes no memory.
     pub(crate) fn serve(&mut self, seat: u32)
         requires { seat < length (present self.old.head) }
         ensures { self.new
@@ -72,12 +75,16 @@ impl<H: Hook> Run<H> {
     /// The seat may be any number: first come the threads of the present processors, in rising number, and
     /// after them the actors. What the seat waits for leaves the run as it was, which is no error.
     ///
+    /// Of all hooks only that of the actor's operation changes: a setup's goes with its begin, and comes back
+    /// where it faulted, as does that of a state that is removed, each with the plan of its subsystem and having
+    /// counted the calls of the journal.
+    ///
     /// Takes memory for a first event and for the begin of a walk; where that is wanting the run is as before:
     /// `NoMemory`. Turns are this project's own.
     pub fn turn(&mut self, seat: u32) -> Result<(), NoMemory>
-        ensures ok { OnOk result (self.new
-            ≡ record self.old { progress = turn self.old.head self.old.actors self.old.progress seat }) }
+        ensures ok { OnOk result (self.new ≡ turned self.old seat) }
         ensures err { OnErr result (self.new ≡ self.old) }
+        ensures kept { KeepsHooks self.old self.new }
     {
         if seat < self.threads {
             self.serve(seat);

@@ -30,6 +30,7 @@ impl<H: Hook> Run<H> {
               head = script.now.head;
               actors = script.now.actors;
               progress = start_of script.now.head script.now.actors;
+              hooks = run.hooks;
             }) }
         ensures rack { OnOk result (Takes rack.old.hooks.items rack.new.hooks.items
             (sum_by setups_in script.now.actors)) }

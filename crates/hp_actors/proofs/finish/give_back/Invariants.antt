@@ -1,7 +1,7 @@
-use Rattle.std.proofs.Common.{◌≡◌, ◌+◌, length}
-use Rattle.std.specs.List.{sum_by}
+use Rattle.std.proofs.Common.{◌≡◌, ◌++◌}
+use Rattle.std.specs.Prelude.{option_to_list}
+use Rattle.std.specs.List.{flat_map}
 use Rattle.std.specs.Vec.Iter.{into_iter_items}
-use Rattle.hp_actors.specs.Racks.{hooks_with}
 use Rattle.hp_actors.proofs.finish.give_back.Given as goal
 
 abbrev pub invariant-loop-actor : goal.invariant-loop-actor
@@ -10,6 +10,8 @@ invariant-loop-actor g l =
       can_next : (goal.iterator-loop-actor g).can_next l.actor-iterator;
       is_finite : (goal.iterator-loop-actor g).is_finite l.actor-iterator;
       all :
-          length l.rack.hooks.items + sum_by hooks_with (into_iter_items l.actor-iterator)
-          ≡ length l.fn.rack.hooks.items + sum_by hooks_with l.fn.actors.items;
+          l.rack.hooks.items
+          ++ flat_map (λ actor. flat_map (λ ask. option_to_list ask.hook) actor.asks.items) (into_iter_items l.actor-iterator)
+          ≡ l.fn.rack.hooks.items
+          ++ flat_map (λ actor. flat_map (λ ask. option_to_list ask.hook) actor.asks.items) l.fn.actors.items;
     }

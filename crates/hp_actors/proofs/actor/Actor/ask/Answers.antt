@@ -1,5 +1,5 @@
 -- The machine's turn is the actor's.
-use Rattle.std.proofs.Common.{◌≡◌, ℕ, ◌+◌, refl, ap, sym, ◌∙◌, cond, arith, length, ◌&&◌, not, Some}
+use Rattle.std.proofs.Common.{◌≡◌, ℕ, ◌+◌, refl, ap, sym, ◌∙◌, cond, arith, length, map, set, ◌&&◌, not, Some}
 use Rattle.std.specs.Prelude.{slice_get}
 use Rattle.std.proofs.lemmas.Bool.{eq-eqb}
 use Rattle.std.proofs.lemmas.Option.{slice_get_read}
@@ -8,6 +8,10 @@ use Rattle.hp_board.specs.Turns.{goes_on}
 use Rattle.hp_board.proofs.Homes.{idle_home, turn_home}
 use Rattle.hp_ledger.specs.TableChanges.{is_setup}
 use Rattle.hp_model.specs.Seats.{is_busy}
+use Rattle.hp_actors.specs.Hooks.{hooks_after}
+use Rattle.hp_actors.specs.Positions.{hook_of, hooks_of}
+use Rattle.hp_actors.specs.Turned.{asked}
+use Rattle.hp_actors.proofs.HooksTurned.{own_turned}
 use Rattle.hp_actors.proofs.Asked.{asked_turned, not_answered, turn_of}
 use Rattle.hp_actors.proofs.Playing.{ActorTurned}
 use Rattle.hp_actors.proofs.actor.Actor.ask.Given as given
@@ -53,6 +57,16 @@ turn-requires-clause-hook g c =
     ∙ ap (λ b. is_setup c.index_mut.result.now.op && not (b && is_busy c.args.seat c.args.board.now.events))
     (eq-eqb c.args.self.now.answered c.args.self.now.answered refl)
 
+-- what the hooks of its operations are then
+own : (g : given.Over) (c : In_ok-turn g) → slice_get c.args.self.now.asks.items c.args.self.now.answered ≡ Some c.index_mut.result.now →
+    map (hook_of g.H.Hook.counts) (set c.args.self.now.asks.items c.args.self.now.answered c.turn.new.ask)
+    ≡ hooks_after c.args.board.now.head c.args.board.now.events c.args.seat c.args.self.now.answered (asked c.args.self.now)
+    (hooks_of g.H.Hook.counts c.args.self.now)
+own g c at =
+    own_turned g.H.Hook.counts c.args.seat c.args.board.now c.args.self.now
+    (set c.args.self.now.asks.items c.args.self.now.answered c.turn.new.ask) c.index_mut.result.now c.turn.new.ask c.sound.ensures.table at refl
+    c.in_ok-turn.ensures.has_hook c.in_ok-turn.ensures.same_hook c.in_ok-turn.ensures.handed
+
 -- an operation that the turn answers is one more
 one_more : (g : given.Over) (c : In-Answered g) →
     c.args.self.now.answered + 1 ≡ c.args.self.now.answered + (cond (not (goes_on c.in_ok-turn.turn)) 1 0)
@@ -77,6 +91,10 @@ pub returns-in-Answered-clause-hooks : goal.returns-in-Answered-clause-hooks
 returns-in-Answered-clause-hooks g c =
     let at = goal.at.returns-in-Answered-clause-hooks g c in
     (turned g at.In_ok-turn (first_ask g at.After-index_mut) (c.args.self.now.answered + 1) (one_more g at.In-Answered)).hooks
+
+pub returns-in-Answered-clause-own_hooks : goal.returns-in-Answered-clause-own_hooks
+returns-in-Answered-clause-own_hooks g c =
+    let at = goal.at.returns-in-Answered-clause-own_hooks g c in own g at.In_ok-turn (first_ask g at.After-index_mut)
 
 pub returns-in-Answered-clause-home : goal.returns-in-Answered-clause-home
 returns-in-Answered-clause-home g c =
@@ -105,6 +123,8 @@ returns-in-Made g c =
       answered = t.answered_is;
       ops = t.ops_are;
       hooks = t.hooks;
+      own_hooks = own g here.In_ok-turn at;
+      same_hooks = tt;
       kept = t.kept;
       waits = refl;
       err = tt;

@@ -2,8 +2,8 @@
 use Rattle.std.proofs.Common.{◌≡◌, ℕ, ◌+◌, ◌-◌, ◌∷◌, ap, sym, subst, ◌∙◌, arith}
 use Rattle.hp_model.specs.Draws.{draws, state_after}
 use Rattle.hp_model.specs.ScriptTurns.{after_turns}
-use Rattle.hp_actors.proofs.Knowing.{passed}
-use Rattle.hp_actors.proofs.Turning.{turn_left, draws_left, no_draws, all_made, stands_at, some_present}
+use Rattle.hp_actors.proofs.HooksTurned.{keeps_on}
+use Rattle.hp_actors.proofs.Turning.{turn_left, draws_left, no_draws, all_made, some_present}
 use Rattle.hp_actors.proofs.run.Run.play_drawn.Goals as goal
 
 pub draw-seat-requires : goal.draw-seat-requires
@@ -13,7 +13,7 @@ draw-seat-requires g c =
 pub loop-preserved-then-still_waits : goal.loop-preserved-then-still_waits
 loop-preserved-then-still_waits g c =
     let i = c.loop.invariant in
-    let still = passed c.loop.self c.draw-seat.result (c.still_waits.ensures c.if-still_waits.true) in
+    let still = sym (c.still_waits.ensures c.if-still_waits.true) in
     let m : ℕ = c.actors_seats-seats.result.1 in
     let rest = draws m c.draw-seat.new.self.state (c.args.turns - (c.loop.counter + 1)) in
     let next : draws m c.loop.draws.state (c.args.turns - c.loop.counter) ≡ c.draw-seat.result ∷ rest =
@@ -29,6 +29,7 @@ loop-preserved-then-still_waits g c =
           (after_turns c.args.self.now.head c.args.self.now.actors c.args.self.now.progress (draws m c.args.seed c.args.turns))
           i.head i.actors
           (ap (after_turns c.args.self.now.head c.args.self.now.actors c.loop.self.progress) (sym next) ∙ i.left) still;
+      kept = i.kept;
     }
 
 pub loop-preserved : goal.loop-preserved
@@ -49,7 +50,8 @@ loop-preserved g c =
           turn_left c.args.self.now c.loop.self c.turn.new.self c.draw-seat.result rest
           (after_turns c.args.self.now.head c.args.self.now.actors c.args.self.now.progress (draws m c.args.seed c.args.turns))
           i.head i.actors
-          (ap (after_turns c.args.self.now.head c.args.self.now.actors c.loop.self.progress) (sym next) ∙ i.left) e;
+          (ap (after_turns c.args.self.now.head c.args.self.now.actors c.loop.self.progress) (sym next) ∙ i.left) (ap (λ p. p.progress) e);
+      kept = keeps_on c.args.self.now c.loop.self c.turn.new.self i.kept c.turn.ensures.kept;
     }
 
 pub returns-clause-ok : goal.returns-clause-ok
@@ -57,13 +59,8 @@ returns-clause-ok g c =
     let i = c.loop.invariant in
     let m : ℕ = c.actors_seats-seats.result.1 in
     subst (λ (k : ℕ).
-    c.loop.self
-    ≡ record {
-      head = c.args.self.now.head;
-      actors = c.args.self.now.actors;
-      progress = after_turns c.args.self.now.head c.args.self.now.actors c.args.self.now.progress (draws k c.args.seed c.args.turns);
-    }) i.seats
-    (stands_at c.args.self.now c.loop.self (draws m c.args.seed c.args.turns) i.head i.actors
+    c.loop.self.progress
+    ≡ after_turns c.args.self.now.head c.args.self.now.actors c.args.self.now.progress (draws k c.args.seed c.args.turns)) i.seats
     (all_made c.args.self.now.head c.args.self.now.actors c.loop.self.progress
     (after_turns c.args.self.now.head c.args.self.now.actors c.args.self.now.progress (draws m c.args.seed c.args.turns))
-    (draws m c.loop.draws.state (c.args.turns - c.loop.counter)) (no_draws m c.loop.draws.state c.args.turns c.loop.counter c.loop-test.false) i.left))
+    (draws m c.loop.draws.state (c.args.turns - c.loop.counter)) (no_draws m c.loop.draws.state c.args.turns c.loop.counter c.loop-test.false) i.left)

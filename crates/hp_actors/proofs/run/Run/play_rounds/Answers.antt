@@ -1,5 +1,6 @@
 -- Rounds until all is answered make the run.
 use Rattle.std.proofs.Common.{sym, ◌∙◌}
+use Rattle.hp_actors.proofs.HooksTurned.{keeps_on}
 use Rattle.hp_actors.proofs.RoundLaws.{IsRound, round_smaller, more_rounds}
 use Rattle.hp_actors.proofs.run.Run.play_rounds.Goals as goal
 
@@ -12,6 +13,8 @@ loop-self-smaller g c =
       reached = i.reached;
       reached_after = c.sound-in-loop-self.ensures.reached;
       goes = sym c.is_over.ensures ∙ c.loop-self-test.true;
+      head_is = c.in_ok-round.ensures.head;
+      actors_are = c.in_ok-round.ensures.actors;
       after_is = c.in_ok-round.ensures.ok;
     } in
     round_smaller c.loop-self.self c.round.new.self round
@@ -25,6 +28,8 @@ loop-self-preserved g c =
       reached = i.reached;
       reached_after = c.sound-in-loop-self.ensures.reached;
       goes = sym c.is_over.ensures ∙ c.loop-self-test.true;
+      head_is = c.in_ok-round.ensures.head;
+      actors_are = c.in_ok-round.ensures.actors;
       after_is = c.in_ok-round.ensures.ok;
     } in
     record {
@@ -33,4 +38,9 @@ loop-self-preserved g c =
       script = c.sound-in-loop-self.ensures.script;
       reached = c.sound-in-loop-self.ensures.reached;
       rounds = λ seats is. more_rounds c.args.self.now c.loop-self.self c.round.new.self i.head i.actors round seats (i.rounds seats is);
+      kept = keeps_on c.args.self.now c.loop-self.self c.round.new.self i.kept c.round.ensures.kept;
     }
+
+pub returns-in_err-round-clause-kept : goal.returns-in_err-round-clause-kept
+returns-in_err-round-clause-kept g c =
+    keeps_on c.args.self.now c.loop-self.self c.round.new.self c.loop-self.invariant.kept c.round.ensures.kept

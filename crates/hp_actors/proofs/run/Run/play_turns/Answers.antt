@@ -1,15 +1,15 @@
 -- The turns that are left make the rest of them all.
 use Rattle.std.proofs.Common.{drop, ap, sym, refl, ◌∙◌, ◌+◌, slice_index_or}
 use Rattle.hp_model.specs.ScriptTurns.{after_turns}
-use Rattle.hp_actors.proofs.Knowing.{passed}
-use Rattle.hp_actors.proofs.Turning.{turn_left, seats_left, none_left, all_made, stands_at}
+use Rattle.hp_actors.proofs.HooksTurned.{keeps_on}
+use Rattle.hp_actors.proofs.Turning.{turn_left, seats_left, none_left, all_made}
 use Rattle.hp_actors.proofs.run.Run.play_turns.Goals as goal
 
 pub loop-seat-preserved-then-still_waits : goal.loop-seat-preserved-then-still_waits
 loop-seat-preserved-then-still_waits g c =
     let i = c.loop-seat.invariant in
     let seat = slice_index_or c.args.seats.now c.loop-seat.seat-index 0 in
-    let still = passed c.loop-seat.self seat (c.still_waits.ensures c.if-still_waits.true) in
+    let still = sym (c.still_waits.ensures c.if-still_waits.true) in
     let whole = after_turns c.args.self.now.head c.args.self.now.actors c.args.self.now.progress c.args.seats.now in
     record {
       head = i.head;
@@ -20,6 +20,7 @@ loop-seat-preserved-then-still_waits g c =
           (ap (after_turns c.args.self.now.head c.args.self.now.actors c.loop-seat.self.progress)
           (sym (seats_left c.args.seats.now c.loop-seat.seat-index seat c.loop-seat-test.true refl))
           ∙ i.left) still;
+      kept = i.kept;
     }
 
 pub loop-seat-preserved : goal.loop-seat-preserved
@@ -35,13 +36,13 @@ loop-seat-preserved g c =
           (drop (c.loop-seat.seat-index + 1) c.args.seats.now) whole i.head i.actors
           (ap (after_turns c.args.self.now.head c.args.self.now.actors c.loop-seat.self.progress)
           (sym (seats_left c.args.seats.now c.loop-seat.seat-index (slice_index_or c.args.seats.now c.loop-seat.seat-index 0) c.loop-seat-test.true refl))
-          ∙ i.left) e;
+          ∙ i.left) (ap (λ p. p.progress) e);
+      kept = keeps_on c.args.self.now c.loop-seat.self c.turn.new.self i.kept c.turn.ensures.kept;
     }
 
 pub returns-clause-ok : goal.returns-clause-ok
 returns-clause-ok g c =
     let i = c.loop-seat.invariant in
-    stands_at c.args.self.now c.loop-seat.self c.args.seats.now i.head i.actors
-    (all_made c.args.self.now.head c.args.self.now.actors c.loop-seat.self.progress
+    all_made c.args.self.now.head c.args.self.now.actors c.loop-seat.self.progress
     (after_turns c.args.self.now.head c.args.self.now.actors c.args.self.now.progress c.args.seats.now)
-    (drop c.loop-seat.seat-index c.args.seats.now) (none_left c.args.seats.now c.loop-seat.seat-index c.loop-seat-test.false) i.left)
+    (drop c.loop-seat.seat-index c.args.seats.now) (none_left c.args.seats.now c.loop-seat.seat-index c.loop-seat-test.false) i.left

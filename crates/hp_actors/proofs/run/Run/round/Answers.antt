@@ -1,17 +1,22 @@
 -- Each seat has its turn.
-use Rattle.std.proofs.Common.{ap, ◌∙◌}
-use Rattle.hp_actors.proofs.Knowing.{passed}
-use Rattle.hp_actors.proofs.RoundLaws.{seat_more}
+use Rattle.std.proofs.Common.{ap, sym, length, arith, ◌∙◌}
+use Rattle.hp_model.specs.Lists.{numbers}
+use Rattle.hp_model.specs.Processors.{present}
+use Rattle.hp_model.specs.ScriptTurns.{after_turns}
+use Rattle.hp_actors.specs.Positions.{Position}
+use Rattle.hp_actors.proofs.HooksTurned.{keeps_on, keeps_same}
+use Rattle.hp_actors.proofs.RoundLaws.{seat_more, threads_answer}
 use Rattle.hp_actors.proofs.run.Run.round.Goals as goal
 
 pub loop-seat-preserved-then-still_waits : goal.loop-seat-preserved-then-still_waits
 loop-seat-preserved-then-still_waits g c =
     let i = c.loop-seat.invariant in
-    let still = passed c.loop-seat.self c.loop-seat.seat (c.still_waits.ensures c.if-still_waits.true) in
+    let still = sym (c.still_waits.ensures c.if-still_waits.true) in
     record {
       head = i.head;
       actors = i.actors;
       turned = seat_more c.args.self.now c.loop-seat.self c.loop-seat.self c.loop-seat.seat i.head i.actors i.turned still;
+      kept = i.kept;
     }
 
 pub loop-seat-preserved : goal.loop-seat-preserved
@@ -21,5 +26,23 @@ loop-seat-preserved g c =
     record {
       head = ap (λ p. p.head) e ∙ i.head;
       actors = ap (λ p. p.actors) e ∙ i.actors;
-      turned = seat_more c.args.self.now c.loop-seat.self c.turn.new.self c.loop-seat.seat i.head i.actors i.turned e;
+      turned = seat_more c.args.self.now c.loop-seat.self c.turn.new.self c.loop-seat.seat i.head i.actors i.turned (ap (λ p. p.progress) e);
+      kept = keeps_on c.args.self.now c.loop-seat.self c.turn.new.self i.kept c.turn.ensures.kept;
+    }
+
+pub loop-seat-init : goal.loop-seat-init
+loop-seat-init g c =
+    let e = c.serve_threads.ensures in
+    record {
+      head = ap (λ p. p.head) e;
+      actors = ap (λ p. p.actors) e;
+      turned =
+          ap (λ p. p.progress) e
+          ∙ ap (λ n. after_turns c.args.self.now.head c.args.self.now.actors c.args.self.now.progress (numbers n))
+          (sym (c.actors_seats-first.ensures.first ∙ ap (λ (p : Position). length (present p.head)) e));
+      kept =
+          keeps_same c.args.self.now c.serve_threads.new.self 
+          (ap (λ (p : Position). p.progress.answers) e
+          ∙ threads_answer c.args.self.now.head c.args.self.now.actors c.args.self.now.progress (length (present c.args.self.now.head))
+          (omega arith)) (ap (λ p. p.hooks) e);
     }

@@ -4,7 +4,7 @@ use Rattle.hp_actors.proofs.run.Run.serve_threads.Goals as goal
 
 pub loop-seat-init : goal.loop-seat-init
 loop-seat-init g c =
-    let s = first_served c.args.self.now in record { head = s.head; actors = s.actors; few = s.few; turned = s.turned }
+    let s = first_served c.args.self.now in record { head = s.head; actors = s.actors; few = s.few; turned = s.turned; hooks = s.hooks }
 
 pub loop-seat-preserved : goal.loop-seat-preserved
 loop-seat-preserved g c =
@@ -12,12 +12,12 @@ loop-seat-preserved g c =
     let e = c.in-Some.ensures in
     let s =
     more_served c.args.self.now c.loop-seat.self c.serve.new.self c.loop-seat.next c.in-Some.seat
-    (record { head = i.head; actors = i.actors; few = i.few; turned = i.turned }) e.seat.0 e.seat.1 e.idle c.serve.ensures in
-    record { head = s.head; actors = s.actors; few = s.few; turned = s.turned }
+    (record { head = i.head; actors = i.actors; few = i.few; turned = i.turned; hooks = i.hooks }) e.seat.0 e.seat.1 e.idle c.serve.ensures in
+    record { head = s.head; actors = s.actors; few = s.few; turned = s.turned; hooks = s.hooks }
 
 pub returns : goal.returns
 returns g c =
     let i = c.loop-seat.invariant in
     let e = c.in_default.ensures in
     all_served c.args.self.now c.loop-seat.self c.loop-seat.next
-    (record { head = i.head; actors = i.actors; few = i.few; turned = i.turned }) e.idle
+    (record { head = i.head; actors = i.actors; few = i.few; turned = i.turned; hooks = i.hooks }) e.idle

@@ -11,6 +11,7 @@ invariant-loop-seat g l =
       actors : l.self.actors ≡ l.fn.self.actors;
       few : l.next ≤ length (present l.fn.self.head);
       turned : l.self.progress ≡ after_turns l.fn.self.head l.fn.self.actors l.fn.self.progress (numbers l.next);
+      hooks : l.self.hooks ≡ l.fn.self.hooks;
     }
 
 abbrev pub decreases-loop-seat : goal.decreases-loop-seat

@@ -46,4 +46,4 @@ returns-clause-started g c =
       fresh = c.in_ok-actors.ensures.fresh;
       none_yet = c.in_ok-board.ensures.none;
     } in
-    opened_position c.in_ok-board.board c.present_count-threads.result c.in_ok-actors.actors.items c.args.script.now.head c.args.script.now.actors o
+    opened_position g.H.Hook.counts c.in_ok-board.board c.present_count-threads.result c.in_ok-actors.actors.items c.args.script.now.head c.args.script.now.actors o

@@ -1,23 +1,30 @@
 -- A turn of the run is the model's.
 use Rattle.std.proofs.Common.{◌≡◌, ℕ, ◌<◌, ◌≤◌, ◌+◌, ◌-◌, OnOk, OnErr, map, set, refl, ap, sym, subst, arith, length, Some}
 use Rattle.std.specs.Prelude.{slice_get}
+use Rattle.std.proofs.lemmas.List.{length-map}
 use Rattle.std.proofs.lemmas.Option.{slice_get_read}
+use Rattle.hp_actors.proofs.HooksTurned.{keeps_same, none_stands, turn_keeps, turn_turned}
 use Rattle.hp_actors.proofs.Knowing.{turn_knows}
 use Rattle.hp_actors.proofs.Playing.{lawful_of, allowed_of, turn_playing_at, turn_position_at, failed_position, no_seat}
 use Rattle.hp_model.specs.Pending.{IsAllowed}
-use Rattle.hp_model.specs.ScriptTurns.{RunState, turn}
+use Rattle.hp_model.specs.Processors.{present}
 use Rattle.hp_actors.specs.Asking.{HasHooks}
+use Rattle.hp_actors.specs.Hooks.{KeepsHooks, turned}
 use Rattle.hp_actors.specs.Positions.{Position, position_of, ops_of}
 use Rattle.hp_actors.proofs.run.Run.turn.Goals as goal
 
 pub returns-then-place-len-clause-ok : goal.returns-then-place-len-clause-ok
 returns-then-place-len-clause-ok g c =
     let b = c.self.inside.board in
-    let past : c.self.inside.threads + length c.self.inside.actors.items ≤ c.args.seat = omega arith in
-    subst (λ (z : Position). z ≡ record { head = z.head; actors = z.actors; progress = turn z.head z.actors z.progress c.args.seat })
-    c.self.view_is
-    (ap (λ (q : RunState). record { head = b.head; actors = map ops_of c.self.inside.actors.items; progress = q })
-    (sym (no_seat b c.self.inside.threads c.self.inside.actors.items c.args.seat c.self.invariant.playing past)))
+    let threads : ℕ = c.self.inside.threads in
+    let place : ℕ = c.args.seat - threads in
+    let actors = c.self.inside.actors.items in
+    let past : threads + length actors ≤ c.args.seat = omega arith in
+    let here : c.args.seat ≡ length (present b.head) + place = omega (arith, past, c.self.invariant.playing.threads_are) in
+    let beyond : length (map ops_of actors) ≤ place = omega (arith, past, length-map actors ops_of) in
+    subst (λ (z : Position). z ≡ turned z c.args.seat) c.self.view_is
+    (none_stands (position_of g.H.Hook.counts b actors) c.args.seat place here beyond
+    (no_seat b threads actors c.args.seat c.self.invariant.playing past))
 
 pub turn-requires-clause-allowed : goal.turn-requires-clause-allowed
 turn-requires-clause-allowed g c =
@@ -78,14 +85,30 @@ returns-clause-ok g c =
     let at : slice_get actors place ≡ Some c.index_mut.result.now =
     slice_get_read actors (length actors) place c.index_mut.result.now refl below c.index_mut.ensures.value in
     let b = c.self.inside.board in
+    let seated : c.args.seat ≡ length (present b.head) + place = omega (arith, here, c.self.invariant.playing.threads_are) in
     subst (λ (z : Position).
-    OnOk c.turn.result
-    (position_of c.turn.new.board (set actors place c.turn.new.self)
-    ≡ record { head = z.head; actors = z.actors; progress = turn z.head z.actors z.progress c.args.seat }))
-    c.self.view_is
-    (turn_position_at c.turn.result b c.turn.new.board actors threads place c.args.seat c.index_mut.result.now
+    OnOk c.turn.result (position_of g.H.Hook.counts c.turn.new.board (set actors place c.turn.new.self) ≡ turned z c.args.seat)) c.self.view_is
+    (turn_turned c.turn.result g.H.Hook.counts b c.turn.new.board actors c.args.seat place c.index_mut.result.now c.turn.new.self seated at
+    c.turn.ensures.own_hooks
+    (turn_position_at c.turn.result g.H.Hook.counts b c.turn.new.board actors threads place c.args.seat c.index_mut.result.now
     c.turn.new.self here c.self.invariant.playing at c.turn.ensures.head c.turn.ensures.events c.turn.ensures.answered c.turn.ensures.ops
-    c.turn.ensures.hooks c.turn.ensures.kept)
+    c.turn.ensures.hooks c.turn.ensures.kept))
+
+pub returns-clause-kept : goal.returns-clause-kept
+returns-clause-kept g c =
+    let threads : ℕ = c.self.inside.threads in
+    let place : ℕ = c.args.seat - threads in
+    let actors = c.self.inside.actors.items in
+    let below : place < length actors = omega arith in
+    let at : slice_get actors place ≡ Some c.index_mut.result.now =
+    slice_get_read actors (length actors) place c.index_mut.result.now refl below c.index_mut.ensures.value in
+    let b = c.self.inside.board in
+    subst (λ (z : Position).
+    KeepsHooks z (position_of g.H.Hook.counts c.turn.new.board (set actors place c.turn.new.self))) c.self.view_is
+    (turn_keeps c.turn.result g.H.Hook.counts b c.turn.new.board actors c.args.seat place c.index_mut.result.now c.turn.new.self at
+    c.turn.ensures.answered c.turn.ensures.own_hooks
+    (failed_position c.turn.result g.H.Hook.counts b c.turn.new.board actors place c.index_mut.result.now c.turn.new.self at
+    c.turn.ensures.ops c.turn.ensures.err c.turn.ensures.same_hooks))
 
 pub returns-clause-err : goal.returns-clause-err
 returns-clause-err g c =
@@ -96,6 +119,6 @@ returns-clause-err g c =
     let here : threads + place ≡ c.args.seat = omega arith in
     let at : slice_get actors place ≡ Some c.index_mut.result.now =
     slice_get_read actors (length actors) place c.index_mut.result.now refl below c.index_mut.ensures.value in
-    subst (λ (z : Position). OnErr c.turn.result (position_of c.turn.new.board (set actors place c.turn.new.self) ≡ z)) c.self.view_is
-    (failed_position c.turn.result c.self.inside.board c.turn.new.board actors place c.index_mut.result.now c.turn.new.self at
-    c.turn.ensures.ops c.turn.ensures.err)
+    subst (λ (z : Position). OnErr c.turn.result (position_of g.H.Hook.counts c.turn.new.board (set actors place c.turn.new.self) ≡ z)) c.self.view_is
+    (failed_position c.turn.result g.H.Hook.counts c.self.inside.board c.turn.new.board actors place c.index_mut.result.now
+    c.turn.new.self at c.turn.ensures.ops c.turn.ensures.err c.turn.ensures.same_hooks)
