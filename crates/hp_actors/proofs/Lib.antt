@@ -14,3 +14,4 @@ mod Knowing
 mod ThreadsTurn
 mod HooksTurned
 mod Giving
+mod Loading

@@ -1,6 +1,6 @@
--- The hooks that the operations of a run have: what a turn makes of them, which stay, and which come back. After the callbacks of
+-- The hooks that the operations of a run have: where they are from, what a turn makes of them, and which stay. After the callbacks of
 -- `struct cpuhp_step` of `kernel/cpu.c`; that an operation has its hook is this project's own.
-use Rattle.std.specs.Prelude.{◌≡◌, ℕ, ◌-◌, ◌<◌, ◌≤◌, nat_lt, if◌then◌else◌, Option, Some, None, option_to_list, List, [], length, get_or, set}
+use Rattle.std.specs.Prelude.{◌≡◌, ℕ, ◌-◌, ◌<◌, ◌≤◌, nat_lt, if◌then◌else◌, Option, Some, None, option_to_list, List, [], ◌++◌, length, reverse, get_or, set}
 use Rattle.std.specs.List.{flat_map}
 use Rattle.hp_event.specs.declared.event.Event.{Event}
 use Rattle.hp_event.specs.declared.head.Head.{Head}
@@ -19,6 +19,14 @@ use Rattle.hp_actors.specs.Turned.{event_for}
 -- the hook of an operation, where it has one
 abbrev pub hook_at : (hooks : List (List (Option Counts))) → (actor place : ℕ) → Option Counts
 hook_at hooks i j = get_or (get_or hooks i []) j None
+
+-- those that operations have, by actor and then by operation
+abbrev pub hooks_there : List (List (Option Counts)) → List Counts
+hooks_there hooks = flat_map (flat_map option_to_list) hooks
+
+-- each in turn was the last of a rack's
+abbrev pub AreFromRack : (old new hooks : List Counts) → Type 0
+AreFromRack old new hooks = old ≡ new ++ reverse hooks
 
 -- ---- what a turn makes of them
 
@@ -76,9 +84,3 @@ pub record KeepsHooks (old new : Position) : Type 0 where
   pub waiting : (i j : ℕ) → answers_at new i < j → hook_at new.hooks i j ≡ hook_at old.hooks i j
   pub in_turn :
       (i : ℕ) (had : Counts) → hook_at new.hooks i (answers_at new i) ≡ Some had → hook_at old.hooks i (answers_at new i) ≡ Some had
-
--- ---- which come back
-
--- those that operations have, by actor and then by operation
-abbrev pub hooks_there : List (List (Option Counts)) → List Counts
-hooks_there hooks = flat_map (flat_map option_to_list) hooks

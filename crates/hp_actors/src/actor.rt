@@ -1,6 +1,7 @@
 //! An actor: its operations, each with what the machine is asked for.
 
-ghost use Rattle.std.specs.Prelude.{◌≡◌, ◌+◌, ◌++◌, ◌∷◌, [], ◌<◌, ◌≤◌, ◌↔◌, if◌then◌else◌, is_some, option_to_list, IsTrue, None, Some, List, false, IfOk, IfSome, IfNone, OnOk, OnErr, length, slice_get, true};
+ghost use Rattle.std.specs.Prelude.{◌≡◌, ◌+◌, ◌++◌, ◌∷◌, [], ◌<◌, ◌≤◌, ◌↔◌, if◌then◌else◌, is_some, option_to_list, IsTrue, None, Some, List, false, IfOk, IfSome, IfNone, OnOk, OnErr, length, map, option_to_list, slice_get, true};
+ghost use Rattle.std.specs.List.{flat_map};
 ghost use Rattle.hp_ledger.specs.TableChanges.{is_setup};
 ghost use Rattle.hp_script.specs.Playable.{setups_in};
 ghost use Rattle.hp_actors.specs.Racks.{AreLoaded, Takes, hooks_with};
@@ -10,7 +11,7 @@ ghost use Rattle.hp_table.specs.Step.{AllHome};
 ghost use Rattle.hp_model.specs.Lawful.{IsLawful};
 ghost use Rattle.hp_model.specs.Pending.{IsAllowed};
 ghost use Rattle.hp_actors.specs.Asking.{HasHooks};
-ghost use Rattle.hp_actors.specs.Hooks.{hooks_after};
+ghost use Rattle.hp_actors.specs.Hooks.{AreFromRack, hooks_after};
 ghost use Rattle.hp_actors.specs.Positions.{ops_of, hooks_of};
 ghost use Rattle.hp_actors.specs.Turned.{asked, event_for, answers_for};
 ghost use Rattle.hp_actors.specs.Waiting.{EndsNothing, KnowsWait, is_end, noted};
@@ -63,6 +64,8 @@ impl<H: Hook> Actor<H> {
         ensures waits { IfOk result (λ actor. actor.waits ≡ Unknown) }
         ensures loaded { IfOk result (λ actor. AreLoaded actor.asks.items) }
         ensures rack { OnOk result (Takes rack.old.hooks.items rack.new.hooks.items (setups_in ops.now)) }
+        ensures hooks { IfOk result (λ actor. AreFromRack (map H.counts rack.old.hooks.items)
+            (map H.counts rack.new.hooks.items) (flat_map option_to_list (hooks_of H.counts actor))) }
     {
         let mut asks = Vec::new(alloc);
         for op in ops {

@@ -4,7 +4,8 @@ ghost use Rattle.std.specs.Prelude.{◌≡◌, ◌≤◌, IfOk, OnOk, map, lengt
 ghost use Rattle.hp_model.specs.Scripts.{IsScript};
 ghost use Rattle.hp_model.specs.ScriptRun.{start as start_of};
 ghost use Rattle.hp_script.specs.Playable.{setups_in};
-ghost use Rattle.hp_actors.specs.Positions.{ops_of};
+ghost use Rattle.hp_actors.specs.Hooks.{AreFromRack, hooks_there};
+ghost use Rattle.hp_actors.specs.Positions.{hooks_of, ops_of};
 ghost use Rattle.hp_actors.specs.Racks.{IsFresh, Takes};
 ghost use Rattle.hp_actors.specs.declared.actor.Waits.TheVariants.{Unknown};
 
@@ -34,6 +35,8 @@ impl<H: Hook> Run<H> {
             }) }
         ensures rack { OnOk result (Takes rack.old.hooks.items rack.new.hooks.items
             (sum_by setups_in script.now.actors)) }
+        ensures hooks { IfOk result (λ run. AreFromRack (map H.counts rack.old.hooks.items)
+            (map H.counts rack.new.hooks.items) (hooks_there run.hooks)) }
     {
         let actors = actors_of(alloc, script, rack)?;
         let board = seated_board(alloc, script.head(), script.actors())?;
@@ -59,6 +62,8 @@ fn actors_of<H: Hook>(
     ensures unmarked { IfOk result (λ actors. All (λ actor. actor.waits ≡ Unknown) actors.items) }
     ensures rack { OnOk result (Takes rack.old.hooks.items rack.new.hooks.items
         (sum_by setups_in script.now.actors)) }
+    ensures hooks { IfOk result (λ actors. AreFromRack (map H.counts rack.old.hooks.items)
+        (map H.counts rack.new.hooks.items) (hooks_there (map (hooks_of H.counts) actors.items))) }
 {
     let mut actors = Vec::new(alloc);
     for number in 0..script.actors() {

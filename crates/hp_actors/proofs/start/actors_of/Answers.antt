@@ -8,6 +8,7 @@ use Rattle.hp_actors.specs.declared.actor.Waits.TheVariants.{Unknown}
 use Rattle.hp_actors.specs.Racks.{AreLoaded, IsFresh}
 use Rattle.hp_script.specs.Playable.{setups_in}
 use Rattle.std.specs.List.{sum_by}
+use Rattle.hp_actors.proofs.Loading.{actors_taken}
 use Rattle.hp_actors.proofs.Taking.{actors_left, actors_met, take_next, takes_both, takes_length}
 use Rattle.hp_actors.proofs.start.actors_of.Goals as goal
 
@@ -44,4 +45,7 @@ loop-number-preserved g c =
           (sum_by setups_in (take c.loop-number.number c.args.script.now.actors)) (setups_in c.ops.result.now)
           (sum_by setups_in (take (c.loop-number.number + 1) c.args.script.now.actors)) i.taken e.rack
           (actors_met c.args.script.now.actors c.loop-number.number c.ops.result.now c.ops.ensures);
+      hooks =
+          actors_taken g.H.Hook.counts c.args.rack.now.hooks.items c.loop-number.rack.hooks.items c.new.new.rack.hooks.items
+          c.loop-number.actors.items c.push.new.self.items c.in_ok-new.field-0 i.hooks e.hooks pushed;
     }

@@ -8,6 +8,7 @@ use Rattle.hp_ledger.specs.TableChanges.{is_setup}
 use Rattle.hp_script.specs.Playable.{setups_in}
 use Rattle.hp_actors.specs.Positions.{op_of}
 use Rattle.hp_actors.specs.Racks.{AreLoaded}
+use Rattle.hp_actors.proofs.Loading.{asks_taken}
 use Rattle.hp_actors.proofs.Taking.{setups_left, setups_met, take_at, rack_left, takes_more, counted_one, counted_same}
 use Rattle.hp_actors.proofs.actor.Actor.new.Goals as goal
 
@@ -41,4 +42,7 @@ loop-op-preserved g c =
           c.hook_for-hook.result (setups_in (take c.loop-op.op-index c.args.ops.now))
           (setups_in (take (c.loop-op.op-index + 1) c.args.ops.now)) i.taken e.last e.none
           (setups_met c.args.ops.now c.loop-op.op-index (Up 0) c.loop-op-test.true ∙ ap (λ n. setups_in (take c.loop-op.op-index c.args.ops.now) + n) (sym count));
+      hooks =
+          asks_taken g.H.Hook.counts c.args.rack.now.hooks.items c.loop-op.rack.hooks.items c.hook_for-hook.new.rack.hooks.items
+          c.loop-op.asks.items c.push.new.self.items (record { op = op; hook = c.hook_for-hook.result }) i.hooks e.last e.none pushed;
     }
