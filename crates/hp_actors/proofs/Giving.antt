@@ -1,5 +1,5 @@
 -- The hooks that operations have, as they go back to the rack.
-use Rattle.std.proofs.Common.{◌≡◌, ℕ, ◌+◌, is_some, Option, Some, None, List, [], ◌∷◌, ◌++◌, length, map, refl, ap, sym, subst, ◌∙◌, arith}
+use Rattle.std.proofs.Common.{◌≡◌, ◌+◌, is_some, Option, Some, None, List, [], ◌∷◌, ◌++◌, length, map, refl, ap, sym, ◌∙◌}
 use Rattle.std.specs.Prelude.{option_map, option_to_list}
 use Rattle.std.specs.List.{flat_map, sum_by}
 use Rattle.std.proofs.lemmas.List.{map-append, length-append, append_assoc}

@@ -22,7 +22,7 @@ use Rattle.hp_model.specs.Processors.{present}
 use Rattle.hp_model.specs.Registrations.{Registration, registration}
 use Rattle.hp_model.specs.ScriptTurns.{turn, unanswered}
 use Rattle.hp_model.specs.Subsystems.{plan_of}
-use Rattle.hp_table.specs.Step.{Step, step_at, HasCounted}
+use Rattle.hp_table.specs.Step.{Step, HasCounted}
 use Rattle.hp_actors.specs.declared.actor.Actor.{Actor}
 use Rattle.hp_actors.specs.Hooks.{hook_at, hook_of_state, hook_after, hooks_after, hooks_asked, hooks_turned, turned, answers_at, KeepsHooks}
 use Rattle.hp_actors.specs.Positions.{Position, position_of, progress_of, hook_of, hooks_of, op_of, ops_of, answered_of}
@@ -205,7 +205,6 @@ keeps_on old now after a b = record {
         let y = b.answered i in
         let other = eqb-false (answers_at now i) (answers_at after i) e in
         sym (a.waiting i (answers_at after i) (less (answers_at now i) (answers_at after i) y other)) ∙ is
-
 
 -- what was written at a place, where something is read there
 set_read : (hooks : List (Option Counts)) (n : ℕ) (hook : Option Counts) (had : Counts) → get_or (set hooks n hook) n None ≡ Some had →

@@ -33,7 +33,7 @@ use Rattle.hp_model.proofs.OneNext.{owners}
 use Rattle.hp_model.proofs.Owners.{Owners, idle_op, idle_reg, not_self}
 use Rattle.hp_actors.specs.declared.actor.Actor.{Actor}
 use Rattle.hp_actors.specs.Asking.{IsPlaying}
-use Rattle.hp_actors.specs.Positions.{Position, ops_of, op_of, answered_of, progress_of}
+use Rattle.hp_actors.specs.Positions.{ops_of, op_of, answered_of, progress_of}
 use Rattle.hp_actors.specs.Turned.{asked, event_for, answers_for, is_answered}
 use Rattle.hp_actors.specs.Waiting.{IsReady, IsWaiting, EndsNothing, MakesNoEvent, MakesNothing, NeedsMap, IsKnown, KnowsWait, KnowsWaits, is_end, noted}
 use Rattle.hp_actors.specs.declared.actor.Waits.{Waits}

@@ -1,14 +1,17 @@
 -- Operations take a rack's hooks, each in turn the last.
-use Rattle.std.proofs.Common.{◌≡◌, Option, Some, None, IfSome, IfNone, List, [], ◌∷◌, ◌++◌, map, reverse, refl, ap, sym, ◌∙◌}
+use Rattle.std.proofs.Common.{◌≡◌, Option, Some, None, IfSome, IfNone, List, [], ◌∷◌, ◌++◌, is_some, map, reverse, refl, ap, sym, ◌∙◌}
 use Rattle.std.specs.Prelude.{option_map, option_to_list}
 use Rattle.std.specs.List.{flat_map}
 use Rattle.std.proofs.lemmas.Grind.{flat_map-append}
 use Rattle.std.proofs.lemmas.List.{map-append, append-nil, append_assoc, reverse-append}
+use Rattle.std.proofs.lemmas.List.Elements.{All-head, All-tail}
 use Rattle.hp_board.specs.declared.turn.Ask.{Ask}
 use Rattle.hp_hook.specs.Counted.{Counts}
+use Rattle.hp_ledger.specs.TableChanges.{is_setup}
 use Rattle.hp_actors.specs.declared.actor.Actor.{Actor}
 use Rattle.hp_actors.specs.Hooks.{hooks_there, AreFromRack}
-use Rattle.hp_actors.specs.Positions.{hook_of, hooks_of}
+use Rattle.hp_actors.specs.Positions.{hook_of, hooks_of, op_of, ops_of}
+use Rattle.hp_actors.specs.Racks.{AreLoaded, IsFresh}
 
 -- one after the other
 both_taken : (old now after xs ys zs : List Counts) → AreFromRack old now xs → AreFromRack now after ys → zs ≡ xs ++ ys →
@@ -53,3 +56,26 @@ actors_taken seen old now after actors pushed actor before own is =
 
 pub none_taken : (old : List Counts) → AreFromRack old old []
 none_taken old = sym (append-nil old)
+
+-- ---- each setup has one
+
+asks_loaded : {H : Type 0} (seen : H → Counts) (asks : List (Ask H)) → AreLoaded asks →
+    map is_some (map (hook_of seen) asks) ≡ map is_setup (map op_of asks)
+asks_loaded seen [] loaded = refl
+asks_loaded {H} seen (a ∷ rest) loaded =
+    let first : is_some (hook_of seen a) ≡ is_setup a.op =
+    seen_some seen a.hook ∙ All-head (λ (ask : Ask H). is_some ask.hook ≡ is_setup ask.op) a rest loaded in
+    ap (λ z. z ∷ map is_some (map (hook_of seen) rest)) first
+    ∙ ap (λ z. is_setup a.op ∷ z) (asks_loaded seen rest (All-tail (λ (ask : Ask H). is_some ask.hook ≡ is_setup ask.op) a rest loaded))
+  where
+    seen_some : (seen : H → Counts) (hook : Option H) → is_some (option_map seen hook) ≡ is_some hook
+    seen_some seen None = refl
+    seen_some seen (Some h) = refl
+
+pub actors_loaded : {H : Type 0} (seen : H → Counts) (actors : List (Actor H)) → IsFresh actors →
+    map (map is_some) (map (hooks_of seen) actors) ≡ map (map is_setup) (map ops_of actors)
+actors_loaded seen [] fresh = refl
+actors_loaded {H} seen (a ∷ rest) fresh =
+    let P : Actor H → Type 0 = λ actor. (actor.answered ≡ 0) × AreLoaded actor.asks.items in
+    ap (λ z. z ∷ map (map is_some) (map (hooks_of seen) rest)) (asks_loaded seen a.asks.items (All-head P a rest fresh).1)
+    ∙ ap (λ z. map is_setup (ops_of a) ∷ z) (actors_loaded seen rest (All-tail P a rest fresh))

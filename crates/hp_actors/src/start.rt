@@ -1,6 +1,7 @@
 //! The start of a run.
 
-ghost use Rattle.std.specs.Prelude.{◌≡◌, ◌≤◌, IfOk, OnOk, map, length, sum_by, All};
+ghost use Rattle.std.specs.Prelude.{◌≡◌, ◌≤◌, IfOk, OnOk, is_some, map, length, sum_by, All};
+ghost use Rattle.hp_ledger.specs.TableChanges.{is_setup};
 ghost use Rattle.hp_model.specs.Scripts.{IsScript};
 ghost use Rattle.hp_model.specs.ScriptRun.{start as start_of};
 ghost use Rattle.hp_script.specs.Playable.{setups_in};
@@ -19,7 +20,7 @@ use std::alloc::Global;
 
 impl<H: Hook> Run<H> {
     /// The start of a script's run: every seat is in, and no operation has begun. Each setup has a hook of its
-    /// own, from the end of the rack.
+    /// own, as it is in the rack: one after the other they take the last. No other operation has one.
     ///
     /// The script is one that can be played, and the rack has as many hooks as it has setups. Takes memory;
     /// where there is none, some hooks of the rack are lost: `NoMemory`. Runs are this project's own.
@@ -35,6 +36,7 @@ impl<H: Hook> Run<H> {
             }) }
         ensures rack { OnOk result (Takes rack.old.hooks.items rack.new.hooks.items
             (sum_by setups_in script.now.actors)) }
+        ensures loaded { IfOk result (λ run. map (map is_some) run.hooks ≡ map (map is_setup) script.now.actors) }
         ensures hooks { IfOk result (λ run. AreFromRack (map H.counts rack.old.hooks.items)
             (map H.counts rack.new.hooks.items) (hooks_there run.hooks)) }
     {

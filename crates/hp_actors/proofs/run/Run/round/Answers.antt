@@ -41,7 +41,7 @@ loop-seat-init g c =
           ∙ ap (λ n. after_turns c.args.self.now.head c.args.self.now.actors c.args.self.now.progress (numbers n))
           (sym (c.actors_seats-first.ensures.first ∙ ap (λ (p : Position). length (present p.head)) e));
       kept =
-          keeps_same c.args.self.now c.serve_threads.new.self 
+          keeps_same c.args.self.now c.serve_threads.new.self
           (ap (λ (p : Position). p.progress.answers) e
           ∙ threads_answer c.args.self.now.head c.args.self.now.actors c.args.self.now.progress (length (present c.args.self.now.head))
           (omega arith)) (ap (λ p. p.hooks) e);

@@ -1,9 +1,11 @@
 -- The run is at its start.
-use Rattle.std.proofs.Common.{[], length, replicate, ap, ◌∙◌}
+use Rattle.std.proofs.Common.{[], length, map, replicate, ap, ◌∙◌}
+use Rattle.hp_ledger.specs.TableChanges.{is_setup}
 use Rattle.hp_model.specs.Processors.{present}
 use Rattle.hp_model.specs.Admissions.{admissions}
 use Rattle.hp_board.proofs.Homes.{none_home}
 use Rattle.hp_actors.proofs.Knowing.{none_known}
+use Rattle.hp_actors.proofs.Loading.{actors_loaded}
 use Rattle.hp_actors.proofs.Opening.{Opened, opened_position, opened_playing}
 use Rattle.hp_actors.proofs.run.Run.start.Goals as goal
 
@@ -47,3 +49,8 @@ returns-clause-started g c =
       none_yet = c.in_ok-board.ensures.none;
     } in
     opened_position g.H.Hook.counts c.in_ok-board.board c.present_count-threads.result c.in_ok-actors.actors.items c.args.script.now.head c.args.script.now.actors o
+
+pub returns-clause-loaded : goal.returns-clause-loaded
+returns-clause-loaded g c =
+    actors_loaded g.H.Hook.counts c.in_ok-actors.actors.items c.in_ok-actors.ensures.fresh
+    ∙ ap (map (map is_setup)) c.in_ok-actors.ensures.ops

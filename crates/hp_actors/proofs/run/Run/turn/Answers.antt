@@ -1,9 +1,9 @@
 -- A turn of the run is the model's.
-use Rattle.std.proofs.Common.{◌≡◌, ℕ, ◌<◌, ◌≤◌, ◌+◌, ◌-◌, OnOk, OnErr, map, set, refl, ap, sym, subst, arith, length, Some}
+use Rattle.std.proofs.Common.{◌≡◌, ℕ, ◌<◌, ◌≤◌, ◌+◌, ◌-◌, OnOk, OnErr, map, set, refl, subst, arith, length, Some}
 use Rattle.std.specs.Prelude.{slice_get}
 use Rattle.std.proofs.lemmas.List.{length-map}
 use Rattle.std.proofs.lemmas.Option.{slice_get_read}
-use Rattle.hp_actors.proofs.HooksTurned.{keeps_same, none_stands, turn_keeps, turn_turned}
+use Rattle.hp_actors.proofs.HooksTurned.{none_stands, turn_keeps, turn_turned}
 use Rattle.hp_actors.proofs.Knowing.{turn_knows}
 use Rattle.hp_actors.proofs.Playing.{lawful_of, allowed_of, turn_playing_at, turn_position_at, failed_position, no_seat}
 use Rattle.hp_model.specs.Pending.{IsAllowed}
