@@ -1,11 +1,7 @@
 -- What is so of the journal of a script that was played.
-use Rattle.std.proofs.Common.{◌≡◌, ℕ, ◌+◌, Option, Some, None, List, ◌++◌, map, length, refl, ap, sym, subst, ◌∙◌, arith}
-use Rattle.std.specs.List.{sum_by}
-use Rattle.std.proofs.lemmas.List.{map-append, length-append}
-use Rattle.hp_event.specs.declared.op.Op.{Op}
+use Rattle.std.proofs.Common.{◌≡◌, ℕ, ◌+◌, Option, Some, None, List, length, refl, sym, subst, ◌∙◌}
 use Rattle.hp_event.specs.declared.head.Head.{Head}
 use Rattle.hp_event.specs.declared.event.Event.{Event}
-use Rattle.hp_hook.specs.Counted.{Counts}
 use Rattle.hp_model.specs.Lawful.{IsLawful}
 use Rattle.hp_model.specs.MapLock.{operation}
 use Rattle.hp_model.specs.Processors.{present}
@@ -20,12 +16,9 @@ use Rattle.hp_model.proofs.KeyLaw.{keys_at_rest}
 use Rattle.hp_model.proofs.OneNext.{owners}
 use Rattle.hp_model.proofs.Owners.{none_some}
 use Rattle.hp_model.proofs.ScriptRuns.{script_run_lawful}
-use Rattle.hp_script.specs.Playable.{setups_in}
 use Rattle.hp_script.specs.Schedules.{schedule_written}
 use Rattle.hp_script.specs.Script.{Contents}
-use Rattle.hp_actors.specs.Racks as actors
-use Rattle.hp_actors.specs.Racks.{Takes}
-use Rattle.hp_play.specs.Played.{IsJournalOf, EndsWith}
+use Rattle.hp_play.specs.Played.{IsJournalOf}
 
 -- no processor walks where nobody holds the map lock
 no_walk : (head : Head) (events : List Event) (cpu : ℕ) → IsLawful head events → operation events ≡ None → walk cpu events ≡ None
@@ -58,20 +51,3 @@ journal_of script events plays run free quiet = record {
         script_run_lawful script.head script.actors
         (first_turns (length (present script.head) + length script.actors) (schedule_written script.schedule)) events
         plays.head_is plays.few_seats run
-
--- the rack's last hooks, by what they have counted
-pub ends_with : {H : Type 0} (seen : H → Counts) (hooks : List H) (last : List Counts) → actors.EndsWith seen hooks last →
-    EndsWith (map seen hooks) last
-ends_with seen hooks last e = (
-  map seen e.front,
-  ap (map seen) e.hooks_are ∙ (map-append seen e.front e.back ∙ ap (λ z. map seen e.front ++ z) e.last_are),
-)
-
--- what the setups took is back
-pub all_back : {H : Type 0} (old left now : List H) (mine actors : List (List Op)) → Takes old left (sum_by setups_in actors) →
-    length now ≡ length left + sum_by setups_in mine → mine ≡ actors → length now ≡ length old
-all_back old left now mine actors takes back same =
-    let had = ap length takes.old_is ∙ length-append left takes.taken in
-    let count = takes.count_is in
-    let sums = ap (sum_by setups_in) same in
-    omega (arith, had, count, sums, back)

@@ -1,4 +1,5 @@
 mod JournalLaws
+mod RackLaws
 mod Scripts
 mod Parts
 mod Accepting

@@ -3,14 +3,14 @@ use Rattle.std.proofs.Common.{◌≡◌, ℕ, ◌<◌, Option, List, take, lengt
 use Rattle.std.specs.Io.KnownBytes.{append_known}
 use Rattle.hp_command.specs.declared.command.Command.{Command}
 use Rattle.hp_command.specs.Commands.{IsCommand}
-use Rattle.hp_hook.specs.Counted.{Counts}
 use Rattle.hp_play.specs.Main.{Answer, IsUsage, IsAnswer, WritesPart, usage_line}
+use Rattle.hp_play.specs.Racks.{Racks}
 
-pub part_of : (answer : Answer) (words : List (List ℕ)) (hooks : ℕ) (rack : List Counts) (left now taken taken_now : Option (List ℕ))
-    (bytes written : List ℕ) → IsAnswer answer words hooks rack left now bytes → written ≡ bytes →
+pub part_of : {H : Type 0} (answer : Answer) (words : List (List ℕ)) (rack : Racks H) (left now taken taken_now : Option (List ℕ))
+    (bytes written : List ℕ) → IsAnswer answer words rack left now bytes → written ≡ bytes →
     (n : ℕ) → n < length written → taken_now ≡ append_known taken (take n written) →
-    WritesPart words hooks rack left now taken taken_now
-part_of answer words hooks rack left now taken taken_now bytes written is same n below part = record {
+    WritesPart words rack left now taken taken_now
+part_of answer words rack left now taken taken_now bytes written is same n below part = record {
   answer = answer;
   bytes = bytes;
   is_answer = is;

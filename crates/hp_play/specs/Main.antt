@@ -7,7 +7,6 @@ use Rattle.hp_event.specs.declared.head.Head.{Head}
 use Rattle.hp_command.specs.declared.command.Command.{Command}
 use Rattle.hp_command.specs.declared.command.Command.TheVariants as asks
 use Rattle.hp_command.specs.Commands.{IsCommand}
-use Rattle.hp_hook.specs.Counted.{Counts}
 use Rattle.hp_model.specs.Summary.{summary}
 use Rattle.hp_replay.specs.declared.error.ReplayError.TheVariants.{Bad as BadJournal}
 use Rattle.hp_replay.specs.declared.error.ReplayKind.{ReplayKind}
@@ -21,6 +20,7 @@ use Rattle.hp_script.specs.Script.{Contents}
 use Rattle.hp_play.specs.declared.output.Output.{Output}
 use Rattle.hp_play.specs.declared.output.Output.TheVariants as writes
 use Rattle.hp_play.specs.Played.{IsPlayed, counted_hooks}
+use Rattle.hp_play.specs.Racks.{Racks, Stays}
 use Rattle.hp_play.specs.Refusals.{script_error_line, journal_error_line}
 
 abbrev pub usage_line : List ℕ
@@ -34,11 +34,11 @@ pub record WasRead (limit : ℕ) (left now : Option (List ℕ)) (bytes : List �
 -- ---- what is done
 
 -- the script that the source holds was played
-pub record IsScriptPlayed (of : Output) (hooks : ℕ) (rack : List Counts) (left now : Option (List ℕ)) (written : List ℕ) : Type 0
+pub record IsScriptPlayed {H : Type 0} (of : Output) (rack : Racks H) (left now : Option (List ℕ)) (written : List ℕ) : Type 0
   where
     pub bytes : List ℕ
     pub read : WasRead MAX_SCRIPT_BYTES left now bytes
-    pub played : IsPlayed of hooks rack bytes written
+    pub played : IsPlayed of rack bytes written
 
 -- the source holds the text of a lawful journal, with or without its summary, which is written
 pub record IsReplayed (left now : Option (List ℕ)) (written : List ℕ) : Type 0 where
@@ -50,17 +50,22 @@ pub record IsReplayed (left now : Option (List ℕ)) (written : List ℕ) : Type
   pub written_is : written ≡ summary head events
 
 -- nothing was read, and a script was generated and played
-pub record IsBenchPlayed (seed size hooks : ℕ) (rack : List Counts) (left now : Option (List ℕ)) (written : List ℕ) : Type 0 where
+pub record IsBenchPlayed {H : Type 0} (seed size : ℕ) (rack : Racks H) (left now : Option (List ℕ)) (written : List ℕ) : Type 0 where
   pub unread : now ≡ left
-  pub played : IsPlayed writes.Summary hooks rack (generated seed size) written
+  pub played : IsPlayed writes.Summary rack (generated seed size) written
 
-abbrev pub IsDoneBy : Command → (hooks : ℕ) (rack : List Counts) (left now : Option (List ℕ)) (written : List ℕ) → Type 0
-IsDoneBy asks.Play hooks rack left now written = IsScriptPlayed writes.Journal hooks rack left now written
-IsDoneBy asks.States hooks rack left now written = IsScriptPlayed writes.States hooks rack left now written
-IsDoneBy asks.Replay hooks rack left now written = IsReplayed left now written
-IsDoneBy (asks.Gen options) hooks rack left now written = (now ≡ left) × (written ≡ generated options.seed options.size)
-IsDoneBy (asks.Bench options) hooks rack left now written =
-    IsBenchPlayed options.seed options.size hooks rack left now written
+abbrev pub IsDoneBy : {H : Type 0} → Command → Racks H → (left now : Option (List ℕ)) (written : List ℕ) → Type 0
+IsDoneBy asks.Play rack left now written = IsScriptPlayed writes.Journal rack left now written
+IsDoneBy asks.States rack left now written = IsScriptPlayed writes.States rack left now written
+IsDoneBy asks.Replay rack left now written = IsReplayed left now written
+IsDoneBy (asks.Gen options) rack left now written = (now ≡ left) × (written ≡ generated options.seed options.size)
+IsDoneBy (asks.Bench options) rack left now written = IsBenchPlayed options.seed options.size rack left now written
+
+-- a command that plays no script
+abbrev pub PlaysNothing : Command → Type 0
+PlaysNothing asks.Replay = Unit {0}
+PlaysNothing (asks.Gen options) = Unit {0}
+PlaysNothing _ = ⊥
 
 -- ---- what is accepted
 
@@ -142,27 +147,26 @@ pub record IsUsage (words : List (List ℕ)) (left now : Option (List ℕ)) (byt
   pub unread : now ≡ left
   pub line : bytes ≡ usage_line
 
--- what is to be written, where no write fails
-abbrev pub IsAnswer : Answer → (words : List (List ℕ)) (hooks : ℕ) (rack : List Counts) (left now : Option (List ℕ)) (bytes : List ℕ) → Type 0
-IsAnswer done words hooks rack left now bytes = Asked words (λ command. IsDoneBy command hooks rack left now bytes)
-IsAnswer usage words hooks rack left now bytes = IsUsage words left now bytes
-IsAnswer refusal words hooks rack left now bytes = Asked words (λ command. IsRefusedBy command hooks left now bytes)
-IsAnswer bad_journal words hooks rack left now bytes =
-    Asked words (λ command. (command ≡ asks.Replay) × IsBadJournal left now bytes)
+-- What is to be written, where no write fails, and the rack then: an answer that isn't of a command that was done leaves it as it was.
+abbrev pub IsAnswer : {H : Type 0} → Answer → (words : List (List ℕ)) → Racks H → (left now : Option (List ℕ)) (bytes : List ℕ) → Type 0
+IsAnswer done words rack left now bytes = Asked words (λ command. IsDoneBy command rack left now bytes)
+IsAnswer usage words rack left now bytes = IsUsage words left now bytes × Stays rack
+IsAnswer refusal words rack left now bytes = Asked words (λ command. IsRefusedBy command (length rack.old) left now bytes) × Stays rack
+IsAnswer bad_journal words rack left now bytes =
+    Asked words (λ command. (command ≡ asks.Replay) × IsBadJournal left now bytes) × Stays rack
 
 -- the answer is what the sink took
-pub record Writes
-    (answer : Answer) (words : List (List ℕ)) (hooks : ℕ) (rack : List Counts) (left now taken taken_now : Option (List ℕ)) : Type 0
+pub record Writes {H : Type 0} (answer : Answer) (words : List (List ℕ)) (rack : Racks H) (left now taken taken_now : Option (List ℕ)) : Type 0
   where
     pub bytes : List ℕ
-    pub is_answer : IsAnswer answer words hooks rack left now bytes
+    pub is_answer : IsAnswer answer words rack left now bytes
     pub all : taken_now ≡ append_known taken bytes
 
 -- the first bytes of some answer are what the sink took, and not all of them
-pub record WritesPart (words : List (List ℕ)) (hooks : ℕ) (rack : List Counts) (left now taken taken_now : Option (List ℕ)) : Type 0 where
+pub record WritesPart {H : Type 0} (words : List (List ℕ)) (rack : Racks H) (left now taken taken_now : Option (List ℕ)) : Type 0 where
   pub answer : Answer
   pub bytes : List ℕ
-  pub is_answer : IsAnswer answer words hooks rack left now bytes
+  pub is_answer : IsAnswer answer words rack left now bytes
   pub count : ℕ
   pub not_all : count < length bytes
   pub part : taken_now ≡ append_known taken (take count bytes)

@@ -1,8 +1,6 @@
 -- What is so of the journal of a script that was played, and of the rack after it. This project's own.
 use Rattle.std.specs.Prelude.{◌≡◌, ℕ, min, None, List, ◌++◌, length}
 use Rattle.hp_event.specs.declared.event.Event.{Event}
-use Rattle.hp_board.specs.Retired.{registered_hooks}
-use Rattle.hp_hook.specs.Counted.{Counts}
 use Rattle.hp_model.specs.Lawful.{IsLawful}
 use Rattle.hp_model.specs.Headline.{Headline}
 use Rattle.hp_model.specs.Completes.{Completes}
@@ -17,6 +15,7 @@ use Rattle.hp_script.specs.Schedules.{schedule_written}
 use Rattle.hp_script.specs.Script.{Contents}
 use Rattle.hp_play.specs.declared.output.Output.{Output}
 use Rattle.hp_play.specs.Outputs.{output}
+use Rattle.hp_play.specs.Racks.{Racks, IsRackAfter}
 
 -- It is the run of the script's actors by its schedule; each event stands after those before it; every front of it has the headline, and
 -- completes, and at most one processor walks after it, which leaves the others as they were; nothing is in flight at its end, and the
@@ -31,18 +30,11 @@ pub record IsJournalOf (script : Contents) (events : List Event) : Type 0 where
   pub no_registration : registration events ≡ None
   pub keys : (cpu : ℕ) → AreKeysAtRest script.head cpu events (keys_in_force cpu events)
 
--- the last of some hooks have these counts
-abbrev pub EndsWith : List Counts → (last : List Counts) → Type 0
-EndsWith all last = (front : List Counts) × (all ≡ front ++ last)
-
--- What is written of a script, and the rack then, which had so many hooks: there is one journal of it, of which the output is written.
--- The last of the rack's hooks are those of the registered states, in rising number, each with its plan and counts as the journal says
--- of its state; and no hook is lost.
-pub record WasPlayed (of : Output) (script : Contents) (hooks : ℕ) (rack : List Counts) (written : List ℕ) : Type 0 where
+-- What is written of a script, and the rack then: there is one journal of it, of which the output is written, and by which the rack is.
+pub record WasPlayed {H : Type 0} (of : Output) (script : Contents) (rack : Racks H) (written : List ℕ) : Type 0 where
   pub events : List Event
   pub journal : IsJournalOf script events
-  pub last_hooks : EndsWith rack (registered_hooks script.head events)
-  pub no_hook_lost : length rack ≡ hooks
+  pub rack_is : IsRackAfter script events rack
   pub written_is : written ≡ output of script.head events
 
 -- the hooks that a script's setups can take: those of the rack, as far as they are counted
@@ -50,7 +42,7 @@ abbrev pub counted_hooks : (hooks : ℕ) → ℕ
 counted_hooks hooks = min hooks 4294967295
 
 -- the bytes are a script, for a rack with so many hooks, and it was played
-pub record IsPlayed (of : Output) (hooks : ℕ) (rack : List Counts) (bytes written : List ℕ) : Type 0 where
+pub record IsPlayed {H : Type 0} (of : Output) (rack : Racks H) (bytes written : List ℕ) : Type 0 where
   pub script : Contents
-  pub read : IsRead (counted_hooks hooks) bytes script
-  pub played : WasPlayed of script hooks rack written
+  pub read : IsRead (counted_hooks (length rack.old)) bytes script
+  pub played : WasPlayed of script rack written

@@ -1,8 +1,9 @@
 //! What each command does.
 
-ghost use Rattle.std.specs.Prelude.{◌≡◌, ◌<◌, ◌≤◌, map, length, IfOk, IfErr, OnOk};
-ghost use Rattle.hp_play.specs.Main.{IsDoneBy, IsScriptPlayed, IsReplayed, IsBenchPlayed};
+ghost use Rattle.std.specs.Prelude.{◌≡◌, ◌≢◌, ◌<◌, length, IfOk, IfErr, OnOk};
+ghost use Rattle.hp_play.specs.Main.{IsDoneBy, IsScriptPlayed, IsReplayed, PlaysNothing};
 ghost use Rattle.hp_play.specs.Played.{IsPlayed};
+ghost use Rattle.hp_play.specs.Racks.{racks};
 ghost use Rattle.hp_play.specs.Stops.{HasRanges, Stops, StopsScript, StopsJournal, Refuses};
 
 use crate::error::{journal_error_line, script_error_line};
@@ -27,12 +28,14 @@ pub fn output_of<S: Source, H: Hook>(
 ) -> Result<Vec<u8>, Stop>
     requires faults { S.faults source.old < u64.MAX }
     requires ranges { HasRanges command }
-    ensures done { IfOk result (λ text. IsDoneBy command (length rack.old.hooks.items)
-        (map H.counts rack.new.hooks.items)
+    ensures done { IfOk result (λ text. IsDoneBy command
+        (racks H.counts rack.old.hooks.items rack.new.hooks.items)
         (S.left source.old) (S.left source.new) text.items) }
     ensures faults { OnOk result (S.faults source.new ≡ S.faults source.old) }
     ensures stop { IfErr result (Stops command (length rack.old.hooks.items)
         (S.left source.old) (S.left source.new) (S.faults source.old) (S.faults source.new)) }
+    ensures rack { IfErr result (λ stop. stop ≢ Stop.NoMemory → rack.new.hooks.items ≡ rack.old.hooks.items) }
+    ensures unused { PlaysNothing command → rack.new.hooks.items ≡ rack.old.hooks.items }
 {
     match command {
         Command::Play => script_played(alloc, Output::Journal, source, rack),
@@ -54,12 +57,13 @@ fn script_played<S: Source, H: Hook>(
     rack: &mut Rack<H>,
 ) -> Result<Vec<u8>, Stop>
     requires { S.faults source.old < u64.MAX }
-    ensures played { IfOk result (λ text. IsScriptPlayed of (length rack.old.hooks.items)
-        (map H.counts rack.new.hooks.items)
+    ensures played { IfOk result (λ text. IsScriptPlayed of
+        (racks H.counts rack.old.hooks.items rack.new.hooks.items)
         (S.left source.old) (S.left source.new) text.items) }
     ensures faults { OnOk result (S.faults source.new ≡ S.faults source.old) }
     ensures stop { IfErr result (StopsScript (length rack.old.hooks.items)
         (S.left source.old) (S.left source.new) (S.faults source.old) (S.faults source.new)) }
+    ensures rack { IfErr result (λ stop. stop ≢ Stop.NoMemory → rack.new.hooks.items ≡ rack.old.hooks.items) }
 {
     match read_input(alloc, source, MAX_SCRIPT_BYTES) {
         Ok(script) => text_of_script(alloc, of, &script, rack),
@@ -74,10 +78,11 @@ fn text_of_script<H: Hook>(
     bytes: &[u8],
     rack: &mut Rack<H>,
 ) -> Result<Vec<u8>, Stop>
-    ensures played { IfOk result (λ text. IsPlayed of (length rack.old.hooks.items)
-        (map H.counts rack.new.hooks.items)
+    ensures played { IfOk result (λ text. IsPlayed of
+        (racks H.counts rack.old.hooks.items rack.new.hooks.items)
         bytes.now text.items) }
     ensures stop { IfErr result (Refuses (length rack.old.hooks.items) bytes.now) }
+    ensures rack { IfErr result (λ stop. stop ≢ Stop.NoMemory → rack.new.hooks.items ≡ rack.old.hooks.items) }
 {
     let hooks = rack.hooks.len().min(u32::MAX as usize) as u32;
     match parse(alloc, bytes, hooks) {

@@ -1,9 +1,10 @@
 //! A script is played, and what is written of it.
 
-ghost use Rattle.std.specs.Prelude.{◌≡◌, ◌≤◌, IfOk, map, length, sum_by};
+ghost use Rattle.std.specs.Prelude.{◌≤◌, IfOk, length, sum_by};
 ghost use Rattle.hp_model.specs.Scripts.{IsScript};
 ghost use Rattle.hp_script.specs.Playable.{setups_in};
 ghost use Rattle.hp_play.specs.Played.{WasPlayed};
+ghost use Rattle.hp_play.specs.Racks.{racks};
 
 use crate::output::{Output, text_of};
 use hp_actors::Run;
@@ -25,8 +26,8 @@ pub fn play<H: Hook>(
 ) -> Result<Vec<u8>, NoMemory>
     requires script { IsScript script.now.head script.now.actors }
     requires hooks { sum_by setups_in script.now.actors ≤ length rack.old.hooks.items }
-    ensures { IfOk result (λ text. WasPlayed of script.now (length rack.old.hooks.items)
-        (map H.counts rack.new.hooks.items)
+    ensures { IfOk result (λ text. WasPlayed of script.now
+        (racks H.counts rack.old.hooks.items rack.new.hooks.items)
         text.items) }
 {
     let mut run = Run::start(alloc, script, rack)?;

@@ -4,7 +4,8 @@ ghost use Rattle.std.specs.Prelude.{◌≡◌, ◌≢◌, ℕ, ◌+◌, ◌<◌,
 ghost use Rattle.std.specs.Io.KnownBytes.{append_known};
 ghost use Rattle.hp_command.specs.declared.command.Command.{Command};
 ghost use Rattle.hp_command.specs.Commands.{IsCommand};
-ghost use Rattle.hp_play.specs.Main.{Answer, Asked, HasInput, Writes, WritesPart};
+ghost use Rattle.hp_play.specs.Main.{Answer, Asked, HasInput, PlaysNothing, Writes, WritesPart};
+ghost use Rattle.hp_play.specs.Racks.{racks};
 ghost use Rattle.hp_play.specs.Stops.{Reads};
 
 use crate::commands::output_of;
@@ -96,32 +97,33 @@ pub fn hp_main<S: Source, K: Sink, H: Hook>(
 
     // What is written under 0, 1, 2 and 6.
     ensures done { result ≡ DONE → Writes Answer.done (map string_bytes words.now.items)
-        (length rack.old.hooks.items)
-        (map H.counts rack.new.hooks.items)
+        (racks H.counts rack.old.hooks.items rack.new.hooks.items)
         (S.left source.old) (S.left source.new) (K.taken sink.old) (K.taken sink.new) }
     ensures bad_words { result ≡ BAD_WORDS → Writes Answer.usage (map string_bytes words.now.items)
-        (length rack.old.hooks.items)
-        (map H.counts rack.new.hooks.items)
+        (racks H.counts rack.old.hooks.items rack.new.hooks.items)
         (S.left source.old) (S.left source.new) (K.taken sink.old) (K.taken sink.new) }
     ensures bad_script { result ≡ BAD_SCRIPT → Writes Answer.refusal (map string_bytes words.now.items)
-        (length rack.old.hooks.items)
-        (map H.counts rack.new.hooks.items)
+        (racks H.counts rack.old.hooks.items rack.new.hooks.items)
         (S.left source.old) (S.left source.new) (K.taken sink.old) (K.taken sink.new) }
     ensures bad_journal { result ≡ BAD_JOURNAL → Writes Answer.bad_journal (map string_bytes words.now.items)
-        (length rack.old.hooks.items)
-        (map H.counts rack.new.hooks.items)
+        (racks H.counts rack.old.hooks.items rack.new.hooks.items)
         (S.left source.old) (S.left source.new) (K.taken sink.old) (K.taken sink.new) }
 
     // A fault has its cause in the object that failed.
     ensures read_fault { result ≡ READ_FAULT → Asked (map string_bytes words.now.items) Reads
-        × (S.faults source.new ≡ S.faults source.old + 1) × (K.taken sink.new ≡ K.taken sink.old) }
+        × (S.faults source.new ≡ S.faults source.old + 1) × (K.taken sink.new ≡ K.taken sink.old)
+        × (rack.new.hooks.items ≡ rack.old.hooks.items) }
     ensures write_fault { result ≡ WRITE_FAULT → (K.faults sink.new ≡ K.faults sink.old + 1)
-        × WritesPart (map string_bytes words.now.items) (length rack.old.hooks.items)
-        (map H.counts rack.new.hooks.items)
+        × WritesPart (map string_bytes words.now.items)
+        (racks H.counts rack.old.hooks.items rack.new.hooks.items)
         (S.left source.old) (S.left source.new) (K.taken sink.old) (K.taken sink.new) }
     ensures no_memory { result ≡ NO_MEMORY → K.taken sink.new ≡ K.taken sink.old }
     ensures source_faults { result ≢ READ_FAULT → S.faults source.new ≡ S.faults source.old }
     ensures sink_faults { result ≢ WRITE_FAULT → K.faults sink.new ≡ K.faults sink.old }
+
+    // A command that plays no script leaves the rack as it was, under each status.
+    ensures rack { Asked (map string_bytes words.now.items) PlaysNothing →
+        rack.new.hooks.items ≡ rack.old.hooks.items }
 {
     let command = match command_of(alloc, words) {
         Ok(Some(command)) => command,

@@ -1,16 +1,16 @@
 -- The journal is the script's, and the rack's last hooks are those of the registered states.
-use Rattle.std.proofs.Common.{◌≡◌, map, ap, subst, ◌∙◌}
-use Rattle.std.proofs.lemmas.List.{length-map}
+use Rattle.std.proofs.Common.{◌≡◌, ◌++◌, ap, subst, ◌∙◌}
 use Rattle.hp_event.specs.declared.head.Head.{Head}
-use Rattle.hp_board.specs.Retired.{registered_hooks}
+use Rattle.hp_board.specs.Retired.{IsRacked, registered_hooks}
 use Rattle.hp_model.specs.Registrations.{registration}
 use Rattle.hp_model.specs.Schedule.{IsRunBy}
 use Rattle.hp_script.specs.declared.schedule.Schedule.{Schedule}
 use Rattle.hp_script.specs.Schedules.{schedule_written}
+use Rattle.hp_actors.specs.Hooks.{hooks_there}
 use Rattle.hp_actors.specs.Positions.{Position}
 use Rattle.hp_play.specs.Outputs.{output}
-use Rattle.hp_play.specs.Played.{EndsWith}
-use Rattle.hp_play.proofs.JournalLaws.{journal_of, ends_with, all_back}
+use Rattle.hp_play.proofs.JournalLaws.{journal_of}
+use Rattle.hp_play.proofs.RackLaws.{rack_after}
 use Rattle.hp_play.proofs.play.play.Goals as goal
 
 pub text_of-requires : goal.text_of-requires
@@ -28,15 +28,13 @@ returns g c =
     record {
       events = events;
       journal = journal_of script events c.requires.script run c.rests.ensures.operation c.rests.ensures.registration;
-      last_hooks =
-          subst (λ (h : Head).
-          EndsWith (map g.H.Hook.counts c.finish.new.rack.hooks.items)
-          (registered_hooks h events)) head
-          (ends_with g.H.Hook.counts
-          c.finish.new.rack.hooks.items (registered_hooks c.play.new.self.head events) c.in_ok-finish.ensures.last);
-      no_hook_lost =
-          length-map c.finish.new.rack.hooks.items _
-          ∙ all_back c.args.rack.now.hooks.items _ c.finish.new.rack.hooks.items c.play.new.self.actors script.actors c.in_ok-run.ensures.rack c.in_ok-finish.ensures.all (c.in_ok-play.ensures.actors ∙ ap (λ (p : Position). p.actors) c.in_ok-run.ensures.started);
+      rack_is =
+          rack_after g.H.Hook.counts c.args.rack.now.hooks.items c.start.new.rack.hooks.items c.finish.new.rack.hooks.items script
+          c.play.new.self.actors events (hooks_there c.play.new.self.hooks) c.in_ok-run.ensures.rack
+          (subst (λ (h : Head).
+          IsRacked g.H.Hook.counts c.start.new.rack.hooks.items c.finish.new.rack.hooks.items
+          (hooks_there c.play.new.self.hooks ++ registered_hooks h events)) head c.in_ok-finish.ensures.hooks)
+          c.in_ok-finish.ensures.all (c.in_ok-play.ensures.actors ∙ ap (λ (p : Position). p.actors) c.in_ok-run.ensures.started);
       written_is =
           c.in_ok-text.ensures
           ∙ (ap (λ h. output c.args.of h c.board.result.now.events) (c.board.ensures.head ∙ head)

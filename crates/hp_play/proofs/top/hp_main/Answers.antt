@@ -2,6 +2,7 @@
 use Rattle.std.proofs.Common.{map, string_bytes, length, ap, subst, refl, arith}
 use Rattle.hp_command.specs.Commands.{IsCommand}
 use Rattle.hp_play.specs.Main.{usage, refusal, bad_journal, usage_line}
+use Rattle.hp_play.specs.Racks.{racks}
 use Rattle.hp_play.proofs.Accepting.{no_refusal, no_journal_refusal}
 use Rattle.hp_play.proofs.Parts.{part_of, no_command}
 use Rattle.hp_play.proofs.top.hp_main.Goals as goal
@@ -9,9 +10,11 @@ use Rattle.hp_play.proofs.top.hp_main.Goals as goal
 pub returns-in-Ok-None-clause-bad_words : goal.returns-in-Ok-None-clause-bad_words
 returns-in-Ok-None-clause-bad_words g c = λ e. record {
   bytes = usage_line;
-  is_answer =
-      no_command (map string_bytes c.deref.result.now) (map string_bytes c.args.words.now.items) (g.S.Source.left c.args.source.now)
-      (ap (map string_bytes) c.deref.ensures.value) (rw c.in-Ok-None.field-0-is at c.in-Ok-None.ensures.none);
+  is_answer = (
+    no_command (map string_bytes c.deref.result.now) (map string_bytes c.args.words.now.items) (g.S.Source.left c.args.source.now)
+        (ap (map string_bytes) c.deref.ensures.value) (rw c.in-Ok-None.field-0-is at c.in-Ok-None.ensures.none),
+    refl,
+  );
   all = (c.write.ensures.written (λ f. absurd (omega (arith, e, f)))).1;
 }
 
@@ -19,43 +22,54 @@ pub returns-in-Ok-None-clause-write_fault : goal.returns-in-Ok-None-clause-write
 returns-in-Ok-None-clause-write_fault g c = λ e.
     let f = c.write.ensures.fault e in (
       f.3,
-      part_of usage (map string_bytes c.args.words.now.items) (length c.args.rack.now.hooks.items) _
+      part_of usage (map string_bytes c.args.words.now.items)
+          (racks g.H.Hook.counts c.args.rack.now.hooks.items c.args.rack.now.hooks.items)
           (g.S.Source.left c.args.source.now) (g.S.Source.left c.args.source.now) (g.K.Sink.taken c.args.sink.now)
-          (g.K.Sink.taken c.write.new.sink) usage_line usage_line
-          (no_command (map string_bytes c.deref.result.now) (map string_bytes c.args.words.now.items) (g.S.Source.left c.args.source.now)
-          (ap (map string_bytes) c.deref.ensures.value) (rw c.in-Ok-None.field-0-is at c.in-Ok-None.ensures.none)) refl f.0 f.1 f.2,
+          (g.K.Sink.taken c.write.new.sink) usage_line usage_line (
+            no_command (map string_bytes c.deref.result.now) (map string_bytes c.args.words.now.items) (g.S.Source.left c.args.source.now)
+                (ap (map string_bytes) c.deref.ensures.value) (rw c.in-Ok-None.field-0-is at c.in-Ok-None.ensures.none),
+            refl,
+          ) refl f.0 f.1 f.2,
     )
 
 pub returns-in-Err-BadScript-clause-write_fault : goal.returns-in-Err-BadScript-clause-write_fault
 returns-in-Err-BadScript-clause-write_fault g c = λ e.
     let f = c.write-in-Err-BadScript.ensures.fault e in
+    let kept = (rw c.in-Err-BadScript.field-0-is at c.in-Err-BadScript.ensures.rack) (λ none. absurd (cc)) in
     let stop = rw c.in-Err-BadScript.field-0-is at c.in-Err-BadScript.ensures.stop in
     let asked = rw c.in-Ok-Some.field-0-is at c.in-Ok-Some.ensures.some in (
       f.3,
-      part_of refusal (map string_bytes c.args.words.now.items) (length c.args.rack.now.hooks.items) _
+      part_of refusal (map string_bytes c.args.words.now.items)
+          (racks g.H.Hook.counts c.args.rack.now.hooks.items c.output_of.new.rack.hooks.items)
           (g.S.Source.left c.args.source.now) (g.S.Source.left c.output_of.new.source) (g.K.Sink.taken c.args.sink.now)
-          (g.K.Sink.taken c.write-in-Err-BadScript.new.sink) c.in-Err-BadScript.line.items c.deref-in-Err-BadScript.result.now
-          (record {
-            command = c.in-Ok-Some.command;
-            asked = subst (λ z. IsCommand z c.in-Ok-Some.command) (ap (map string_bytes) c.deref.ensures.value) asked;
-            is = stop.0;
-          }) c.deref-in-Err-BadScript.ensures.value f.0 f.1 f.2,
+          (g.K.Sink.taken c.write-in-Err-BadScript.new.sink) c.in-Err-BadScript.line.items c.deref-in-Err-BadScript.result.now (
+            record {
+              command = c.in-Ok-Some.command;
+              asked = subst (λ z. IsCommand z c.in-Ok-Some.command) (ap (map string_bytes) c.deref.ensures.value) asked;
+              is = stop.0;
+            },
+            kept,
+          ) c.deref-in-Err-BadScript.ensures.value f.0 f.1 f.2,
     )
 
 pub returns-in-Err-BadJournal-clause-write_fault : goal.returns-in-Err-BadJournal-clause-write_fault
 returns-in-Err-BadJournal-clause-write_fault g c = λ e.
     let f = c.write-in-Err-BadJournal.ensures.fault e in
+    let kept = (rw c.in-Err-BadJournal.field-0-is at c.in-Err-BadJournal.ensures.rack) (λ none. absurd (cc)) in
     let stop = rw c.in-Err-BadJournal.field-0-is at c.in-Err-BadJournal.ensures.stop in
     let asked = rw c.in-Ok-Some.field-0-is at c.in-Ok-Some.ensures.some in (
       f.3,
-      part_of bad_journal (map string_bytes c.args.words.now.items) (length c.args.rack.now.hooks.items) _
+      part_of bad_journal (map string_bytes c.args.words.now.items)
+          (racks g.H.Hook.counts c.args.rack.now.hooks.items c.output_of.new.rack.hooks.items)
           (g.S.Source.left c.args.source.now) (g.S.Source.left c.output_of.new.source) (g.K.Sink.taken c.args.sink.now)
-          (g.K.Sink.taken c.write-in-Err-BadJournal.new.sink) c.in-Err-BadJournal.line.items c.deref-in-Err-BadJournal.result.now
-          (record {
-            command = c.in-Ok-Some.command;
-            asked = subst (λ z. IsCommand z c.in-Ok-Some.command) (ap (map string_bytes) c.deref.ensures.value) asked;
-            is = (stop.0, stop.1);
-          }) c.deref-in-Err-BadJournal.ensures.value f.0 f.1 f.2,
+          (g.K.Sink.taken c.write-in-Err-BadJournal.new.sink) c.in-Err-BadJournal.line.items c.deref-in-Err-BadJournal.result.now (
+            record {
+              command = c.in-Ok-Some.command;
+              asked = subst (λ z. IsCommand z c.in-Ok-Some.command) (ap (map string_bytes) c.deref.ensures.value) asked;
+              is = (stop.0, stop.1);
+            },
+            kept,
+          ) c.deref-in-Err-BadJournal.ensures.value f.0 f.1 f.2,
     )
 
 pub returns-in-Ok-None-clause-accepted : goal.returns-in-Ok-None-clause-accepted

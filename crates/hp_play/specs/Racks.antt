@@ -1,0 +1,35 @@
+-- The rack of hooks before a call and after it, and what it is after a script was played. This project's own.
+use Rattle.std.specs.Prelude.{◌≡◌, ◌+◌, List, ◌++◌, map, length}
+use Rattle.std.specs.List.{sum_by}
+use Rattle.hp_board.specs.Retired.{registered_hooks}
+use Rattle.hp_event.specs.declared.event.Event.{Event}
+use Rattle.hp_hook.specs.Counted.{Counts}
+use Rattle.hp_script.specs.Playable.{setups_in}
+use Rattle.hp_script.specs.Script.{Contents}
+
+-- the hooks before and after, and what of a hook is seen
+pub record Racks (H : Type 0) : Type 0 where
+  pub seen : H → Counts
+  pub old : List H
+  pub new : List H
+
+abbrev pub racks : {H : Type 0} → (seen : H → Counts) → (old new : List H) → Racks H
+racks seen old new = record { seen = seen; old = old; new = new }
+
+-- the rack is as it was
+abbrev pub Stays : {H : Type 0} → Racks H → Type 0
+Stays rack = rack.new ≡ rack.old
+
+-- After a script was played with hooks of the rack: those that no setup took stand first, as they were. Behind them are as many as the
+-- setups took: first those that came back, and last those of the registered states, in rising number, each with its plan and counts as
+-- the journal says of its state.
+pub record IsRackAfter {H : Type 0} (script : Contents) (events : List Event) (rack : Racks H) : Type 0 where
+  pub untaken : List H
+  pub taken : List H
+  pub back : List H
+  pub last : List H
+  pub old_is : rack.old ≡ untaken ++ taken
+  pub new_is : rack.new ≡ untaken ++ (back ++ last)
+  pub one_for_each : length taken ≡ sum_by setups_in script.actors
+  pub none_lost : length back + length last ≡ length taken
+  pub last_are : map rack.seen last ≡ registered_hooks script.head events
