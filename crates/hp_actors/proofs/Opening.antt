@@ -85,7 +85,7 @@ opened_position seen board threads actors head ops o =
     same board.head (map ops_of actors) (progress_of board.events actors) head ops (start head ops) o.head_is o.ops_are
     (at_start board threads actors head ops o)
   where
-    same : (h : Head) (a : List (List Op)) (p : Progress) (i : Head) (b : List (List Op)) (q : Progress) → h ≡ i → a ≡ b → p ≡ q →
+    same : (h : Head) (a : List (List Op)) (p : RunState) (i : Head) (b : List (List Op)) (q : RunState) → h ≡ i → a ≡ b → p ≡ q →
         ◌≡◌ {A = Position} (record { head = h; actors = a; progress = p; hooks = map (hooks_of seen) actors })
         (record { head = i; actors = b; progress = q; hooks = map (hooks_of seen) actors })
     same h a p i b q x y z = rw (x, y, z) refl

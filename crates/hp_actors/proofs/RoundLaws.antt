@@ -104,7 +104,7 @@ more_served old now after next seat s from below none is = record {
 }
 
 -- threads answer nothing
-pub threads_answer : (head : Head) (actors : List (List Op)) (at : Progress) (n : ℕ) → n ≤ length (present head) →
+pub threads_answer : (head : Head) (actors : List (List Op)) (at : RunState) (n : ℕ) → n ≤ length (present head) →
     (after_turns head actors at (numbers n)).answers ≡ at.answers
 threads_answer head actors at zero few = ap (λ q. q.answers) (turns_none head actors at)
 threads_answer head actors at (suc n) few =
@@ -138,7 +138,7 @@ all_served old now next s none =
     (λ k a b. ap (λ h. due_entry h now.progress.events k) (sym s.head) ∙ none k a (omega (arith, b, e))) in
     same now.head now.actors now.progress now.hooks old.head old.actors _ old.hooks s.head s.actors t s.hooks
   where
-    same : (h : Head) (a : List (List Op)) (p : Progress) (hs : List (List (Option Counts))) (i : Head) (b : List (List Op)) (q : Progress)
+    same : (h : Head) (a : List (List Op)) (p : RunState) (hs : List (List (Option Counts))) (i : Head) (b : List (List Op)) (q : RunState)
         (gs : List (List (Option Counts))) → h ≡ i → a ≡ b → p ≡ q → hs ≡ gs →
         ◌≡◌ {A = Position} (record { head = h; actors = a; progress = p; hooks = hs })
         (record { head = i; actors = b; progress = q; hooks = gs })

@@ -43,7 +43,7 @@ draws_left m x n a below = let e : n - a ≡ suc (n - (a + 1)) = omega (arith, b
 pub no_draws : (m x n a : ℕ) → n ≤ a → draws m x (n - a) ≡ []
 no_draws m x n a past = let e : n - a ≡ 0 = omega (arith, past) in ap (draws m x) e
 
-pub all_made : (head : Head) (actors : List (List Op)) (at whole : Progress) (left : List ℕ) → left ≡ [] →
+pub all_made : (head : Head) (actors : List (List Op)) (at whole : RunState) (left : List ℕ) → left ≡ [] →
     after_turns head actors at left ≡ whole → at ≡ whole
 all_made head actors at whole left none is =
     sym (ap (after_turns head actors at) none ∙ turns_none head actors at) ∙ is

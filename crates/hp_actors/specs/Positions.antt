@@ -7,13 +7,13 @@ use Rattle.hp_event.specs.declared.event.Event.{Event}
 use Rattle.hp_board.specs.Contents.{Contents}
 use Rattle.hp_board.specs.declared.turn.Ask.{Ask}
 use Rattle.hp_hook.specs.Counted.{Counts}
-use Rattle.hp_model.specs.ScriptTurns.{Progress}
+use Rattle.hp_model.specs.ScriptTurns.{RunState}
 use Rattle.hp_actors.specs.declared.actor.Actor.{Actor}
 
 pub record Position : Type 0 where
   pub head : Head
   pub actors : List (List Op)
-  pub progress : Progress
+  pub progress : RunState
   -- by actor and operation, what the hook that it has has counted
   pub hooks : List (List (Option Counts))
 
