@@ -94,6 +94,39 @@ fn the_number_of_calls_stands_at_its_end(rt: HostRuntime) -> Result<(), Fail> {
     Ok(())
 }
 
+/// What the reader below gives.
+const LETTERS: &[u8] = b"abcdefghijklmnopqrstuvwxyz";
+
+/// A reader of std that gives the letters, one in its first read, two in the next, and so on.
+#[derive(Drop)]
+struct Letters {
+    calls: u8,
+    at: usize,
+}
+
+impl Read for Letters {
+    fn read(&mut self, buf: &mut [u8]) -> io::Result<usize> {
+        self.calls = self.calls.saturating_add(1);
+        let left = &LETTERS[self.at.min(LETTERS.len())..];
+        let count = buf.len().min(left.len()).min(self.calls as usize);
+        buf[..count].copy_from_slice(&left[..count]);
+        self.at = self.at.saturating_add(count);
+        Ok(count)
+    }
+}
+
+/// No clause says of a reader that tells no bytes that a read of the source gives its bytes and fails only where the
+/// reader does.
+#[test]
+fn a_real_source_gives_what_its_reader_gives(rt: HostRuntime) -> Result<(), Fail> {
+    let alloc = rt.alloc();
+    let mut source = RealSource::new(Letters { calls: 0, at: 0 });
+    let bytes = read_up_to(alloc, &mut source, 100)?;
+    assert!(rt; bytes.as_slice() == LETTERS);
+    assert!(rt; (source.reader.calls, source.faults) == (8, 0));
+    Ok(())
+}
+
 /// A reader of std whose second read fails.
 #[derive(Drop)]
 struct Torn {
@@ -123,6 +156,40 @@ fn an_error_of_a_reader_is_a_fault(rt: HostRuntime) -> Result<(), Fail> {
     let bytes = read_up_to(alloc, &mut source, 100)?;
     assert!(rt; bytes.is_empty());
     assert!(rt; source.faults == 1);
+    Ok(())
+}
+
+/// A writer of std that takes three bytes in a write at most.
+#[derive(Drop)]
+struct Narrow {
+    bytes: Vec<u8>,
+    calls: u8,
+}
+
+impl Write for Narrow {
+    fn write(&mut self, buf: &[u8]) -> io::Result<usize> {
+        self.calls = self.calls.saturating_add(1);
+        let count = buf.len().min(3);
+        self.bytes.extend_from_slice(&buf[..count])?;
+        Ok(count)
+    }
+
+    fn flush(&mut self) -> io::Result<()> {
+        Ok(())
+    }
+}
+
+/// No clause says of a writer that tells no bytes that a write of the sink hands it these and fails only where the
+/// writer does.
+#[test]
+fn a_real_sink_hands_on_what_it_is_given(rt: HostRuntime) -> Result<(), Fail> {
+    let mut sink = RealSink::new(Narrow {
+        bytes: Vec::new(rt.alloc()),
+        calls: 0,
+    });
+    write_all(&mut sink, b"cpus 2\nup 1\n")?;
+    assert!(rt; sink.writer.bytes.as_slice() == b"cpus 2\nup 1\n".as_slice());
+    assert!(rt; (sink.writer.calls, sink.faults) == (4, 0));
     Ok(())
 }
 
