@@ -75,6 +75,11 @@ impl Journal {
         }
     }
 
+    /// The allocator that it was made with. Takes no memory.
+    pub fn allocator(&self) -> Global {
+        *self.events.allocator()
+    }
+
     /// The head, which no call changes. Takes no memory.
     pub fn head(&self) -> &Head
         ensures { result.now ≡ self.now.head }
