@@ -13,5 +13,6 @@ mod Waiting
 mod Knowing
 mod ThreadsTurn
 mod HooksTurned
+mod Later
 mod Giving
 mod Loading

@@ -1,6 +1,6 @@
 -- The hooks that the operations of a run have: where they are from, what a turn makes of them, and which stay. After the callbacks of
 -- `struct cpuhp_step` of `kernel/cpu.c`; that an operation has its hook is this project's own.
-use Rattle.std.specs.Prelude.{◌≡◌, ℕ, ◌-◌, ◌<◌, ◌≤◌, nat_lt, if◌then◌else◌, Option, Some, None, option_to_list, List, [], ◌++◌, length, reverse, get_or, set}
+use Rattle.std.specs.Prelude.{◌≡◌, ℕ, ◌-◌, ◌<◌, ◌≤◌, nat_lt, if◌then◌else◌, Option, Some, None, option_to_list, List, [], ◌++◌, length, reverse, get_or, set, fold}
 use Rattle.std.specs.List.{flat_map}
 use Rattle.hp_event.specs.declared.event.Event.{Event}
 use Rattle.hp_event.specs.declared.head.Head.{Head}
@@ -69,6 +69,14 @@ turned at k =
       progress = turn at.head at.actors at.progress k;
       hooks = hooks_turned at k;
     }
+
+-- and after turns of these seats, one after the other
+unfoldable pub after_seats : Position → (seats : List ℕ) → Position
+after_seats at seats = fold turned at seats
+
+-- turns of some seats made it of an earlier one
+abbrev pub IsLater : (old new : Position) → Type 0
+IsLater old new = (seats : List ℕ) × (new ≡ after_seats old seats)
 
 -- ---- which stay
 

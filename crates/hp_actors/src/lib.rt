@@ -6,10 +6,10 @@
 //! is answered, and `finish` gives the run up: its hooks go back to the rack.
 //!
 //! Contracts see how far a run has come, as a `Position` (`specs/Positions.antt`); what a turn, a round and
-//! a schedule make of it say hp_model's `ScriptTurns`, `ScriptRun` and `Schedule`. `Racks.antt` says which
-//! hooks setups take, and which come last at the end. `Turned.antt`, `Asking.antt` and `Waiting.antt` are for
-//! the clauses of the code: what an actor's turn makes, what holds of a run between two turns, and which actors
-//! wait, so that their turns are passed over.
+//! a schedule make of it say hp_model's `ScriptTurns`, `ScriptRun` and `Schedule`. `Hooks.antt` says which hooks
+//! the operations have, and what turns make of them, `Racks.antt` how many setups take of a rack. `Turned.antt`,
+//! `Asking.antt` and `Waiting.antt` are for the clauses of the code: what an actor's turn makes, what holds of a
+//! run between two turns, and which actors wait, so that their turns are passed over.
 //!
 //! The code goes from one actor to the whole: `actor`, `seating` and `start`, `run` for one turn of any
 //! seat, `rounds`, `schedule`, `finish`.

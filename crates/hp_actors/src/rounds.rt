@@ -7,7 +7,7 @@ ghost use Rattle.hp_model.specs.NextEvent.{due_entry};
 ghost use Rattle.hp_model.specs.Processors.{present};
 ghost use Rattle.hp_model.specs.ScriptRun.{start, is_over, after_round, IsRun};
 ghost use Rattle.hp_model.specs.ScriptTurns.{after_turns};
-ghost use Rattle.hp_actors.specs.Hooks.{KeepsHooks};
+ghost use Rattle.hp_actors.specs.Hooks.{IsLater, KeepsHooks};
 
 use crate::run::Run;
 use hp_hook::Hook;
@@ -17,12 +17,14 @@ impl<H: Hook> Run<H> {
     /// Rounds, until every operation is answered.
     ///
     /// Takes memory as turns do; where that is wanting the run stands where it came: `NoMemory`.
+    #[tactic(auto, using(crate::proofs::Later::later_same))]
     pub(crate) fn play_rounds(&mut self) -> Result<(), NoMemory>
         ensures ran { (seats : List ℕ) →
             self.old.progress ≡ after_turns self.old.head self.old.actors (start self.old.head self.old.actors) seats →
             OnOk result (IsRun self.old.head self.old.actors seats self.new.progress.events) }
         ensures head { self.new.head ≡ self.old.head }
         ensures actors { self.new.actors ≡ self.old.actors }
+        ensures made { IsLater self.old self.new }
         ensures kept { KeepsHooks self.old self.new }
         ensures over { OnOk result (is_over self.new.actors self.new.progress ≡ true) }
     {
@@ -42,6 +44,7 @@ impl<H: Hook> Run<H> {
             ≡ after_round self.old.head self.old.actors self.old.progress) }
         ensures head { self.new.head ≡ self.old.head }
         ensures actors { self.new.actors ≡ self.old.actors }
+        ensures made { IsLater self.old self.new }
         ensures kept { KeepsHooks self.old self.new }
     {
         self.serve_threads();
@@ -67,11 +70,12 @@ impl<H: Hook> Run<H> {
     ///
     /// Takes no memory.
     fn serve_threads(&mut self)
-        ensures { self.new
+        ensures progress { self.new
             ≡ record self.old {
               progress = after_turns self.old.head self.old.actors self.old.progress
                   (numbers (length (present self.old.head)));
             } }
+        ensures made { IsLater self.old self.new }
     {
         let mut next = 0;
         while let Some(seat) = self.next_due(next) {

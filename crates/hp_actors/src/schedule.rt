@@ -6,7 +6,7 @@ ghost use Rattle.hp_model.specs.Schedule.{IsRunBy, first_turns, mix};
 ghost use Rattle.hp_model.specs.ScriptRun.{start, is_over};
 ghost use Rattle.hp_model.specs.ScriptTurns.{after_turns};
 ghost use Rattle.hp_script.specs.Schedules.{schedule_written};
-ghost use Rattle.hp_actors.specs.Hooks.{KeepsHooks};
+ghost use Rattle.hp_actors.specs.Hooks.{IsLater, KeepsHooks};
 
 use crate::run::Run;
 use hp_hook::Hook;
@@ -16,15 +16,16 @@ use hp_states::NoMemory;
 impl<H: Hook> Run<H> {
     /// The whole run: the turns of the script's schedule, and then rounds until every operation is answered.
     ///
-    /// The run is at its start. A hook that came back with its operation isn't used again, and stays as it came
-    /// back. Takes memory as turns do; where that is wanting the run stands where it came: `NoMemory`. Schedules
-    /// are this project's own.
+    /// The run is at its start. Turns of its seats made each hook that operations have then; one that came back
+    /// isn't used again, and stays as it came back. Takes memory as turns do; where that is wanting the run
+    /// stands where it came: `NoMemory`. Schedules are this project's own.
     pub fn play(&mut self, schedule: &Schedule) -> Result<(), NoMemory>
         requires { self.old.progress ≡ start self.old.head self.old.actors }
         ensures ran { OnOk result (IsRunBy self.old.head self.old.actors
             (schedule_written schedule.now) self.new.progress.events) }
         ensures head { self.new.head ≡ self.old.head }
         ensures actors { self.new.actors ≡ self.old.actors }
+        ensures made { IsLater self.old self.new }
         ensures kept { KeepsHooks self.old self.new }
         ensures over { OnOk result (is_over self.new.actors self.new.progress ≡ true) }
     {
@@ -40,6 +41,7 @@ impl<H: Hook> Run<H> {
             (schedule_written schedule.now))) }
         ensures head { self.new.head ≡ self.old.head }
         ensures actors { self.new.actors ≡ self.old.actors }
+        ensures made { IsLater self.old self.new }
         ensures kept { KeepsHooks self.old self.new }
     {
         match schedule {
@@ -50,11 +52,13 @@ impl<H: Hook> Run<H> {
     }
 
     /// One turn of each of some seats, in their order.
+    #[tactic(auto, using(crate::proofs::Later::later_same))]
     fn play_turns(&mut self, seats: &[u32]) -> Result<(), NoMemory>
         ensures ok { OnOk result (self.new.progress
             ≡ after_turns self.old.head self.old.actors self.old.progress seats.now) }
         ensures head { self.new.head ≡ self.old.head }
         ensures actors { self.new.actors ≡ self.old.actors }
+        ensures made { IsLater self.old self.new }
         ensures kept { KeepsHooks self.old self.new }
     {
         for seat in seats {
@@ -67,12 +71,14 @@ impl<H: Hook> Run<H> {
     }
 
     /// So many turns of seats that are drawn from a seed.
+    #[tactic(auto, using(crate::proofs::Later::later_same))]
     fn play_drawn(&mut self, seed: u64, turns: u32) -> Result<(), NoMemory>
         ensures ok { OnOk result (self.new.progress
             ≡ after_turns self.old.head self.old.actors self.old.progress
             (first_turns (length (present self.old.head) + length self.old.actors) (mix seed turns))) }
         ensures head { self.new.head ≡ self.old.head }
         ensures actors { self.new.actors ≡ self.old.actors }
+        ensures made { IsLater self.old self.new }
         ensures kept { KeepsHooks self.old self.new }
     {
         self.sound();

@@ -4,6 +4,7 @@ use Rattle.hp_model.specs.Processors.{present}
 use Rattle.hp_model.specs.Schedule.{first_turns}
 use Rattle.hp_script.specs.Schedules.{schedule_written}
 use Rattle.hp_actors.proofs.HooksTurned.{keeps_on}
+use Rattle.hp_actors.proofs.Later.{later_on}
 use Rattle.hp_actors.proofs.Turning.{schedule_ran}
 use Rattle.hp_actors.proofs.run.Run.play.Goals as goal
 
@@ -17,3 +18,7 @@ returns-clause-ran g c =
 pub returns-clause-kept : goal.returns-clause-kept
 returns-clause-kept g c =
     keeps_on c.args.self.now c.play_schedule.new.self c.play_rounds.new.self c.play_schedule.ensures.kept c.play_rounds.ensures.kept
+
+pub returns-clause-made : goal.returns-clause-made
+returns-clause-made g c =
+    later_on c.args.self.now c.play_schedule.new.self c.play_rounds.new.self c.play_schedule.ensures.made c.play_rounds.ensures.made

@@ -3,6 +3,7 @@ use Rattle.std.proofs.Common.{◌≡◌, ℕ, ◌+◌, ◌-◌, ◌∷◌, ap, s
 use Rattle.hp_model.specs.Draws.{draws, state_after}
 use Rattle.hp_model.specs.ScriptTurns.{after_turns}
 use Rattle.hp_actors.proofs.HooksTurned.{keeps_on}
+use Rattle.hp_actors.proofs.Later.{later_on, later_one, turn_later}
 use Rattle.hp_actors.proofs.Turning.{turn_left, draws_left, no_draws, all_made, some_present}
 use Rattle.hp_actors.proofs.run.Run.play_drawn.Goals as goal
 
@@ -29,6 +30,7 @@ loop-preserved-then-still_waits g c =
           (after_turns c.args.self.now.head c.args.self.now.actors c.args.self.now.progress (draws m c.args.seed c.args.turns))
           i.head i.actors
           (ap (after_turns c.args.self.now.head c.args.self.now.actors c.loop.self.progress) (sym next) ∙ i.left) still;
+      made = i.made;
       kept = i.kept;
     }
 
@@ -51,6 +53,7 @@ loop-preserved g c =
           (after_turns c.args.self.now.head c.args.self.now.actors c.args.self.now.progress (draws m c.args.seed c.args.turns))
           i.head i.actors
           (ap (after_turns c.args.self.now.head c.args.self.now.actors c.loop.self.progress) (sym next) ∙ i.left) (ap (λ p. p.progress) e);
+      made = later_on c.args.self.now c.loop.self c.turn.new.self i.made (later_one c.loop.self c.turn.new.self c.draw-seat.result e);
       kept = keeps_on c.args.self.now c.loop.self c.turn.new.self i.kept c.turn.ensures.kept;
     }
 
@@ -64,3 +67,8 @@ returns-clause-ok g c =
     (all_made c.args.self.now.head c.args.self.now.actors c.loop.self.progress
     (after_turns c.args.self.now.head c.args.self.now.actors c.args.self.now.progress (draws m c.args.seed c.args.turns))
     (draws m c.loop.draws.state (c.args.turns - c.loop.counter)) (no_draws m c.loop.draws.state c.args.turns c.loop.counter c.loop-test.false) i.left)
+
+pub returns-in_err-turn-clause-made : goal.returns-in_err-turn-clause-made
+returns-in_err-turn-clause-made g c =
+    later_on c.args.self.now c.loop.self c.turn.new.self c.loop.invariant.made
+    (turn_later c.turn.result c.loop.self c.turn.new.self c.draw-seat.result c.turn.ensures.ok c.turn.ensures.err)

@@ -1,6 +1,7 @@
 -- Rounds until all is answered make the run.
 use Rattle.std.proofs.Common.{sym, ◌∙◌}
 use Rattle.hp_actors.proofs.HooksTurned.{keeps_on}
+use Rattle.hp_actors.proofs.Later.{later_on}
 use Rattle.hp_actors.proofs.RoundLaws.{IsRound, round_smaller, more_rounds}
 use Rattle.hp_actors.proofs.run.Run.play_rounds.Goals as goal
 
@@ -38,9 +39,14 @@ loop-self-preserved g c =
       script = c.sound-in-loop-self.ensures.script;
       reached = c.sound-in-loop-self.ensures.reached;
       rounds = λ seats is. more_rounds c.args.self.now c.loop-self.self c.round.new.self i.head i.actors round seats (i.rounds seats is);
+      made = later_on c.args.self.now c.loop-self.self c.round.new.self i.made c.round.ensures.made;
       kept = keeps_on c.args.self.now c.loop-self.self c.round.new.self i.kept c.round.ensures.kept;
     }
 
 pub returns-in_err-round-clause-kept : goal.returns-in_err-round-clause-kept
 returns-in_err-round-clause-kept g c =
     keeps_on c.args.self.now c.loop-self.self c.round.new.self c.loop-self.invariant.kept c.round.ensures.kept
+
+pub returns-in_err-round-clause-made : goal.returns-in_err-round-clause-made
+returns-in_err-round-clause-made g c =
+    later_on c.args.self.now c.loop-self.self c.round.new.self c.loop-self.invariant.made c.round.ensures.made

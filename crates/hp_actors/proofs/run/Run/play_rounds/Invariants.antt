@@ -6,7 +6,7 @@ use Rattle.hp_model.specs.Scripts.{IsScript}
 use Rattle.hp_model.specs.ScriptRun.{start}
 use Rattle.hp_model.specs.ScriptTurns.{after_turns}
 use Rattle.hp_actors.specs.Asking.{IsReached}
-use Rattle.hp_actors.specs.Hooks.{KeepsHooks}
+use Rattle.hp_actors.specs.Hooks.{IsLater, KeepsHooks}
 use Rattle.hp_actors.proofs.RoundLaws.{HasRounds}
 use Rattle.hp_actors.proofs.run.Run.play_rounds.Given as goal
 
@@ -21,6 +21,7 @@ invariant-loop-self g l =
           (seats : List ℕ) →
           l.fn.self.progress ≡ after_turns l.fn.self.head l.fn.self.actors (start l.fn.self.head l.fn.self.actors) seats →
           HasRounds l.fn.self.head l.fn.self.actors seats l.self.progress;
+      made : IsLater l.fn.self l.self;
       kept : KeepsHooks l.fn.self l.self;
     }
 

@@ -6,6 +6,7 @@ use Rattle.hp_model.specs.ScriptTurns.{after_turns}
 use Rattle.hp_script.specs.declared.schedule.Schedule.{Schedule}
 use Rattle.hp_script.specs.Schedules.{schedule_written}
 use Rattle.hp_actors.proofs.HooksTurned.{keeps_same}
+use Rattle.hp_actors.proofs.Later.{later_same}
 use Rattle.hp_actors.proofs.Progressing.{turns_none}
 use Rattle.hp_actors.proofs.run.Run.play_schedule.Goals as goal
 
@@ -19,3 +20,6 @@ returns-in-Rounds-clause-ok g c =
 
 pub returns-in-Rounds-clause-kept : goal.returns-in-Rounds-clause-kept
 returns-in-Rounds-clause-kept g c = keeps_same c.args.self.now c.args.self.now refl refl
+
+pub returns-in-Rounds-clause-made : goal.returns-in-Rounds-clause-made
+returns-in-Rounds-clause-made g c = later_same c.args.self.now
