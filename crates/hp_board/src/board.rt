@@ -16,7 +16,6 @@ use hp_hook::Hook;
 use hp_machine::Machine;
 use hp_model::net_of;
 use hp_states::{NoMemory, TEARDOWN_CPU};
-use std::alloc::Global;
 use std::marker::Model;
 
 /// The machine of CPU hotplug: processors, states with their hooks, and a journal of all that was done.
@@ -140,9 +139,10 @@ impl<H: Hook> Board<H> {
     ///
     /// Takes a time that grows with the journal, and memory for the keys; where there is none:
     /// `NoMemory`. That a key is in force is this project's own.
-    pub fn net(&self, alloc: Global, cpu: u32) -> Result<Keys, NoMemory>
+    pub fn net(&self, cpu: u32) -> Result<Keys, NoMemory>
         ensures { IfOk result (λ keys. keys ≡ keys_in_force cpu self.now.events) }
     {
-        net_of(alloc, self.machine.journal(), cpu)
+        let journal = self.machine.journal();
+        net_of(journal.allocator(), journal, cpu)
     }
 }

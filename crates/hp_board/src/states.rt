@@ -7,7 +7,6 @@ ghost use Rattle.hp_model.specs.Registrations.{registration};
 use crate::board::Board;
 use hp_hook::Hook;
 use hp_states::NoMemory;
-use std::alloc::Global;
 
 impl<H: Hook> Board<H> {
     /// The bytes of the `states` file after the journal: a line for each state that has a name, in rising
@@ -20,12 +19,13 @@ impl<H: Hook> Board<H> {
     /// There is no other refusal. Takes memory for the text, and time for the states and the text. The form
     /// is that of `states_show` of `kernel/cpu.c`; that a state is named after its subsystem is this
     /// project's own.
-    pub fn states_text(&self, alloc: Global) -> Result<Vec<u8>, NoMemory>
+    pub fn states_text(&self) -> Result<Vec<u8>, NoMemory>
         ensures table { IfOk result (λ text. text.items ≡ states_file (name_in self.now.head self.now.places)) }
         ensures journal { registration self.now.events ≡ None →
             IfOk result (λ text. text.items ≡ states self.now.head self.now.events) }
     {
         self.machine.sound();
-        hp_files::show_states(alloc, self.machine.journal().head(), self.machine.table())
+        let journal = self.machine.journal();
+        hp_files::show_states(journal.allocator(), journal.head(), self.machine.table())
     }
 }

@@ -86,7 +86,7 @@ fn the_hooks_go_behind_those_of_the_rack(rt: HostRuntime) -> Result<(), Fail> {
 #[test]
 fn the_states_file_names_what_is_registered(rt: HostRuntime) -> Result<(), Fail> {
     let board = played(rt.alloc(), TWO_SETUPS.as_slice())?;
-    let text = board.states_text(rt.alloc())?;
+    let text = board.states_text()?;
     assert!(rt; text.as_slice() == STATES);
     Ok(())
 }

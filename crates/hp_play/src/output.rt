@@ -30,6 +30,6 @@ pub fn text_of<H: Hook>(alloc: Global, of: Output, board: &Board<H>) -> Result<V
     match of {
         Output::Journal => hp_print::journal_and_summary(alloc, board.journal()),
         Output::Summary => hp_print::summary(alloc, board.journal()),
-        Output::States => board.states_text(alloc),
+        Output::States => board.states_text(),
     }
 }
