@@ -18,7 +18,7 @@ use Rattle.hp_model.specs.StandsRegistrations.{RegBegins}
 use Rattle.hp_model.proofs.Passing.{passed, none_holds, setup_unnamed, above_0, begins_alone}
 use Rattle.hp_model.proofs.InFlight.{none_of}
 use Rattle.hp_table.specs.Step.{Step, step_at}
-use Rattle.hp_table.specs.Instances.{instances_at, is_multi, takes, is_full, has_instance}
+use Rattle.hp_table.specs.Instances.{instances_at, is_multi, takes, has_no_room, has_instance}
 use Rattle.hp_table.specs.Sound.{IsSound}
 use Rattle.hp_ledger.specs.Table.{IsTableOf}
 use Rattle.hp_ledger.specs.TableChanges.{CanChange}
@@ -88,7 +88,7 @@ can_change head es places seat (Add s inst form) state t sound b =
     not_among (is_multi (step_at places s)) (sym (ap (λ r. not (is_multi_state r)) is ∙ ap not (multi_alike (step_at places s))) ∙ late.0) in
     let new : has_instance places s inst ≡ false =
     sym (ap (λ r. among inst (instances r)) is ∙ among_alike inst (step_at places s)) ∙ late.1.0 in
-    let full : is_full places s ≡ false =
+    let full : has_no_room places s ≡ false =
     sym
     (ap (λ r. leb MAX_INSTANCES (length (instances r)) || leb MAX_TABLE_INSTANCES (instance_count head es)) is
     ∙ ap (λ xs. leb MAX_INSTANCES (length xs) || leb MAX_TABLE_INSTANCES (instance_count head es)) (insts_alike (step_at places s))

@@ -24,7 +24,7 @@ use Rattle.hp_table.specs.Step.{Step}
 use Rattle.hp_walk.specs.declared.step.Step.{Step as Ask}
 use Rattle.hp_walk.specs.declared.step.Step.TheVariants as ask
 use Rattle.hp_walk.specs.After.{IsAfter}
-use Rattle.hp_walk.specs.Asked.{asked, entry_of, CanTake, IfCall}
+use Rattle.hp_walk.specs.Asked.{asked, entry_of, FitsStep, IfCall}
 use Rattle.hp_walk.specs.Took.{Took}
 use Rattle.hp_walk.specs.Keys.{keys_by}
 use Rattle.hp_walk.proofs.Alike.{after_alike, asked_alike, within_alike}
@@ -114,7 +114,7 @@ can_enter head xs places seat cpu state inst dir how old n lawful h t has is =
             within = within_alike K (keys_by places) same w.0.walk b.after.within;
             room = flight_room head xs cpu w.0 lawful b;
           };
-      asks = subst (λ x. CanTake x how) (sym asks) a.fits_is;
+      asks = subst (λ x. FitsStep x how) (sym asks) a.fits_is;
     } in
     (at_place-within old.by_cpu.items cpu w.0 w.1, rw w.1 goes)
 

@@ -22,7 +22,7 @@ use Rattle.hp_ledger.specs.declared.parts.Parts.{Parts}
 use Rattle.hp_ledger.specs.Account.{IsAccount}
 use Rattle.hp_ledger.specs.Appending.{Appended, Admitted, CanAdmit}
 use Rattle.hp_ledger.specs.Flights.{IsFlights}
-use Rattle.hp_ledger.specs.Ledger.{Entries, IsKept}
+use Rattle.hp_ledger.specs.Ledger.{Entries, IsAccounted}
 use Rattle.hp_ledger.specs.Locks.{IsLocks}
 use Rattle.hp_ledger.specs.Operations.{IsHeldBy}
 use Rattle.hp_ledger.specs.Processors.{IsStanding}
@@ -49,9 +49,9 @@ pub record GoesOn (old : Story) (freed : ℕ) (e : Event) (new : Parts) : Type 0
   pub room : 0 < old.promised
   pub freed_fits : freed ≤ old.promised - 1
   pub kept :
-      IsKept (record { head = old.head; events = old.events ++ e ∷ []; promised = (old.promised - 1) - freed }) 0 new
+      IsAccounted (record { head = old.head; events = old.events ++ e ∷ []; promised = (old.promised - 1) - freed }) 0 new
 
-goes_on : (old : Story) (reserved freed : ℕ) (parts new : Parts) (places : List (Option Step)) (e : Event) → IsKept old reserved parts →
+goes_on : (old : Story) (reserved freed : ℕ) (parts new : Parts) (places : List (Option Step)) (e : Event) → IsAccounted old reserved parts →
     Stands old.head old.events e → reserved ≡ taken (need old.head old.events e) → IsTableOf old.head (old.events ++ e ∷ []) places →
     Appended (keys_by places) reserved freed e parts new → GoesOn old freed e new
 goes_on old reserved freed parts new places e k stands room t h =
@@ -71,7 +71,7 @@ goes_on old reserved freed parts new places e k stands room t h =
 
 -- of a ledger whose view is this
 pub goes_on_from : (old : Story) (reserved freed : ℕ) (parts new : Parts) (places : List (Option Step)) (e : Event) (l : Entries) →
-    record { head = old.head; events = old.events; reserved = reserved } ≡ l → IsKept old reserved parts → Stands l.head l.events e →
+    record { head = old.head; events = old.events; reserved = reserved } ≡ l → IsAccounted old reserved parts → Stands l.head l.events e →
     l.reserved ≡ taken (need l.head l.events e) → IsTableOf l.head (l.events ++ e ∷ []) places →
     Appended (keys_by places) reserved freed e parts new → GoesOn old freed e new
 goes_on_from old reserved freed parts new places e l view k stands room t h =
@@ -103,11 +103,11 @@ admitted_account head es p new seat role lawful stands is h =
           subst (IsSuspended head (es ++ e ∷ [])) (sym h.suspended) (suspension_more head es p.suspended op.Disable e tt is.suspended);
     }
 
-pub admits_seat : (old : Story) (reserved seat : ℕ) (parts new : Parts) (role : Role) → IsKept old reserved parts →
+pub admits_seat : (old : Story) (reserved seat : ℕ) (parts new : Parts) (role : Role) → IsAccounted old reserved parts →
     Stands old.head old.events (Admit (admits old.events) role) → reserved ≡ 2 → seat ≡ length parts.seats.roles → Admitted role parts new →
     (0 < old.promised)
     × (seat ≡ admits old.events)
-    × IsKept (record { head = old.head; events = old.events ++ Admit seat role ∷ []; promised = old.promised - 1 }) 0 new
+    × IsAccounted (record { head = old.head; events = old.events ++ Admit seat role ∷ []; promised = old.promised - 1 }) 0 new
 admits_seat old reserved seat parts new role k stands room given h =
     let at : seat ≡ admits old.events = given ∙ k.account.seats.admitted in
     let stands_so : Stands old.head old.events (Admit seat role) =
@@ -124,7 +124,7 @@ admits_seat old reserved seat parts new role k stands room given h =
     )
 
 -- a seat can come in where its admission stands
-pub can_admit : (old : Story) (reserved : ℕ) (parts : Parts) (role : Role) → IsKept old reserved parts →
+pub can_admit : (old : Story) (reserved : ℕ) (parts : Parts) (role : Role) → IsAccounted old reserved parts →
     Stands old.head old.events (Admit (admits old.events) role) → CanAdmit role parts
 can_admit old reserved parts role k stands =
     let all = k.account.seats.admitted in
@@ -149,7 +149,7 @@ can_admit old reserved parts role k stands =
     free (Ap cpu) can = sym (k.account.seats.threads_are cpu) ∙ can.1
 
 pub begins_kept : (head : Head) (parts : Parts) → IsHead head → IsAccount head [] parts →
-    IsKept (record { head = head; events = []; promised = 0 }) 0 parts
+    IsAccounted (record { head = head; events = []; promised = 0 }) 0 parts
 begins_kept head parts h is =
     let none = promised_none head in
     record { lawful = (h, tt); account = is; promises = omega (arith, none) }

@@ -28,7 +28,7 @@ use Rattle.hp_model.proofs.InFlight.{none_of}
 use Rattle.hp_model.proofs.Passing.{none_holds}
 use Rattle.hp_model.proofs.WaitLemmas.{first_waits, registration_waits, register_waits}
 use Rattle.hp_locks.specs.declared.why.Why.{Why}
-use Rattle.hp_table.specs.Instances.{is_full, is_multi_at, has_instance}
+use Rattle.hp_table.specs.Instances.{has_no_room, is_multi_at, has_instance}
 use Rattle.hp_table.specs.Slots.{IsLowestFree, IsFull}
 use Rattle.hp_table.specs.Step.{Step, step_at}
 use Rattle.hp_suspend.proofs.Places.{count_places, agree_below, passing}
@@ -99,7 +99,7 @@ pub add_said : (head : Head) (es : List Event) (places : List (Option Step)) (s 
     IsTableOf head es places → length places ≡ ONLINE + 1 →
     first_that_holds (refusals_after_waits head es (Add s inst form))
     ≡ cond (not (is_multi_at places s)) (Some EINVAL)
-    (cond (has_instance places s inst) (Some EBUSY) (cond (is_full places s) (Some ENOSPC) None))
+    (cond (has_instance places s inst) (Some EBUSY) (cond (has_no_room places s) (Some ENOSPC) None))
 add_said head es places s inst form idle t states =
     rw (
       says head es places s idle t,

@@ -16,7 +16,7 @@ use Rattle.hp_model.specs.Suspend.{disabled, frozen, wakeup_pending, is_freeze, 
 use Rattle.hp_model.proofs.Laws.{disabled_push, frozen_push, wakeup_push}
 use Rattle.hp_model.proofs.Counts.{occurs-append}
 use Rattle.hp_ledger.specs.Flags.{AreFlags}
-use Rattle.hp_ledger.specs.Suspended.{Suspension, IsSuspended, none_frozen, entered, walked, ended}
+use Rattle.hp_ledger.specs.Suspended.{Suspension, IsSuspended, none_frozen, once_entered, walked, ended}
 use Rattle.hp_ledger.specs.After.{suspension_after}
 
 -- the operation that holds the map lock, where a walk or an operation ends, and the processor of the walk
@@ -79,7 +79,7 @@ frozen_if head es false s xs h = h
 
 -- an operation begins
 enters : (head : Head) (es : List Event) (s : Suspension) (seat : ℕ) (op : Op) → IsSuspended head es s →
-    IsSuspended head (es ++ Enter seat op ∷ []) (entered op s)
+    IsSuspended head (es ++ Enter seat op ∷ []) (once_entered op s)
 enters head es s seat op is =
     let e : Event = Enter seat op in
     record {

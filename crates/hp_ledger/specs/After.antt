@@ -10,7 +10,7 @@ use Rattle.hp_model.specs.Armed.{armed_by}
 use Rattle.hp_locks.specs.Holders.{Holders, with_map, with_writer, with_registrar, with_reader}
 use Rattle.hp_ledger.specs.Seats.{Roll, with_seat, without_seat}
 use Rattle.hp_ledger.specs.Processors.{Standing, with_settled, with_armed}
-use Rattle.hp_ledger.specs.Suspended.{Suspension, entered, walked, ended, woken}
+use Rattle.hp_ledger.specs.Suspended.{Suspension, once_entered, walked, ended, woken}
 
 abbrev pub roll_after : Event → Roll → Roll
 roll_after (Admit seat role) r = with_seat role r
@@ -30,7 +30,7 @@ standing_after to _ p = p
 
 -- `op` is the operation that holds the map lock, where a walk or an operation ends
 abbrev pub suspension_after : Op → Event → Suspension → Suspension
-suspension_after op (Enter seat asked) s = entered asked s
+suspension_after op (Enter seat asked) s = once_entered asked s
 suspension_after op (WalkEnd seat cpu answer) s = walked op cpu answer s
 suspension_after op (OpEnd seat answer) s = ended op s
 suspension_after op (Wakeup seat) s = woken s

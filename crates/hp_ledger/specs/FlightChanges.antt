@@ -3,7 +3,7 @@ use Rattle.std.specs.Prelude.{◌≡◌, ◌<◌, ◌-◌, ℕ, Option, Some, No
 use Rattle.hp_event.specs.declared.how.How.{How}
 use Rattle.hp_walk.specs.Cursor.{cpu_of, from_of, to_of}
 use Rattle.hp_walk.specs.After.{IsAfter, IsWithin}
-use Rattle.hp_walk.specs.Asked.{asked, CanTake}
+use Rattle.hp_walk.specs.Asked.{asked, FitsStep}
 use Rattle.hp_walk.specs.Took.{Took}
 use Rattle.hp_ledger.specs.declared.flights.Flight.{Flight}
 use Rattle.hp_ledger.specs.declared.flights.Flights.{Flights}
@@ -36,7 +36,7 @@ pub record IsGoing (keys : ℕ → List ℕ) (flight : Flight) : Type 0 where
 -- it asks for an entry that can be made so
 pub record CanGoOn (keys : ℕ → List ℕ) (how : How) (flight : Flight) : Type 0 where
   pub going : IsGoing keys flight
-  pub asks : CanTake (asked keys flight.walk) how
+  pub asks : FitsStep (asked keys flight.walk) how
 
 abbrev pub IfWalks : Option Flight → (Flight → Type 0) → Type 0
 IfWalks None P = ⊥

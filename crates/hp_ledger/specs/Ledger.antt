@@ -19,14 +19,14 @@ pub record Entries : Type 0 where
   pub events : List Event
   pub reserved : ℕ
 
-pub record IsKept (journal : Story) (reserved : ℕ) (parts : Parts) : Type 0 where
+pub record IsAccounted (journal : Story) (reserved : ℕ) (parts : Parts) : Type 0 where
   pub lawful : IsLawful journal.head journal.events
   pub account : IsAccount journal.head journal.events parts
   pub promises : journal.promised ≡ promised journal.head journal.events + reserved
 
 -- and it knows what comes next of what is under way
 pub record IsLedger (journal : Story) (reserved : ℕ) (parts : Parts) (coming : Option Coming) : Type 0 where
-  pub kept : IsKept journal reserved parts
+  pub kept : IsAccounted journal reserved parts
   pub coming_is : IsUnderWay journal.head journal.events coming
 
 -- no seat comes in by it

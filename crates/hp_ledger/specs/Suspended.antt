@@ -27,8 +27,8 @@ abbrev pub none_frozen : List Bool → List Bool
 none_frozen flags = replicate (length flags) false
 
 -- after the begin of an operation: a thaw takes back one count, and a freeze begins its record
-abbrev pub entered : Op → Suspension → Suspension
-entered op s =
+abbrev pub once_entered : Op → Suspension → Suspension
+once_entered op s =
     record {
       disabled = (if is_thaw op then s.disabled - 1 else s.disabled);
       frozen = (if is_freeze op then none_frozen s.frozen else s.frozen);

@@ -161,7 +161,7 @@ fn refused_add<H: Hook>(table: &Table<H>, state: u32, inst: u32) -> Option<u32>
     if table.instances(state).contains(&inst) {
         return Some(EBUSY);
     }
-    table.is_full(state).then_some(ENOSPC)
+    table.has_no_room(state).then_some(ENOSPC)
 }
 
 /// The number by which a del is refused.

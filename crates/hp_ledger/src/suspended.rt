@@ -2,7 +2,7 @@
 
 ghost use Rattle.std.specs.Prelude.{◌≡◌, ◌<◌, ◌+◌, IfOk, false, get_or, length, replicate};
 ghost use Rattle.hp_states.specs.declared.limits.TheConstants.{MAX_EVENTS};
-ghost use Rattle.hp_ledger.specs.Suspended.{entered, walked, ended, woken};
+ghost use Rattle.hp_ledger.specs.Suspended.{once_entered, walked, ended, woken};
 
 use hp_event::{Answer, Op};
 use hp_states::{MAX_EVENTS, NoMemory};
@@ -73,7 +73,7 @@ impl Suspended {
     /// An operation begins: a thaw takes back a count of a freeze, and a freeze begins its record.
     /// Takes no memory. After `thaw_secondary_cpus` and `freeze_secondary_cpus` of `kernel/cpu.c`.
     pub fn enter(&mut self, op: Op)
-        ensures { self.new ≡ entered op self.old }
+        ensures { self.new ≡ once_entered op self.old }
     {
         match op {
             Op::Thaw => self.disabled = self.disabled.saturating_sub(1),

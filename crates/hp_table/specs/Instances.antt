@@ -36,8 +36,8 @@ abbrev pub instance_count : List (Option Step) → ℕ
 instance_count places = sum_by instances_in places
 
 -- whether a state has as many instances as a state may have, or the table as many as a table may have
-abbrev pub is_full : List (Option Step) → (state : ℕ) → Bool
-is_full places s = nat_le MAX_INSTANCES (length (instances_at places s)) || nat_le MAX_TABLE_INSTANCES (instance_count places)
+abbrev pub has_no_room : List (Option Step) → (state : ℕ) → Bool
+has_no_room places s = nat_le MAX_INSTANCES (length (instances_at places s)) || nat_le MAX_TABLE_INSTANCES (instance_count places)
 
 -- a step with one instance more: it is the newest
 abbrev pub with_instance : ℕ → Step → Step
@@ -55,4 +55,4 @@ takes places s inst = not (inst == 0) && is_multi_at places s
 pub record CanAdd (places : List (Option Step)) (state inst : ℕ) : Type 0 where
   pub taken : takes places state inst ≡ true
   pub new : has_instance places state inst ≡ false
-  pub room : is_full places state ≡ false
+  pub room : has_no_room places state ≡ false

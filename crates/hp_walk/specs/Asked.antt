@@ -32,9 +32,9 @@ abbrev pub asked : (keys : ℕ → List ℕ) → Walk → Step
 asked keys w = asked_at keys (direction w.from w.to) w.position
 
 -- an entry is asked for that can be made so
-abbrev pub CanTake : Step → How → Type 0
-CanTake (ask.Call key d place first) how = fits how d key.state place ≡ true
-CanTake (ask.Ended answer) how = ⊥
+abbrev pub FitsStep : Step → How → Type 0
+FitsStep (ask.Call key d place first) how = fits how d key.state place ≡ true
+FitsStep (ask.Ended answer) how = ⊥
 
 -- what is so of the entry that is asked for, if one is
 abbrev pub IfCall : Step → (Key → Dir → Type 0) → Type 0

@@ -7,7 +7,7 @@ ghost use Rattle.hp_model.specs.Entries.{is_done};
 ghost use Rattle.hp_model.specs.Shown.{heading};
 ghost use Rattle.hp_states.specs.Crossings.{state_after};
 ghost use Rattle.hp_walk.specs.Keys.{keys_by};
-ghost use Rattle.hp_walk.specs.Asked.{asked, call_at, CanTake};
+ghost use Rattle.hp_walk.specs.Asked.{asked, call_at, FitsStep};
 ghost use Rattle.hp_walk.specs.After.{IsWithin, IsAfter, Asks, entries_left};
 ghost use Rattle.hp_model.specs.Plan.{keys_on};
 ghost use Rattle.hp_walk.specs.Took.{Took, IsNextOnTheWay, IsNextInRollback};
@@ -122,7 +122,7 @@ impl Walk {
     /// states up to the next with a key. After `cpuhp_invoke_callback_range` of `kernel/cpu.c`.
     pub fn took<H: Hook>(&mut self, table: &Table<H>, how: How)
         requires within { IsWithin (keys_by table.now) self.old }
-        requires asked { CanTake (asked (keys_by table.now) self.old) how }
+        requires asked { FitsStep (asked (keys_by table.now) self.old) how }
         ensures { Took (keys_by table.now) how self.old self.new }
     {
         match self.position {
@@ -171,7 +171,7 @@ impl Walk {
     fn took_forward<H: Hook>(&mut self, table: &Table<H>, state: u32, key: u32, how: How)
         requires position { self.old.position ≡ Position.Forward state key }
         requires within { IsWithin (keys_by table.now) self.old }
-        requires asked { CanTake (asked (keys_by table.now) self.old) how }
+        requires asked { FitsStep (asked (keys_by table.now) self.old) how }
         ensures { Took (keys_by table.now) how self.old self.new }
     {
         let dir = Dir::between(self.from, self.to);
@@ -244,7 +244,7 @@ impl Walk {
     fn took_back<H: Hook>(&mut self, table: &Table<H>, state: u32, key: u32, code: u32, how: How)
         requires position { self.old.position ≡ Position.Back state key code }
         requires within { IsWithin (keys_by table.now) self.old }
-        requires asked { CanTake (asked (keys_by table.now) self.old) how }
+        requires asked { FitsStep (asked (keys_by table.now) self.old) how }
         ensures { Took (keys_by table.now) how self.old self.new }
     {
         let dir = Dir::between(self.from, self.to);

@@ -2,7 +2,7 @@
 
 ghost use Rattle.std.specs.Prelude.{◌≡◌, ◌≢◌, ◌+◌, ◌<◌, ◌≤◌, ◌↔◌, ◌&&◌, true, false, AllPairs, IfErr, IsErrOf, IsSome, IsTrue, OnOk, OnErr, length, slice_index};
 ghost use Rattle.hp_table.specs.Step.{step_at, bare, changed_at};
-ghost use Rattle.hp_table.specs.Instances.{instances_at, is_multi_at, has_instance, is_full, takes, CanAdd, with_instance, without_instance};
+ghost use Rattle.hp_table.specs.Instances.{instances_at, is_multi_at, has_instance, has_no_room, takes, CanAdd, with_instance, without_instance};
 ghost use Rattle.hp_table.specs.Keys.{keys_by, keys_of, keys_between};
 ghost use Rattle.hp_table.specs.Sound.{IsSound};
 
@@ -100,7 +100,7 @@ impl<H: Hook> Table<H> {
             ↔ (IsTrue (takes self.old state inst) × IsTrue (has_instance self.old state inst)) }
         ensures too_many { IsErrOf result TableError.TooMany
             ↔ (IsTrue (takes self.old state inst) × (has_instance self.old state inst ≡ false)
-            × IsTrue (is_full self.old state)) }
+            × IsTrue (has_no_room self.old state)) }
         ensures no_memory { IsErrOf result TableError.NoMemory → CanAdd self.old state inst }
         ensures no_other { IfErr result (λ error. error ≢ TableError.NoSpace) }
         ensures err { OnErr result (self.new ≡ self.old) }
@@ -111,7 +111,7 @@ impl<H: Hook> Table<H> {
         if self.has_instance(state, inst) {
             return Err(TableError::Busy);
         }
-        if self.is_full(state) {
+        if self.has_no_room(state) {
             return Err(TableError::TooMany);
         }
         self.link(state, inst)
@@ -144,8 +144,8 @@ impl<H: Hook> Table<H> {
     ///
     /// There is no condition; a state that isn't registered has none. Takes no memory, and a time that
     /// doesn't grow with the table. The limits are this project's own.
-    pub fn is_full(&self, state: u32) -> bool
-        ensures { result ≡ is_full self.now state }
+    pub fn has_no_room(&self, state: u32) -> bool
+        ensures { result ≡ has_no_room self.now state }
     {
         self.instances(state).len() >= MAX_INSTANCES as usize || self.count >= MAX_TABLE_INSTANCES
     }

@@ -3,7 +3,7 @@ use Rattle.hp_event.specs.Story.{Story}
 use Rattle.hp_event.specs.declared.event.Event.TheVariants.{Admit}
 use Rattle.hp_model.specs.Lawful.{Stands}
 use Rattle.hp_model.specs.Seats.{admits}
-use Rattle.hp_ledger.specs.Ledger.{Entries, IsKept}
+use Rattle.hp_ledger.specs.Ledger.{Entries, IsAccounted}
 use Rattle.hp_ledger.specs.Table.{IsTableOf}
 use Rattle.hp_ledger.proofs.LedgerKept.{admits_seat}
 use Rattle.hp_ledger.proofs.TableMore.{table_same}
@@ -12,7 +12,7 @@ use Rattle.hp_ledger.proofs.ledger.Ledger.admit.Goals as goal
 use Rattle.hp_ledger.proofs.ledger.Ledger.admit.Goals.{After-push}
 
 -- the journal that got the admission, and its account, are kept
-kept : (g : given.Over) (c : After-push g) → IsKept c.push.new.self 0 c.admit.new.self
+kept : (g : given.Over) (c : After-push g) → IsAccounted c.push.new.self 0 c.admit.new.self
 kept g c =
     let at = sym c.self.view_is in
     let role = c.args.role in
@@ -20,7 +20,7 @@ kept g c =
     admits_seat c.self.inside.journal c.self.inside.reserved c.admitted-seat.result c.self.inside.parts c.admit.new.self role c.self.invariant.kept
     (subst (λ (l : Entries). Stands l.head l.events (Admit (admits l.events) role)) at c.requires.stands)
     (ap (λ (l : Entries). l.reserved) c.self.view_is ∙ c.requires.room) c.admitted-seat.ensures c.in_ok-admit.ensures.ok in
-    subst (λ (s : Story). IsKept s 0 c.admit.new.self) (sym c.push.ensures) k.2
+    subst (λ (s : Story). IsAccounted s 0 c.admit.new.self) (sym c.push.ensures) k.2
 
 pub under_way-self-inside-requires-clause-lawful : goal.under_way-self-inside-requires-clause-lawful
 under_way-self-inside-requires-clause-lawful g c =

@@ -2,7 +2,7 @@ use Rattle.std.proofs.Common.{◌≡◌, ◌-◌, ◌≤◌, ◌∙◌, [], ◌�
 use Rattle.hp_event.specs.Story.{Story}
 use Rattle.hp_model.specs.Lawful.{Stands}
 use Rattle.hp_model.specs.Needs.{need, taken}
-use Rattle.hp_ledger.specs.Ledger.{Entries, IsKept}
+use Rattle.hp_ledger.specs.Ledger.{Entries, IsAccounted}
 use Rattle.hp_ledger.specs.Table.{IsTableOf}
 use Rattle.hp_ledger.proofs.CanAppend.{can_append}
 use Rattle.hp_ledger.proofs.LedgerKept.{GoesOn, goes_on_from}
@@ -31,13 +31,13 @@ goes_on g c =
 
 -- so it is when the journal has the event and has given back what that freed
 kept : (g : given.Over) (c : After-give_back g) → GoesOn c.self.inside.journal c.append-freed.result c.args.event c.append-freed.new.self →
-    IsKept c.give_back.new.self 0 c.append-freed.new.self
+    IsAccounted c.give_back.new.self 0 c.append-freed.new.self
 kept g c on =
     let freed = c.append-freed.result in
     let now =
     c.give_back.ensures
     ∙ ap (λ (s : Story). record { head = s.head; events = s.events; promised = s.promised - freed }) c.push.ensures in
-    subst (λ (s : Story). IsKept s 0 c.append-freed.new.self) (sym now) on.kept
+    subst (λ (s : Story). IsAccounted s 0 c.append-freed.new.self) (sym now) on.kept
 
 pub push-requires : goal.push-requires
 push-requires g c = (goes_on g (goal.at.push-requires g c).After-append-freed).room
