@@ -35,7 +35,7 @@ use Rattle.hp_suspend.proofs.Places.{count_places, agree_below, passing}
 use Rattle.hp_ledger.specs.Locks.{why_of}
 use Rattle.hp_ledger.specs.Processors.{Standing, IsStanding, online_count}
 use Rattle.hp_ledger.specs.Table.{IsTableOf}
-use Rattle.hp_ledger.specs.Way.{refusals_of_way}
+use Rattle.hp_model.specs.Refusals.{refusals_of_way}
 use Rattle.hp_ledger.proofs.TableSays.{says, count_alike, multi_alike, among_alike, insts_alike, asks_first, lowest_alike, full_alike}
 
 -- how many pass a test, by what it says of each

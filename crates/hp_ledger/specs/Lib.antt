@@ -24,7 +24,6 @@ pub mod Ledger
 pub mod Blocked
 pub mod CanShow
 pub mod First
-pub mod Way
 pub mod NamedIn
 pub mod Between
 pub mod Machine

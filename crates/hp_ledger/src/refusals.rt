@@ -13,7 +13,7 @@ ghost use Rattle.hp_model.specs.Sequence.{target_of};
 ghost use Rattle.hp_model.specs.Settled.{settled};
 ghost use Rattle.hp_model.specs.Waits.{is_waiting};
 ghost use Rattle.hp_ledger.specs.Account.{IsAccount};
-ghost use Rattle.hp_ledger.specs.Way.{refusals_of_way};
+ghost use Rattle.hp_model.specs.Refusals.{refusals_of_way};
 ghost use Rattle.hp_ledger.specs.Table.{IsTableOf};
 
 use crate::parts::Parts;

@@ -1,7 +1,7 @@
 use Rattle.std.proofs.Common.{◌≡◌, ◌<◌, ◌||◌, ltb, false, [], ◌∷◌, ap, ◌∙◌, rules}
 use Rattle.hp_states.specs.declared.limits.TheConstants.{EBUSY, EINVAL}
 use Rattle.hp_model.specs.RefusalsAtOnce.{first_that_holds, if_so}
-use Rattle.hp_ledger.specs.Way.{refusals_of_way}
+use Rattle.hp_model.specs.Refusals.{refusals_of_way}
 use Rattle.hp_ledger.proofs.RefusalsSaid.{way_up, way_none, way_down}
 use Rattle.hp_ledger.proofs.parts.Parts.refused_way.Goals as goal
 use Rattle.hp_ledger.proofs.parts.Parts.refused_way.Goals.{then-disabled, else-disabled}
