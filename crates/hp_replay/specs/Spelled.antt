@@ -1,7 +1,7 @@
 -- Which events the text of a journal can say: a walk ends ok with the number 0, which isn't written, or with a fault
 -- or stuck; the file of all states belongs to no processor, and has 0 in its place. Events that stand are such.
 -- This project's own.
-use Rattle.std.specs.Prelude.{◌≡◌, ℕ, pos}
+use Rattle.std.specs.Prelude.{◌≡◌, pos}
 use Rattle.hp_event.specs.declared.answer.Answer.{Answer}
 use Rattle.hp_event.specs.declared.answer.Answer.TheVariants.{Ok, Refused, Fault, Stuck, LogFull}
 use Rattle.hp_event.specs.declared.event.Event.{Event}
