@@ -1,13 +1,13 @@
 -- The hooks that the operations of a run have: where they are from, what a turn makes of them, and which stay. After the callbacks of
 -- `struct cpuhp_step` of `kernel/cpu.c`; that an operation has its hook is this project's own.
-use Rattle.std.specs.Prelude.{◌≡◌, ℕ, ◌-◌, ◌<◌, ◌≤◌, nat_lt, if◌then◌else◌, Option, Some, None, option_to_list, List, [], ◌++◌, length, reverse, get_or, set, fold}
+use Rattle.std.specs.Prelude.{◌≡◌, ℕ, ◌-◌, ◌<◌, ◌≤◌, nat_lt, if◌then◌else◌, is_some, Option, Some, None, option_to_list, List, [], ◌++◌, length, map, reverse, get_or, set, fold}
 use Rattle.std.specs.List.{flat_map}
 use Rattle.hp_event.specs.declared.event.Event.{Event}
 use Rattle.hp_event.specs.declared.head.Head.{Head}
 use Rattle.hp_event.specs.declared.op.Op.{Op}
 use Rattle.hp_hook.specs.Counted.{Counts}
 use Rattle.hp_ledger.specs.Table.{counts_by}
-use Rattle.hp_ledger.specs.TableChanges.{brings_hook, hands_hook}
+use Rattle.hp_ledger.specs.TableChanges.{brings_hook, hands_hook, is_setup}
 use Rattle.hp_model.specs.Calls.{sub_at}
 use Rattle.hp_model.specs.Processors.{present}
 use Rattle.hp_model.specs.Registrations.{Registration, registration}
@@ -23,6 +23,10 @@ hook_at hooks i j = get_or (get_or hooks i []) j None
 -- those that operations have, by actor and then by operation
 abbrev pub hooks_there : List (List (Option Counts)) → List Counts
 hooks_there hooks = flat_map (flat_map option_to_list) hooks
+
+-- each setup has one, and no other operation
+abbrev pub OneForEachSetup : (actors : List (List Op)) → (hooks : List (List (Option Counts))) → Type 0
+OneForEachSetup actors hooks = map (map is_some) hooks ≡ map (map is_setup) actors
 
 -- each in turn was the last of a rack's
 abbrev pub AreFromRack : (old new hooks : List Counts) → Type 0

@@ -1,11 +1,10 @@
 //! The start of a run.
 
-ghost use Rattle.std.specs.Prelude.{◌≡◌, ◌≤◌, IfOk, OnOk, is_some, map, length, sum_by, All};
-ghost use Rattle.hp_ledger.specs.TableChanges.{is_setup};
+ghost use Rattle.std.specs.Prelude.{◌≡◌, ◌≤◌, IfOk, OnOk, map, length, sum_by, All};
 ghost use Rattle.hp_model.specs.Scripts.{IsScript};
 ghost use Rattle.hp_model.specs.ScriptRun.{start as start_of};
 ghost use Rattle.hp_script.specs.Playable.{setups_in};
-ghost use Rattle.hp_actors.specs.Hooks.{AreFromRack, hooks_there};
+ghost use Rattle.hp_actors.specs.Hooks.{AreFromRack, OneForEachSetup, hooks_there};
 ghost use Rattle.hp_actors.specs.Positions.{hooks_of, ops_of};
 ghost use Rattle.hp_actors.specs.Racks.{IsFresh, Takes};
 ghost use Rattle.hp_actors.specs.declared.actor.Waits.TheVariants.{Unknown};
@@ -36,7 +35,7 @@ impl<H: Hook> Run<H> {
             }) }
         ensures rack { OnOk result (Takes rack.old.hooks.items rack.new.hooks.items
             (sum_by setups_in script.now.actors)) }
-        ensures loaded { IfOk result (λ run. map (map is_some) run.hooks ≡ map (map is_setup) script.now.actors) }
+        ensures loaded { IfOk result (λ run. OneForEachSetup script.now.actors run.hooks) }
         ensures hooks { IfOk result (λ run. AreFromRack (map H.counts rack.old.hooks.items)
             (map H.counts rack.new.hooks.items) (hooks_there run.hooks)) }
     {

@@ -1,9 +1,12 @@
 -- The rack of hooks before a call and after it, and what it is after a script was played. This project's own.
-use Rattle.std.specs.Prelude.{◌≡◌, ◌+◌, List, ◌++◌, map, length}
+use Rattle.std.specs.Prelude.{◌≡◌, ◌+◌, Option, List, ◌++◌, map, length, reverse}
 use Rattle.std.specs.List.{sum_by}
+use Rattle.hp_actors.specs.Hooks.{IsLater, OneForEachSetup, hooks_there}
+use Rattle.hp_actors.specs.Positions.{Position}
 use Rattle.hp_board.specs.Retired.{registered_hooks}
 use Rattle.hp_event.specs.declared.event.Event.{Event}
 use Rattle.hp_hook.specs.Counted.{Counts}
+use Rattle.hp_model.specs.ScriptRun.{start}
 use Rattle.hp_script.specs.Playable.{setups_in}
 use Rattle.hp_script.specs.Script.{Contents}
 
@@ -20,9 +23,23 @@ racks seen old new = record { seen = seen; old = old; new = new }
 abbrev pub Stays : {H : Type 0} → Racks H → Type 0
 Stays rack = rack.new ≡ rack.old
 
+-- The hooks that came back in a run. Each setup took one, in turn the last of the rack, and nothing else did. Turns of the run's seats
+-- made this journal, and what they make of the hooks of operations says `hook_after` of hp_actors: one that was refused leaves its hook
+-- as it was; one that faulted, or a remove, has that of its state, with the plan of its subsystem and the counts of the journal.
+pub record CameBack (script : Contents) (events : List Event) (taken back : List Counts) : Type 0 where
+  pub first : List (List (Option Counts))
+  pub one_for_each : OneForEachSetup script.actors first
+  pub in_turn : taken ≡ reverse (hooks_there first)
+  pub last : Position
+  pub made :
+      IsLater
+      (record { head = script.head; actors = script.actors; progress = start script.head script.actors; hooks = first }) last
+  pub journal : last.progress.events ≡ events
+  pub back_are : back ≡ hooks_there last.hooks
+
 -- After a script was played with hooks of the rack: those that no setup took stand first, as they were. Behind them are as many as the
--- setups took: first those that came back, and last those of the registered states, in rising number, each with its plan and counts as
--- the journal says of its state.
+-- setups took: first those that came back, by actor and operation, and last those of the registered states, in rising number, each with
+-- its plan and counts as the journal says of its state.
 pub record IsRackAfter {H : Type 0} (script : Contents) (events : List Event) (rack : Racks H) : Type 0 where
   pub untaken : List H
   pub taken : List H
@@ -30,6 +47,7 @@ pub record IsRackAfter {H : Type 0} (script : Contents) (events : List Event) (r
   pub last : List H
   pub old_is : rack.old ≡ untaken ++ taken
   pub new_is : rack.new ≡ untaken ++ (back ++ last)
-  pub one_for_each : length taken ≡ sum_by setups_in script.actors
+  pub by_setups : length taken ≡ sum_by setups_in script.actors
   pub none_lost : length back + length last ≡ length taken
+  pub back_are : CameBack script events (map rack.seen taken) (map rack.seen back)
   pub last_are : map rack.seen last ≡ registered_hooks script.head events

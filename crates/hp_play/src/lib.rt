@@ -5,8 +5,8 @@
 //! after it. `replay` reads a printed journal, checks it (`hp_replay`), and writes its summary. `gen` writes a
 //! generated script, and `bench` plays one and writes the summary alone.
 //!
-//! What is written of a run, `specs/Outputs.antt` says; what is so of its journal and of the rack,
-//! `specs/Played.antt`; what each status means, `specs/Main.antt`.
+//! What is written of a run, `specs/Outputs.antt` says; what is so of its journal, `specs/Played.antt`, and of
+//! the rack, `specs/Racks.antt`; what each status means, `specs/Main.antt`.
 #![tactic(auto)]
 
 mod commands;

@@ -16,8 +16,9 @@ use std::alloc::Global;
 /// Plays a script with hooks of the rack, and answers what is written of the run.
 ///
 /// The rack has at least as many hooks as the script has setups, each of which takes one of its own. Behind the
-/// hooks that were left the rack then has those that came back, and last those of the registered states, in
-/// rising state: as many as before. Where memory is wanting, some hooks of the rack are lost: `NoMemory`.
+/// hooks that were left, which stay as they were, the rack then has those that came back, and last those of the
+/// registered states, in rising state: as many as before (`specs/Racks.antt`). Where memory is wanting, some
+/// hooks of the rack are lost: `NoMemory`.
 pub fn play<H: Hook>(
     alloc: Global,
     of: Output,

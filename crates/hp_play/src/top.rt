@@ -74,8 +74,10 @@ fn write<K: Sink>(sink: &mut K, bytes: &[u8], status: u8) -> u8
 /// A script, and the text of a lawful journal, is never refused: where no read and no write fails the status is
 /// 0, or 5. For the statuses 0, 2 and 6 of a command that reads, the source was read to its end, or to one byte past the
 /// most bytes of such an input. A script is played with hooks of the rack, one for each of its setups; the
-/// journal is the run of its actors by its schedule, and lawful: `specs/Played.antt` says what is so of it and
-/// of the rack after it. The statuses are this project's own.
+/// journal is the run of its actors by its schedule, and lawful: `specs/Played.antt` says what is so of it, and
+/// `specs/Racks.antt` of the rack after it. Under 1, 2, 3 and 6 the rack is as it was, and of `replay` and `gen`
+/// under every status; under 4 it is as under the status whose answer was begun. Where memory was wanting for a
+/// script, some hooks may be lost. The statuses are this project's own.
 pub fn hp_main<S: Source, K: Sink, H: Hook>(
     alloc: Global,
     words: &Vec<String>,
@@ -95,7 +97,7 @@ pub fn hp_main<S: Source, K: Sink, H: Hook>(
         S.faults source.new ≡ S.faults source.old → K.faults sink.new ≡ K.faults sink.old →
         (result ≡ DONE) ⊎ (result ≡ NO_MEMORY) }
 
-    // What is written under 0, 1, 2 and 6.
+    // What is written under 0, 1, 2 and 6, and the rack then.
     ensures done { result ≡ DONE → Writes Answer.done (map string_bytes words.now.items)
         (racks H.counts rack.old.hooks.items rack.new.hooks.items)
         (S.left source.old) (S.left source.new) (K.taken sink.old) (K.taken sink.new) }

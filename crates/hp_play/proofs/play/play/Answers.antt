@@ -1,5 +1,5 @@
 -- The journal is the script's, and the rack's last hooks are those of the registered states.
-use Rattle.std.proofs.Common.{◌≡◌, ◌++◌, ap, subst, ◌∙◌}
+use Rattle.std.proofs.Common.{◌≡◌, ◌++◌, refl, ap, subst, ◌∙◌}
 use Rattle.hp_event.specs.declared.head.Head.{Head}
 use Rattle.hp_board.specs.Retired.{IsRacked, registered_hooks}
 use Rattle.hp_model.specs.Registrations.{registration}
@@ -30,11 +30,12 @@ returns g c =
       journal = journal_of script events c.requires.script run c.rests.ensures.operation c.rests.ensures.registration;
       rack_is =
           rack_after g.H.Hook.counts c.args.rack.now.hooks.items c.start.new.rack.hooks.items c.finish.new.rack.hooks.items script
-          c.play.new.self.actors events (hooks_there c.play.new.self.hooks) c.in_ok-run.ensures.rack
+          c.in_ok-run.run' c.play.new.self events c.in_ok-run.ensures.rack
           (subst (λ (h : Head).
           IsRacked g.H.Hook.counts c.start.new.rack.hooks.items c.finish.new.rack.hooks.items
           (hooks_there c.play.new.self.hooks ++ registered_hooks h events)) head c.in_ok-finish.ensures.hooks)
-          c.in_ok-finish.ensures.all (c.in_ok-play.ensures.actors ∙ ap (λ (p : Position). p.actors) c.in_ok-run.ensures.started);
+          c.in_ok-finish.ensures.all (c.in_ok-play.ensures.actors ∙ ap (λ (p : Position). p.actors) c.in_ok-run.ensures.started) refl
+          c.in_ok-run.ensures.loaded c.in_ok-run.ensures.hooks c.in_ok-run.ensures.started c.play.ensures.made;
       written_is =
           c.in_ok-text.ensures
           ∙ (ap (λ h. output c.args.of h c.board.result.now.events) (c.board.ensures.head ∙ head)
