@@ -27,17 +27,17 @@ pub struct CpuPlan {
 #[derive(Clone, Copy, Debug, PartialEq, Eq)]
 pub enum StartError {
     /// No processor is possible.
-    NoProcessor,
+    NoProcessor = 1,
     /// More than `MAX_CPUS` are possible.
-    TooManyCpus,
+    TooManyCpus = 2,
     /// The absent ones don't rise, or aren't possible ones.
-    BadAbsent,
+    BadAbsent = 3,
     /// The first is absent, which a machine boots on.
-    NoBoot,
+    NoBoot = 4,
     /// There are more than `MAX_SUBS` subsystems.
-    TooManySubs,
+    TooManySubs = 5,
     /// Memory was wanting.
-    NoMemory,
+    NoMemory = 6,
 }
 
 impl<H: Hook> Board<H> {

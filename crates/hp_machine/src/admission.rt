@@ -17,15 +17,15 @@ use hp_states::{MAX_SEATS, NoMemory};
 #[derive(Clone, Copy, Debug, PartialEq, Eq)]
 pub enum AdmitError {
     /// `MAX_SEATS` seats were admitted: numbers aren't used again.
-    Full,
+    Full = 1,
     /// The processor of the thread is absent or no possible one.
-    NotPresent,
+    NotPresent = 2,
     /// A thread of the processor is in.
-    ApTaken,
+    ApTaken = 3,
     /// The journal has no room for the seat and its leave.
-    LogFull,
+    LogFull = 4,
     /// Memory was wanting.
-    NoMemory,
+    NoMemory = 5,
 }
 
 impl<H: Hook> Machine<H> {
