@@ -20,12 +20,7 @@ use Rattle.hp_board.specs.Contents.{Contents, with_event}
 use Rattle.hp_board.specs.Hooks.{has_hook, has_hook_after, leaves_hook}
 use Rattle.hp_board.specs.Turns.{IsTurn, turn_by, goes_on}
 
--- what comes next of a client's operation is no admission
-pub no_admission : (head : Head) (es : List Event) (p : Pending) (e : Event) → IsLawful head es → IsAllowed head es p →
-    next_event head es p.seat p.op ≡ Some e → (seat : ℕ) (role : Role) → e ≡ Admit seat role → ⊥
-no_admission head es p e lawful a next seat role is = subst (BelongsTo p.op) is (next_belongs head es p e lawful a next)
-
--- and where a registration begins or ends by it, the ask has the hook that it brings
+-- where a registration begins or ends by what comes next, the ask has the hook that it brings
 busy_of : (es : List Event) (k : ℕ) (r : Registration) → registration es ≡ Some r → r.seat ≡ k → is_busy k es ≡ true
 busy_of es k r flies by = let own = eq-eqb r.seat k by in rw (flies, own) (go (holds_map k (operation es)))
   where

@@ -1,6 +1,6 @@
 //! Hooks lent and given back.
 
-ghost use Rattle.std.specs.Prelude.{◌≡◌, ◌≢◌, ◌↔◌, ℕ, true, None, Some, IfSome, IfNone, IsSome, is_some};
+ghost use Rattle.std.specs.Prelude.{◌≡◌, ◌≢◌, ◌↔◌, ℕ, true, None, Some, IsTrue, IfSome, IfNone, IsSome, is_some};
 ghost use Rattle.hp_board.specs.Loans.{loan, asks_hook, is_hook};
 ghost use Rattle.hp_board.specs.Turns.{IsServed};
 ghost use Rattle.hp_board.specs.declared.turn.Turn.TheVariants.{Made};
@@ -29,7 +29,7 @@ impl<H: Hook> Board<H> {
     ///
     /// There is no condition. Takes no memory. That hooks are lent is this project's own.
     pub fn is_home(&self) -> bool
-        ensures { result ≡ true → AllHome self.now.places }
+        ensures { IsTrue result ↔ AllHome self.now.places }
     {
         match self.out() {
             Some(_) => false,

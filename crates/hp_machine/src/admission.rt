@@ -8,7 +8,6 @@ ghost use Rattle.hp_model.specs.Lawful.{Stands};
 ghost use Rattle.hp_model.specs.Seats.{admits};
 
 use crate::machine::Machine;
-use crate::making::reserve;
 use hp_event::{Event, Role};
 use hp_hook::Hook;
 use hp_states::{MAX_SEATS, NoMemory};
@@ -103,15 +102,9 @@ impl<H: Hook> Machine<H> {
         ensures ok { OnOk result (self.new ≡ with_event self.old (Admit (admits self.old.events) role)) }
         ensures err { OnErr result (self.new ≡ self.old) }
     {
-        let seat = self.ledger.admitted();
-        reserve(&mut self.ledger, 2)?;
-        match self.ledger.admit(&self.table, role) {
-            Ok(()) => Ok(seat),
-            Err(NoMemory) => {
-                self.ledger.release();
-                Err(NoMemory)
-            }
-        }
+        let seat = self.admitted();
+        self.make(Event::Admit { seat, role }, 2, &mut None)?;
+        Ok(seat)
     }
 
     /// Whether a seat can leave: it is in, reads nothing, has nothing in flight, and no entry is due from

@@ -1,9 +1,9 @@
 //! How one event is made.
 
-ghost use Rattle.std.specs.Prelude.{◌≡◌, ◌+◌, ◌<◌, length, true, false, OnOk, OnErr, IfSome, IsSome, is_some};
+ghost use Rattle.std.specs.Prelude.{◌≡◌, ◌+◌, ◌<◌, ◌++◌, ◌∷◌, [], length, true, false, OnOk, OnErr, IfSome, IsSome, is_some};
 ghost use Rattle.hp_ledger.specs.Entries.{entry_event};
-ghost use Rattle.hp_ledger.specs.Ledger.{NoAdmission};
-ghost use Rattle.hp_ledger.specs.TableChanges.{is_registering, brings_hook, hands_hook, registering_step};
+ghost use Rattle.hp_ledger.specs.Table.{IsTableOf};
+ghost use Rattle.hp_ledger.specs.TableChanges.{is_registering, brings_hook, hands_hook, registering_step, table_after};
 ghost use Rattle.hp_ledger.specs.declared.entry.Means.TheVariants.{Hook as ByHook};
 ghost use Rattle.hp_machine.specs.Contents.{with_event};
 ghost use Rattle.hp_model.specs.Events.{is_call};
@@ -22,18 +22,19 @@ use hp_event::{Event, JournalError};
 use hp_hook::Hook;
 use hp_ledger::{Entry, Ledger, Means, change_table};
 use hp_states::NoMemory;
+use hp_table::Table;
 
 impl<H: Hook> Machine<H> {
-    /// Makes an event that stands and is no entry and no admission. `need` is the room that it takes.
+    /// Makes an event that stands and is no entry. `need` is the room that it takes.
     ///
-    /// The begin of a setup takes its hook, and where the end of a registration hands a hook out it is in
-    /// `hook` then. Where a registration begins or ends no hook is lent. Takes memory where the event takes
-    /// room, if the journal or the state's instances have no spare place; where that is wanting nothing has
-    /// changed: `NoMemory`.
+    /// This is the one place where room is reserved, what the event needs besides is made ready, and the room
+    /// is given back where memory is wanting for that. The begin of a setup takes its hook, and where the end
+    /// of a registration hands a hook out it is in `hook` then. Where a registration begins or ends no hook is
+    /// lent. Takes memory where the event takes room, if the journal, the seats or the state's instances have
+    /// no spare place; where that is wanting nothing has changed: `NoMemory`.
     pub fn make(&mut self, event: Event, need: u32, hook: &mut Option<H>) -> Result<(), NoMemory>
         requires stands { Stands self.old.head self.old.events event }
         requires no_entry { is_call event ≡ false }
-        requires no_admission { NoAdmission event }
         requires need { need ≡ taken (need_of self.old.head self.old.events event) }
         requires brings { is_registering event ≡ true → is_some hook.old ≡ brings_hook event }
         requires home { is_registering event ≡ true → AllHome self.old.places }
@@ -46,11 +47,8 @@ impl<H: Hook> Machine<H> {
         ensures memory { OnErr result (IsSome (need_of self.old.head self.old.events event)) }
     {
         reserve(&mut self.ledger, need)?;
-        match change_table(&mut self.table, &self.ledger, event, hook) {
-            Ok(()) => {
-                self.ledger.append(&self.table, event);
-                Ok(())
-            }
+        match put(&mut self.ledger, &mut self.table, event, hook) {
+            Ok(()) => Ok(()),
             Err(NoMemory) => {
                 self.ledger.release();
                 Err(NoMemory)
@@ -101,7 +99,7 @@ impl<H: Hook> Machine<H> {
 ///
 /// Takes memory where that is some and the journal has not so many spare places; where that is wanting
 /// nothing has changed: `NoMemory`.
-pub(crate) fn reserve(ledger: &mut Ledger, need: u32) -> Result<(), NoMemory>
+fn reserve(ledger: &mut Ledger, need: u32) -> Result<(), NoMemory>
     requires fits { MAX_EVENTS
         < length ledger.old.events + promised ledger.old.head ledger.old.events + ledger.old.reserved + need → ⊥ }
     ensures ok { OnOk result (ledger.new ≡ record ledger.old { reserved = ledger.old.reserved + need }) }
@@ -115,5 +113,43 @@ pub(crate) fn reserve(ledger: &mut Ledger, need: u32) -> Result<(), NoMemory>
         Ok(()) => Ok(()),
         Err(JournalError::NoMemory) => Err(NoMemory),
         Err(JournalError::Full) => unreachable!(),
+    }
+}
+
+/// Changes the table as an event does that stands and is no entry, or takes what the seat needs that it lets
+/// in, and appends it. The room that it takes is reserved.
+///
+/// Takes memory where an instance is added or a seat let in; where that is wanting nothing has changed:
+/// `NoMemory`.
+fn put<H: Hook>(
+    ledger: &mut Ledger,
+    table: &mut Table<H>,
+    event: Event,
+    hook: &mut Option<H>,
+) -> Result<(), NoMemory>
+    requires stands { Stands ledger.old.head ledger.old.events event }
+    requires no_entry { is_call event ≡ false }
+    requires room { ledger.old.reserved ≡ taken (need_of ledger.old.head ledger.old.events event) }
+    requires table { IsTableOf ledger.old.head ledger.old.events table.old }
+    requires brings { is_registering event ≡ true → is_some hook.old ≡ brings_hook event }
+    requires home { is_registering event ≡ true → AllHome table.old }
+    ensures put { OnOk result (ledger.new
+        ≡ record { head = ledger.old.head; events = ledger.old.events ++ event ∷ []; reserved = 0 }) }
+    ensures changed { OnOk result (table.new ≡ table_after ledger.old.head ledger.old.events event table.old) }
+    ensures table { OnOk result (IsTableOf ledger.old.head (ledger.old.events ++ event ∷ []) table.new) }
+    ensures hands { OnOk result (is_registering event ≡ true → is_some hook.new ≡ hands_hook ledger.old.events event) }
+    ensures hook { OnOk result (is_registering event ≡ true →
+        IfSome hook.new (λ h. HasCounted (H.counts h) (registering_step (registration ledger.old.events) table.old))) }
+    ensures left { OnOk result (is_registering event ≡ false → hook.new ≡ hook.old) }
+    ensures err { OnErr result ((ledger.new ≡ ledger.old) × (table.new ≡ table.old) × (hook.new ≡ hook.old)) }
+    ensures memory { OnErr result (IsSome (need_of ledger.old.head ledger.old.events event)) }
+{
+    match event {
+        Event::Admit { role, .. } => ledger.admit(table, role),
+        _ => {
+            change_table(table, ledger, event, hook)?;
+            ledger.append(table, event);
+            Ok(())
+        }
     }
 }

@@ -49,6 +49,7 @@ impl<V: Grown + Drop> TurnLock<V> {
     pub fn close<R: Wait>(self, rt: &R, mut pass: TurnPass<V>) -> V
         requires { MayLock self pass }
         ensures knew { (V.head result ≡ pass.head) × Knew pass (V.story result) }
+        ensures lent { seat_aside pass.seat (V.aside result) ≡ pass.aside }
         ensures room { length (V.story result) ≤ MAX_EVENTS }
     {
         let value = self.lock(rt, &mut pass);

@@ -21,7 +21,7 @@ use Rattle.hp_locks.specs.declared.why.Why.{Why}
 use Rattle.hp_locks.specs.declared.why.Why.TheVariants.{HookOut}
 use Rattle.hp_model.specs.Lawful.{IsLawful}
 use Rattle.hp_states.specs.declared.no_memory.NoMemory.{NoMemory}
-use Rattle.hp_board.proofs.TurnsMade.{no_admission, brought, turn_made, hook_after, hook_same, kept, unanswered}
+use Rattle.hp_board.proofs.TurnsMade.{brought, turn_made, hook_after, hook_same, kept, unanswered}
 use Rattle.hp_model.proofs.DueGives.{due_gives}
 use Rattle.hp_board.specs.Loans.{loan, AreOut, IsCalm}
 use Rattle.hp_board.proofs.Homes.{idle_home}
@@ -39,13 +39,6 @@ make-requires-clause-stands g c =
 
 pub make-requires-clause-no_entry : goal.make-requires-clause-no_entry
 make-requires-clause-no_entry g c = c.in-Event.ensures.2
-
-pub make-requires-clause-no_admission : goal.make-requires-clause-no_admission
-make-requires-clause-no_admission g c =
-    let l = c.self.inside.machine in
-    let p : Pending = record { seat = c.args.by; op = c.args.ask.now.op } in
-    let allowed = subst (λ (b : Contents). IsAllowed b.head b.events p) (sym c.self.view_is) c.requires.allowed in
-    no_admission l.head l.events p c.in-Event.event c.sound.ensures.lawful allowed c.in-Event.ensures.0
 
 pub make-requires-clause-brings : goal.make-requires-clause-brings
 make-requires-clause-brings g c =

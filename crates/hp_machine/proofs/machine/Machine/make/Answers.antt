@@ -27,6 +27,6 @@ invariant_of-self-in-Ok g c =
     let e = c.args.event in
     let mid = c.in_ok-reserve.ensures.ok in
     let stands = subst (λ (m : Contents). Stands m.head m.events e) (sym c.self.view_is) c.requires.stands in
-    let is = c.append.ensures ∙ ap (λ (x : Entries). record { head = x.head; events = x.events ++ e ∷ []; reserved = 0 }) mid in
-    machine_goes_on l c.append.new.self e c.change_table.new.table c.self.invariant.lawful stands is
-    (subst (λ (x : Entries). IsTableOf x.head (x.events ++ e ∷ []) c.change_table.new.table) mid c.in-Ok.ensures.table)
+    let is = c.in-Ok.ensures.put ∙ ap (λ (x : Entries). record { head = x.head; events = x.events ++ e ∷ []; reserved = 0 }) mid in
+    machine_goes_on l c.put.new.ledger e c.put.new.table c.self.invariant.lawful stands is
+    (subst (λ (x : Entries). IsTableOf x.head (x.events ++ e ∷ []) c.put.new.table) mid c.in-Ok.ensures.table)
