@@ -1,17 +1,17 @@
 -- A seat's operation waits for a hook that is lent exactly where it says so.
-use Rattle.std.proofs.Common.{◌≡◌, ℕ, true, false, Option, Some, None, inl, inr, ◌⊎◌, refl, sym, ap, ◌∙◌, subst}
-use Rattle.std.proofs.lemmas.Bool.{true≢false, false≢true}
+use Rattle.std.proofs.Common.{◌≡◌, ℕ, true, false, Option, Some, None, inl, inr, ◌⊎◌, refl, sym, ap, ◌∙◌}
+use Rattle.std.proofs.lemmas.Bool.{true≢false}
 use Rattle.hp_event.specs.declared.op.Op.{Op}
 use Rattle.hp_event.specs.declared.event.Event.{Event}
 use Rattle.hp_event.specs.declared.event.Event.TheVariants.{Call}
 use Rattle.hp_model.specs.Lawful.{IsLawful}
 use Rattle.hp_model.specs.Lent.{arms_walker}
 use Rattle.hp_model.specs.NextEvent.{next_event, is_full}
-use Rattle.hp_model.specs.Pending.{Pending, IsAllowed}
+use Rattle.hp_model.specs.Pending.{IsAllowed}
 use Rattle.hp_model.specs.Waits.{Wait}
 use Rattle.hp_model.proofs.EntryStays.{due_alone}
 use Rattle.hp_model.proofs.FindsOne.{finds_one}
-use Rattle.hp_ledger.specs.Next.{IsKept, WaitsFor}
+use Rattle.hp_ledger.specs.Next.{WaitsFor}
 use Rattle.hp_ledger.proofs.FullNone.{full_none}
 use Rattle.hp_locks.specs.declared.why.Why.{Why}
 use Rattle.hp_locks.specs.declared.why.Why.TheVariants.{MapsHeld, WriterIn, ReadersIn, RegIn, ApTurn, HookOut, Idle}

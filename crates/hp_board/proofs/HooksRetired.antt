@@ -1,5 +1,5 @@
 -- The hooks of the places are those of the registered states, and have counted what the journal says.
-use Rattle.std.proofs.Common.{◌≡◌, ℕ, zero, suc, ◌+◌, ◌<◌, Option, Some, None, IfSome, IfNone, List, [], ◌∷◌, ◌++◌, map, take, length, append_assoc, refl, sym, ap, ◌∙◌, subst, arith}
+use Rattle.std.proofs.Common.{◌≡◌, ℕ, zero, suc, ◌+◌, ◌<◌, Option, Some, None, IfSome, IfNone, List, [], ◌∷◌, ◌++◌, take, length, append_assoc, refl, sym, ap, ◌∙◌, subst, arith}
 use Rattle.std.specs.List.{flat_map}
 use Rattle.std.proofs.lemmas.List.{append-nil, map-append}
 use Rattle.std.proofs.Math.Seq.{take-length}
@@ -8,7 +8,7 @@ use Rattle.hp_event.specs.declared.head.Head.{Head}
 use Rattle.hp_event.specs.declared.event.Event.{Event}
 use Rattle.hp_hook.specs.Counted.{Counts}
 use Rattle.hp_model.specs.Lists.{numbers}
-use Rattle.hp_model.specs.Registered.{Registered, registered}
+use Rattle.hp_model.specs.Registered.{registered}
 use Rattle.hp_model.specs.Registrations.{Registration, registration}
 use Rattle.hp_table.specs.Step.{Step, step_at}
 use Rattle.hp_ledger.specs.Table.{IsTableOf, IsStepOf, registered_by, registered_meanwhile}

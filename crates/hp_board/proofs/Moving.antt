@@ -3,22 +3,20 @@ use Rattle.std.proofs.Common.{◌≡◌, ℕ, true, false, Some, None, List, inl
 use Rattle.std.specs.Prelude.{Contains}
 use Rattle.std.proofs.lemmas.Bool.{true≢false}
 use Rattle.std.proofs.lemmas.List.Elements.{All-contains}
-use Rattle.hp_event.specs.declared.head.Head.{Head}
 use Rattle.hp_event.specs.declared.event.Event.{Event}
-use Rattle.hp_event.specs.declared.op.Op.{Op}
 use Rattle.hp_locks.specs.declared.why.Why.{Why}
 use Rattle.hp_locks.specs.declared.why.Why.TheVariants.{Idle}
 use Rattle.hp_ledger.specs.Next.{IsKept}
 use Rattle.hp_model.specs.Lawful.{IsLawful}
 use Rattle.hp_model.specs.Moves.{ArePending, CanMove}
-use Rattle.hp_model.specs.NextEvent.{next_event, due_entry, is_full}
+use Rattle.hp_model.specs.NextEvent.{due_entry}
 use Rattle.hp_model.specs.Pending.{Pending, IsAllowed}
 use Rattle.hp_model.proofs.DueGives.{due_gives}
 use Rattle.hp_model.proofs.NextGives.{next_exactly, full_exactly}
 use Rattle.hp_model.proofs.SomeMoves.{some_moves}
 use Rattle.hp_table.specs.Step.{AllHome}
 use Rattle.hp_board.specs.Contents.{Contents}
-use Rattle.hp_board.specs.Moving.{moves, ClientMoves, ThreadMoves, SomeMoves}
+use Rattle.hp_board.specs.Moving.{moves, SomeMoves}
 use Rattle.hp_board.specs.Turns.{IsTurn, IsServed}
 use Rattle.hp_board.specs.declared.turn.Turn.{Turn}
 use Rattle.hp_board.specs.declared.turn.Turn.TheVariants.{Made, Answered, NotYet}

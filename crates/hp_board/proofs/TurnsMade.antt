@@ -2,12 +2,11 @@
 use Rattle.std.proofs.Common.{◌≡◌, ℕ, Bool, true, false, not, ◌&&◌, ◌||◌, is_some, Option, Some, None, List, length, refl, sym, ap, ◌∙◌, subst}
 use Rattle.std.proofs.lemmas.Bool.{true≢false, eq-eqb}
 use Rattle.hp_event.specs.declared.answer.Answer.{Answer}
-use Rattle.hp_event.specs.declared.event.Role.{Role}
 use Rattle.hp_event.specs.declared.op.Op.{Op}
 use Rattle.hp_event.specs.declared.head.Head.{Head}
 use Rattle.hp_event.specs.declared.event.Event.{Event}
-use Rattle.hp_event.specs.declared.event.Event.TheVariants.{Admit, RegBegin, RegEnd}
-use Rattle.hp_model.specs.Events.{answer_by, BelongsTo}
+use Rattle.hp_event.specs.declared.event.Event.TheVariants.{RegBegin, RegEnd}
+use Rattle.hp_model.specs.Events.{answer_by}
 use Rattle.hp_model.specs.Lawful.{IsLawful}
 use Rattle.hp_model.specs.NextEvent.{next_event}
 use Rattle.hp_model.specs.Pending.{Pending, IsAllowed}

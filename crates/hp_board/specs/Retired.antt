@@ -1,12 +1,11 @@
 -- The hooks of a board that is given up: those of the registered states, in rising number, each as often called as the journal says.
 -- This project's own.
-use Rattle.std.specs.Prelude.{◌≡◌, ℕ, ◌+◌, Option, Some, None, List, [], ◌∷◌, ◌++◌, map, length}
+use Rattle.std.specs.Prelude.{◌≡◌, ℕ, ◌+◌, Option, Some, None, List, [], ◌∷◌, ◌++◌, map}
 use Rattle.std.specs.List.{flat_map}
 use Rattle.hp_states.specs.declared.limits.TheConstants.{ONLINE}
 use Rattle.hp_event.specs.declared.event.Event.{Event}
 use Rattle.hp_event.specs.declared.head.Head.{Head}
 use Rattle.hp_hook.specs.Counted.{Counts}
-use Rattle.hp_model.specs.Calls.{sites}
 use Rattle.hp_model.specs.Lists.{numbers}
 use Rattle.hp_model.specs.Registered.{Registered, registered}
 use Rattle.hp_model.specs.Subsystems.{sub_numbered, plan_of}

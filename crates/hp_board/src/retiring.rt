@@ -1,10 +1,9 @@
 //! The end of a board.
 
-ghost use Rattle.std.specs.Prelude.{◌≡◌, ◌≢◌, true, ◌+◌, ◌<◌, ◌≤◌, ℕ, None, Some, [], ◌∷◌, ◌++◌, IfOk, IfErr, IfSome, IfNone, OnOk, OnErr, map, vec_len, vec_capacity};
+ghost use Rattle.std.specs.Prelude.{◌≡◌, ◌≢◌, true, ◌+◌, ◌<◌, ◌≤◌, ℕ, None, Some, [], ◌∷◌, ◌++◌, IfOk, IfErr, IfSome, IfNone, OnOk, OnErr, vec_len, vec_capacity};
 ghost use Rattle.hp_states.specs.declared.limits.TheConstants.{ONLINE};
 ghost use Rattle.hp_board.specs.Retired.{IsRacked, hook_at, hooks_of, registered_hooks};
 ghost use Rattle.hp_model.specs.Registrations.{registration};
-ghost use Rattle.hp_table.specs.Instances.{instances_at};
 ghost use Rattle.hp_table.specs.Step.{step_at, is_home, AllHome};
 
 use crate::board::Board;

@@ -1,8 +1,7 @@
 //! The start of a board.
 
-ghost use Rattle.std.specs.Prelude.{◌≡◌, ◌+◌, ◌<◌, ◌↔◌, [], None, All, IsTrue, IfOk, IfErr, OnOk, replicate};
+ghost use Rattle.std.specs.Prelude.{◌≡◌, ◌+◌, ◌<◌, [], None, All, IfOk, IfErr, OnOk, replicate};
 ghost use Rattle.hp_board.specs.Starts.{IsStartRefusal};
-ghost use Rattle.hp_event.specs.declared.head.Head.{Head as AHead};
 ghost use Rattle.hp_model.specs.Heads.{IsHead, IsSub};
 ghost use Rattle.hp_states.specs.declared.limits.TheConstants.{ONLINE};
 

@@ -11,7 +11,7 @@ use Rattle.hp_board.specs.Loans.{AreOut, loan, loan_of}
 use Rattle.hp_machine.proofs.Entries.{IsByHook, by_hook}
 use Rattle.hp_board.proofs.Loans.{hook_is, out_by, lent_out, lent_aside, home_of_entry, due_other}
 use Rattle.hp_board.proofs.board.Board.lend.Goals as goal
-use Rattle.hp_board.proofs.board.Board.lend.Goals.{After-lend, In-Some}
+use Rattle.hp_board.proofs.board.Board.lend.Goals.{After-lend}
 use Rattle.hp_board.proofs.board.Board.lend.Given as given
 
 found : (g : given.Over) (c : After-lend g) →

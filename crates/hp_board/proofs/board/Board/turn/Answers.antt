@@ -3,7 +3,6 @@ use Rattle.std.proofs.lemmas.Bool.{true≢false}
 use Rattle.std.specs.Result.{IsErr}
 use Rattle.hp_model.specs.Events.{answer_by}
 use Rattle.hp_model.specs.NextEvent.{next_event}
-use Rattle.hp_model.specs.Pending.{Pending, IsAllowed}
 use Rattle.hp_model.proofs.NextStands.{next_stands}
 use Rattle.hp_event.specs.declared.event.Event.{Event}
 use Rattle.hp_ledger.specs.Entries.{entry_event}
