@@ -5,6 +5,7 @@ pub mod AskAgain
 pub mod HooksCounted
 pub mod Complete
 pub mod Loans
+pub mod KeptOut
 pub mod Waiting
 pub mod Homes
 pub mod LoansStay

@@ -5,7 +5,7 @@ use Rattle.hp_model.specs.Lawful.{IsLawful}
 use Rattle.hp_model.specs.Registrations.{Registration, registration}
 use Rattle.hp_board.specs.Contents.{Contents}
 use Rattle.hp_board.specs.Loans.{AreOut}
-use Rattle.hp_board.proofs.Loans.{kept_out, calm_by, none_is}
+use Rattle.hp_board.proofs.KeptOut.{kept_out, calm_by, none_is}
 use Rattle.hp_board.proofs.board.Board.keeps_out.Goals as goal
 use Rattle.hp_board.proofs.board.Board.keeps_out.Goals.{else-is_none-via-then-is_none+else-arms, else-is_none-via-else-is_none}
 
