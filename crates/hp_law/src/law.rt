@@ -129,10 +129,6 @@ impl Law {
     {
         self.machine.sound();
         match *event {
-            Event::Admit { role, .. } => match self.machine.let_in(role) {
-                Ok(_) => Ok(()),
-                Err(NoMemory) => Err(NoMemory),
-            },
             Event::Call { seat, .. } => match self.machine.due(seat) {
                 Some(entry) => {
                     self.machine.make_entry(&entry);

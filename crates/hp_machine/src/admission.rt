@@ -52,8 +52,9 @@ impl<H: Hook> Machine<H> {
         if let Some(error) = self.refusal(role) {
             return Err(error);
         }
-        match self.let_in(role) {
-            Ok(seat) => Ok(seat),
+        let seat = self.admitted();
+        match self.make(Event::Admit { seat, role }, 2, &mut None) {
+            Ok(()) => Ok(seat),
             Err(NoMemory) => Err(AdmitError::NoMemory),
         }
     }
@@ -90,21 +91,6 @@ impl<H: Hook> Machine<H> {
         ensures { IsTrue result ↔ Stands self.now.head self.now.events (Admit seat role) }
     {
         seat == self.admitted() && self.refusal(role).is_none()
-    }
-
-    /// Lets the next seat in, with this role, and answers its number: what `admit` does once it has asked.
-    ///
-    /// The seat can come in (`can_admit`). Takes memory; where that is wanting nothing has changed:
-    /// `NoMemory`. Seats are this project's own.
-    pub fn let_in(&mut self, role: Role) -> Result<u32, NoMemory>
-        requires { Stands self.old.head self.old.events (Admit (admits self.old.events) role) }
-        ensures seat { IfOk result (λ seat. seat ≡ admits self.old.events) }
-        ensures ok { OnOk result (self.new ≡ with_event self.old (Admit (admits self.old.events) role)) }
-        ensures err { OnErr result (self.new ≡ self.old) }
-    {
-        let seat = self.admitted();
-        self.make(Event::Admit { seat, role }, 2, &mut None)?;
-        Ok(seat)
     }
 
     /// Whether a seat can leave: it is in, reads nothing, has nothing in flight, and no entry is due from

@@ -32,6 +32,7 @@ impl<H: Hook> Machine<H> {
     /// of a registration hands a hook out it is in `hook` then. Where a registration begins or ends no hook is
     /// lent. Takes memory where the event takes room, if the journal, the seats or the state's instances have
     /// no spare place; where that is wanting nothing has changed: `NoMemory`.
+    #[inline(always)]
     pub fn make(&mut self, event: Event, need: u32, hook: &mut Option<H>) -> Result<(), NoMemory>
         requires stands { Stands self.old.head self.old.events event }
         requires no_entry { is_call event ≡ false }
@@ -121,6 +122,7 @@ fn reserve(ledger: &mut Ledger, need: u32) -> Result<(), NoMemory>
 ///
 /// Takes memory where an instance is added or a seat let in; where that is wanting nothing has changed:
 /// `NoMemory`.
+#[inline(always)]
 fn put<H: Hook>(
     ledger: &mut Ledger,
     table: &mut Table<H>,

@@ -20,13 +20,6 @@ seen_taken head es = record { head = head; events = es }
 still : (m new : Contents) (e : Event) → AllHome m.places → new ≡ with_event m e → AllHome new.places
 still m new e home is = subst (λ (x : Contents). AllHome x.places) (sym is) (home_after m.head m.events e m.places home)
 
-pub let_in-requires : goal.let_in-requires
-let_in-requires c =
-    let m = c.self.inside.machine in
-    let stands = subst (λ (t : Taken). Stands t.head t.events c.args.event.now) (sym c.self.view_is) c.requires.stands in
-    let here = subst (Stands m.head m.events) c.in-Admit.is stands in
-    subst (λ k. Stands m.head m.events (Admit k c.in-Admit.role)) here.0.seat_is here
-
 either : {T E : Type 0} (r : Result T E) (A B P : Type 0) → OnOk r A → OnErr r B → (A → P) → (B → P) → P
 either (Ok x) A B P a b f g = f a
 either (Err e) A B P a b f g = g b
@@ -42,8 +35,8 @@ make_entry-requires-clause-stands c =
     let m = c.self.inside.machine in
     (due_stands m.head m.events c.in-Call.seat (entry_event m.head m.events c.in-Some.entry) c.in-Some.ensures).0
 
-pub invariant_of-self-in-Some : goal.invariant_of-self-in-Some
-invariant_of-self-in-Some c =
+pub invariant_of-self : goal.invariant_of-self
+invariant_of-self c =
     let m = c.self.inside.machine in
     still m c.make_entry.new.self (entry_event m.head m.events c.in-Some.entry) c.self.invariant c.make_entry.ensures
 
