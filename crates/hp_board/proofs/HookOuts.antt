@@ -18,6 +18,7 @@ use Rattle.hp_locks.specs.declared.why.Why.TheVariants.{MapsHeld, WriterIn, Read
 use Rattle.hp_table.specs.Step.{step_at, is_home}
 use Rattle.hp_board.specs.Contents.{Contents}
 use Rattle.hp_board.specs.Loans.{AreOut, IsOutFor, IsCalm, WaitsForThread, WaitsToArm}
+use Rattle.hp_board.proofs.Loans.{state_in}
 use Rattle.hp_board.specs.Turns.{IsHookOut, IsNotYet, turn_by}
 use Rattle.hp_board.specs.declared.turn.Turn.{Turn}
 use Rattle.hp_board.specs.declared.turn.Turn.TheVariants.{Made, Answered, NotYet}
@@ -29,14 +30,9 @@ some_none e h = cc
 same_event : (a b : Event) → Some a ≡ Some b → a ≡ b
 same_event a b h = cc
 
-state_in : Event → ℕ
-state_in (Call seat cpu state inst dir how) = state
-state_in e = 0
-
 -- one hook is away at most
 pub one_away : (b : Contents) (s t : ℕ) → IsLawful b.head b.events → AreOut b.head b.events b.places → is_home (step_at b.places s) ≡ false →
     is_home (step_at b.places t) ≡ false → s ≡ t
-unfolding state_in
 one_away b s t lawful out s_away t_away =
     let o = out s s_away in
     let p = out t t_away in

@@ -199,7 +199,7 @@ abbrev called_in : Event → Bool
 called_in (Call seat cpu state inst dir how) = is_called how
 called_in _ = false
 
-abbrev state_in : Event → ℕ
+abbrev pub state_in : Event → ℕ
 state_in (Call seat cpu state inst dir how) = state
 state_in _ = 0
 

@@ -3,7 +3,8 @@
 //! `next` says what comes next of a seat and its operation, and `due` which entry a seat has to make; both
 //! change nothing. `make` makes an event that they say, `make_entry` an entry by the hook that stands there,
 //! and `make_answered` one by the answer of a hook that was lent. `admit` and `leave` let seats in and go.
-//! Each reserves room, changes the table, and appends or gives the room back.
+//! `make` alone reserves room, for the event and for what has to follow it, and gives it back where memory
+//! is wanting; an entry and a leave use room that was promised.
 //!
 //! Contracts see the head, the events and what stands at each state (`specs/Contents.antt`). The journal is
 //! lawful at any time and the table is the journal's, so that no call has that as a condition. Only `start`,
