@@ -21,7 +21,7 @@ use Rattle.hp_locks.specs.declared.why.Why.{Why}
 use Rattle.hp_locks.specs.declared.why.Why.TheVariants.{MapsHeld, WriterIn, ReadersIn, RegIn, ApTurn, HookOut, Idle}
 use Rattle.hp_model.specs.ApTurn.{IsEntryOf, IsApTurn}
 use Rattle.hp_model.specs.Events.{seat_of, is_call}
-use Rattle.hp_model.specs.Lawful.{IsLawful}
+use Rattle.hp_model.specs.Lawful.{IsLawful, Stands}
 use Rattle.hp_model.specs.NextEvent.{next_event, due_entry, is_full}
 use Rattle.hp_model.specs.ScriptTurns.{RunState, counted, turn}
 use Rattle.hp_model.specs.Seats.{is_busy}
@@ -157,20 +157,20 @@ call_ends_nothing e h = absurd (true≢false (sym h))
 
 -- one event more of another seat, or none
 nothing_on : (head : Head) (before : List Event) (k j : ℕ) (o : Option Event) (op : Option Op) →
-    IfSome o (λ e. seat_of e ≡ k) → k ≢ j → EndsNothing o → MakesNothing head before j op →
+    IfSome o (λ e. Stands head before e × (seat_of e ≡ k)) → k ≢ j → EndsNothing o → MakesNothing head before j op →
     MakesNothing head (before ++ option_to_list o) j op
 nothing_on head before k j o None by other ends h = tt
 nothing_on head before k j None (Some op) by other ends h = subst (λ es. IsWaiting head es j op) (sym (append-nil before)) h
-nothing_on head before k j (Some e) (Some op) by other ends h = waits_still head before e j op (λ is. other (sym by ∙ is)) ends h
+nothing_on head before k j (Some e) (Some op) by other ends h = waits_still head before e j op by.0.0 (λ is. other (sym by.1 ∙ is)) ends h
 
 needs_on : (head : Head) (before : List Event) (k j : ℕ) (o : Option Event) (op : Option Op) →
-    IfSome o (λ e. seat_of e ≡ k) → k ≢ j → NeedsMap head before j op → NeedsMap head (before ++ option_to_list o) j op
+    IfSome o (λ e. Stands head before e × (seat_of e ≡ k)) → k ≢ j → NeedsMap head before j op → NeedsMap head (before ++ option_to_list o) j op
 needs_on head before k j o None by other h = tt
 needs_on head before k j None (Some op) by other h = (subst (λ es. IsReady head es j op) (sym (append-nil before)) h.0, h.1)
-needs_on head before k j (Some e) (Some op) by other h = (ready_still head before e j op (λ is. other (sym by ∙ is)) h.0, h.1)
+needs_on head before k j (Some e) (Some op) by other h = (ready_still head before e j op (λ is. other (sym by.1 ∙ is)) h.0, h.1)
 
 known_on : (head : Head) (before : List Event) (last last_now k j : ℕ) (o : Option Event) (op : Option Op) (waits : Waits) →
-    IfSome o (λ e. seat_of e ≡ k) → k ≢ j → last ≤ last_now → (last_now ≡ last → EndsNothing o) →
+    IfSome o (λ e. Stands head before e × (seat_of e ≡ k)) → k ≢ j → last ≤ last_now → (last_now ≡ last → EndsNothing o) →
     IsKnown head before last j op waits → IsKnown head (before ++ option_to_list o) last_now j op waits
 known_on head before last last_now k j o op Unknown by other up ends h = tt
 known_on head before last last_now k j o op WhileMapHeld by other up ends h = needs_on head before k j o op by other h
@@ -181,7 +181,7 @@ known_on head before last last_now k j o op (UntilEnd since) by other up ends h 
     )
 
 knows_on : {H : Type 0} (head : Head) (before : List Event) (last last_now k j : ℕ) (o : Option Event) (actor : Actor H) →
-    IfSome o (λ e. seat_of e ≡ k) → k ≢ j → last ≤ last_now → (last_now ≡ last → EndsNothing o) →
+    IfSome o (λ e. Stands head before e × (seat_of e ≡ k)) → k ≢ j → last ≤ last_now → (last_now ≡ last → EndsNothing o) →
     KnowsWait head before last j actor → KnowsWait head (before ++ option_to_list o) last_now j actor
 knows_on head before last last_now k j o actor by other up ends know =
     known_on head before last last_now k j o (asked actor) actor.waits by other up ends know
@@ -190,9 +190,9 @@ longer : (before : List Event) (o : Option Event) (n : ℕ) → n ≤ length bef
 longer before o n few = let l = length-append before (option_to_list o) in omega (arith, few, l)
 
 due_by : (head : Head) (events : List Event) (k : ℕ) (o : Option Event) → due_entry head events k ≡ o →
-    IfSome o (λ e. seat_of e ≡ k) × EndsNothing o
+    IfSome o (λ e. Stands head events e × (seat_of e ≡ k)) × EndsNothing o
 due_by head events k None f = (tt, tt)
-due_by head events k (Some e) f = let d = due_stands head events k e f in (d.2, call_ends_nothing e d.1)
+due_by head events k (Some e) f = let d = due_stands head events k e f in ((d.0, d.2), call_ends_nothing e d.1)
 
 -- a thread makes entries alone
 pub thread_knows : {H : Type 0} (old new : Contents) (actors : List (Actor H)) (threads last k : ℕ) → k < threads → Served k old new →
@@ -209,23 +209,24 @@ thread_knows {H} old new actors threads last k below s w = record {
     o : Option Event
     o = due_entry old.head old.events k
 
-    by : IfSome o (λ e. seat_of e ≡ k) × EndsNothing o
+    by : IfSome o (λ e. Stands old.head old.events e × (seat_of e ≡ k)) × EndsNothing o
     by = due_by old.head old.events k o refl
 
-asked_by : (head : Head) (events : List Event) (k : ℕ) (op : Option Op) → IfSome (event_for head events k op) (λ e. seat_of e ≡ k)
+asked_by : (head : Head) (events : List Event) (k : ℕ) (op : Option Op) →
+    IfSome (event_for head events k op) (λ e. Stands head events e × (seat_of e ≡ k))
 asked_by head events k None = tt
 asked_by head events k (Some op) = go (next_event head events k op) refl
   where
-    go : (o : Option Event) → next_event head events k op ≡ o → IfSome o (λ e. seat_of e ≡ k)
+    go : (o : Option Event) → next_event head events k op ≡ o → IfSome o (λ e. Stands head events e × (seat_of e ≡ k))
     go None f = tt
-    go (Some e) f = (next_stands head events k op e f).1
+    go (Some e) f = next_stands head events k op e f
 
 -- what an actor's turn made, and what it notes of it
 pub record Noted {H : Type 0} (old new : Contents) (last last_now seat : ℕ) (actor now : Actor H) : Type 0 where
   pub head_is : new.head ≡ old.head
   pub event : Option Event
   pub events_are : new.events ≡ old.events ++ option_to_list event
-  pub by : IfSome event (λ e. seat_of e ≡ seat)
+  pub by : IfSome event (λ e. Stands old.head old.events e × (seat_of e ≡ seat))
   pub up : last ≤ last_now
   pub made : last_now ≤ length new.events
   pub ends : last_now ≡ last → EndsNothing event
@@ -263,7 +264,7 @@ turn_knows (Ok x) old new actors threads last last_now i k actor now e head even
       head_is = head;
       event = event_for old.head old.events k (asked actor);
       events_are = events;
-      by = subst (λ z. IfSome (event_for old.head old.events k (asked actor)) (λ e. seat_of e ≡ z)) (sym e)
+      by = subst (λ z. IfSome (event_for old.head old.events k (asked actor)) (λ e. Stands old.head old.events e × (seat_of e ≡ z))) (sym e)
           (asked_by old.head old.events k (asked actor));
       up = up.0;
       made = up.1;

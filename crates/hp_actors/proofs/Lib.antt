@@ -12,6 +12,7 @@ mod Opening
 mod Waiting
 mod Knowing
 mod ThreadsTurn
+mod ThreadSeats
 mod HooksTurned
 mod Later
 mod Giving

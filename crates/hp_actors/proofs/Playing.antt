@@ -14,7 +14,9 @@ use Rattle.hp_board.specs.Turns.{IsServed}
 use Rattle.hp_board.specs.declared.turn.Turn.{Turn}
 use Rattle.hp_board.specs.declared.turn.Turn.TheVariants.{Made, NotYet}
 use Rattle.hp_board.specs.declared.turn.Ask.{Ask}
-use Rattle.hp_locks.specs.declared.why.Why.TheVariants.{Idle}
+use Rattle.hp_locks.specs.declared.why.Why.TheVariants.{HookOut, Idle}
+use Rattle.hp_table.specs.Step.{AllHome}
+use Rattle.std.proofs.lemmas.Bool.{true≢false}
 use Rattle.hp_ledger.specs.TableChanges.{is_setup}
 use Rattle.hp_board.proofs.Busy.{others_keep}
 use Rattle.hp_board.proofs.HooksCounted.{serve_keeps_hooks}
@@ -86,21 +88,23 @@ pub record Served (seat : ℕ) (old new : Contents) : Type 0 where
   pub events_are : new.events ≡ old.events ++ option_to_list (due_entry old.head old.events seat)
   pub hooks_are : hook_count new.places ≡ hook_count old.places
 
-pub served : (k : ℕ) (old new : Contents) (t : Turn) → IsServed k old new t → Served k old new
-served k old new (Made at) s =
+-- every hook is home, so none is waited for
+pub served : (k : ℕ) (old new : Contents) (t : Turn) → AllHome old.places → IsServed k old new t → Served k old new
+served k old new (Made at) home s =
     record {
       head_is = ap (λ b. b.head) s.new_is;
       events_are = ap (λ b. b.events) s.new_is ∙ ap (λ o. old.events ++ option_to_list o) (sym s.next_is);
       hooks_are = serve_keeps_hooks old new k (Made at) s;
     }
-served k old new (NotYet Idle) s =
+served k old new (NotYet Idle) home s =
     record {
       head_is = ap (λ b. b.head) s.1;
       events_are =
           ap (λ b. b.events) s.1 ∙ sym (append-nil old.events) ∙ ap (λ o. old.events ++ option_to_list o) (sym s.0);
       hooks_are = serve_keeps_hooks old new k (NotYet Idle) s;
     }
-served k old new t s = absurd s
+served k old new (NotYet (HookOut state)) home s = absurd (true≢false (sym (home state) ∙ s.0.away))
+served k old new t home s = absurd s
 
 -- after a thread's turn
 pub thread_position : {H : Type 0} (seen : H → Counts) (old new : Contents) (actors : List (Actor H)) (threads k : ℕ) →

@@ -1,5 +1,5 @@
 -- Turns of seats in rising number, and rounds of them, as the run makes them.
-use Rattle.std.proofs.Common.{◌≡◌, ℕ, zero, suc, ◌+◌, ◌-◌, ◌<◌, ◌≤◌, Bool, true, false, ◌&&◌, eqb, ltb, is_none, Option, Some, None, List, length, refl, ap, sym, subst, ◌∙◌, arith}
+use Rattle.std.proofs.Common.{◌≡◌, ℕ, zero, suc, ◌+◌, ◌-◌, ◌<◌, ◌≤◌, Bool, true, false, ◌&&◌, eqb, ltb, is_none, Option, Some, None, List, ◌++◌, length, refl, ap, sym, subst, ◌∙◌, arith}
 use Rattle.std.specs.Prelude.{option_map, IsTrue}
 use Rattle.std.specs.List.{sum_by}
 use Rattle.std.proofs.lemmas.Bool.{true≢false, eqb-true, eqb-false, ltb-true, ltb-false}
@@ -18,7 +18,10 @@ use Rattle.hp_model.proofs.RoundsEnd.{turns_go_on, turns_bounded}
 use Rattle.hp_board.specs.declared.turn.Ask.{Ask}
 use Rattle.hp_actors.specs.Asking.{IsReached}
 use Rattle.hp_actors.specs.Positions.{Position, op_of}
-use Rattle.hp_actors.proofs.Progressing.{turns_push, turns_none, thread_turn, idle_turn}
+use Rattle.hp_ledger.specs.UnderWay.{IsThreadDue, NoThreadDue}
+use Rattle.hp_actors.proofs.Admissions.{present_below}
+use Rattle.hp_actors.proofs.Progressing.{turns_push, turns_none, turns_more, thread_turn, idle_turn}
+use Rattle.hp_actors.proofs.ThreadSeats.{IsSeatOf, IsSeated, AreQuiet, seated, below_rises, below_next, there_possible, seats_idle, quiet_before, sits_below}
 
 -- seats that nothing is due from are passed over
 pub idle_until : (head : Head) (actors : List (List Op)) (at : RunState) (m d n : ℕ) → n ≡ m + d → n ≤ length (present head) →
@@ -42,32 +45,12 @@ numbers_more head actors at k =
     let e : k + 1 ≡ suc k = omega arith in
     ap (λ z. after_turns head actors at (numbers z)) e ∙ turns_push head actors at (numbers k) k
 
--- the next seat that something is due from has its turn
-pub due_turn : (head : Head) (actors : List (List Op)) (at now : RunState) (m k : ℕ) →
-    now ≡ after_turns head actors at (numbers m) → m ≤ k → k < length (present head) →
-    ((j : ℕ) → m ≤ j → j < k → due_entry head now.events j ≡ None) →
-    turn head actors now k ≡ after_turns head actors at (numbers (k + 1))
-due_turn head actors at now m k is from below none =
-    let passed =
-    idle_until head actors at m (k - m) k (omega (arith, from)) (omega (arith, below))
-    (λ j a b. ap (λ z. due_entry head z.events j) (sym is) ∙ none j a b) in
-    ap (λ z. turn head actors z k) (is ∙ sym passed) ∙ sym (numbers_more head actors at k)
-
-pub none_due : (head : Head) (actors : List (List Op)) (at now : RunState) (m : ℕ) →
-    now ≡ after_turns head actors at (numbers m) → m ≤ length (present head) →
-    ((j : ℕ) → m ≤ j → j < length (present head) → due_entry head now.events j ≡ None) →
-    now ≡ after_turns head actors at (numbers (length (present head)))
-none_due head actors at now m is few none =
-    let P : ℕ = length (present head) in
-    is ∙ sym (idle_until head actors at m (P - m) P (omega (arith, few)) (omega arith)
-    (λ j a b. ap (λ z. due_entry head z.events j) (sym is) ∙ none j a b))
-
--- where a run stands after turns of the first seats
-pub record IsServed (old now : Position) (next : ℕ) : Type 0 where
+-- where a run stands after turns of the threads of the processors below a number
+pub record IsServed (old now : Position) (from : ℕ) : Type 0 where
   pub head : now.head ≡ old.head
   pub actors : now.actors ≡ old.actors
-  pub few : next ≤ length (present old.head)
-  pub turned : now.progress ≡ after_turns old.head old.actors old.progress (numbers next)
+  pub few : from ≤ old.head.possible
+  pub turned : now.progress ≡ after_turns old.head old.actors old.progress (numbers (length (present_below old.head from)))
   pub hooks : now.hooks ≡ old.hooks
 
 pub first_served : (old : Position) → IsServed old old 0
@@ -79,9 +62,39 @@ first_served old = record {
   hooks = refl;
 }
 
-pub more_served : (old now after : Position) (next seat : ℕ) → IsServed old now next → next ≤ seat →
-    seat < length (present now.head) →
-    ((k : ℕ) → next ≤ k → k < seat → due_entry now.head now.progress.events k ≡ None) →
+-- it is seated
+pub still_seated : (old now : Position) (from : ℕ) → IsScript old.head old.actors → IsReached old.head old.actors old.progress →
+    IsServed old now from → IsSeated old.head now.progress.events
+still_seated old now from script r s =
+    seated old.head old.actors now.progress script (
+      r.0 ++ numbers (length (present_below old.head from)),
+      s.turned
+          ∙ (ap (λ q. after_turns old.head old.actors q (numbers (length (present_below old.head from)))) r.1
+          ∙ sym (turns_more old.head old.actors (start old.head old.actors) r.0 (numbers (length (present_below old.head from))))),
+    )
+
+-- threads from which nothing is due are passed over
+pub passed : (old now : Position) (from to : ℕ) → IsServed old now from → IsSeated old.head now.progress.events →
+    AreQuiet old.head now.progress.events from to → from ≤ to → to ≤ old.head.possible → IsServed old now to
+passed old now from to s seats quiet up few = record {
+  head = s.head;
+  actors = s.actors;
+  few = few;
+  turned =
+      let m : ℕ = length (present_below old.head from) in
+      let n : ℕ = length (present_below old.head to) in
+      let le : m ≤ n = below_rises old.head from to up in
+      let all : n ≤ length (present old.head) = below_rises old.head to old.head.possible few in
+      s.turned
+      ∙ sym (idle_until old.head old.actors old.progress m (n - m) n (omega (arith, le)) all
+      (λ k a b. ap (λ (q : RunState). due_entry old.head q.events k) (sym s.turned)
+      ∙ seats_idle old.head now.progress.events from to k seats quiet a b (omega (arith, b, all))));
+  hooks = s.hooks;
+}
+
+-- the next thread that something is due from has its turn
+pub more_served : (old now after : Position) (from cpu seat : ℕ) → IsServed old now from → IsSeated old.head now.progress.events →
+    from ≤ cpu → IsThreadDue now.head now.progress.events cpu seat → NoThreadDue now.head now.progress.events from cpu →
     after
     ≡ record {
       head = now.head;
@@ -89,19 +102,43 @@ pub more_served : (old now after : Position) (next seat : ℕ) → IsServed old 
       progress = turn now.head now.actors now.progress seat;
       hooks = now.hooks;
     } →
-    IsServed old after (seat + 1)
-more_served old now after next seat s from below none is = record {
+    IsServed old after (cpu + 1)
+more_served old now after from cpu seat s seats low due none is = record {
   head = ap (λ p. p.head) is ∙ s.head;
   actors = ap (λ p. p.actors) is ∙ s.actors;
-  few = let e : length (present now.head) ≡ length (present old.head) = ap (λ h. length (present h)) s.head in omega (arith, below, e);
+  few = omega (arith, possible);
   turned =
-      let e : length (present now.head) ≡ length (present old.head) = ap (λ h. length (present h)) s.head in
+      let here = passed old now from cpu s seats (quiet_before old.head now.progress.events from cpu seats none_here) low (omega (arith, possible)) in
+      let next = below_next old.head cpu sits.there in
+      let i = sits.seat_is in
+      let e : seat + 1 ≡ length (present_below old.head (cpu + 1)) = omega (arith, next, i) in
       ap (λ p. p.progress) is
       ∙ (ap (λ h. turn h now.actors now.progress seat) s.head ∙ (ap (λ a. turn old.head a now.progress seat) s.actors
-      ∙ due_turn old.head old.actors old.progress now.progress next seat s.turned from (omega (arith, below, e))
-      (λ k a b. ap (λ h. due_entry h now.progress.events k) (sym s.head) ∙ none k a b)));
+      ∙ (ap (λ q. turn old.head old.actors q seat) (here.turned ∙ ap (λ z. after_turns old.head old.actors old.progress (numbers z)) (sym i))
+      ∙ (sym (numbers_more old.head old.actors old.progress seat)
+      ∙ ap (λ z. after_turns old.head old.actors old.progress (numbers z)) e))));
   hooks = ap (λ p. p.hooks) is ∙ s.hooks;
 }
+  where
+    none_here : NoThreadDue old.head now.progress.events from cpu
+    none_here = subst (λ h. NoThreadDue h now.progress.events from cpu) s.head none
+
+    sits : IsSeatOf old.head cpu seat
+    sits = seats.threads cpu seat due.thread_is
+
+    possible : cpu < old.head.possible
+    possible = there_possible old.head cpu sits.there
+
+-- a thread's processor is one of the machine, and its seat one of a thread
+pub thread_possible : (old now : Position) (from cpu seat : ℕ) → IsServed old now from → IsSeated old.head now.progress.events →
+    IsThreadDue now.head now.progress.events cpu seat → cpu < old.head.possible
+thread_possible old now from cpu seat s seats due = there_possible old.head cpu (seats.threads cpu seat due.thread_is).there
+
+pub thread_seated : (old now : Position) (from cpu seat : ℕ) → IsServed old now from → IsSeated old.head now.progress.events →
+    IsThreadDue now.head now.progress.events cpu seat → seat < length (present now.head)
+thread_seated old now from cpu seat s seats due =
+    subst (λ (h : Head). seat < length (present h)) (sym s.head)
+    (sits_below old.head cpu seat (seats.threads cpu seat due.thread_is))
 
 -- threads answer nothing
 pub threads_answer : (head : Head) (actors : List (List Op)) (at : RunState) (n : ℕ) → n ≤ length (present head) →
@@ -122,8 +159,8 @@ seat_more old now after seat head actors turned is =
     ∙ (ap (λ h. turn h now.actors now.progress seat) head ∙ (ap (λ a. turn old.head a now.progress seat) actors
     ∙ (ap (λ q. turn old.head old.actors q seat) turned ∙ sym (numbers_more old.head old.actors old.progress seat))))
 
-pub all_served : (old now : Position) (next : ℕ) → IsServed old now next →
-    ((k : ℕ) → next ≤ k → k < length (present now.head) → due_entry now.head now.progress.events k ≡ None) →
+pub all_served : (old now : Position) (from : ℕ) → IsServed old now from → IsSeated old.head now.progress.events →
+    NoThreadDue now.head now.progress.events from now.head.possible →
     now
     ≡ record {
       head = old.head;
@@ -131,11 +168,11 @@ pub all_served : (old now : Position) (next : ℕ) → IsServed old now next →
       progress = after_turns old.head old.actors old.progress (numbers (length (present old.head)));
       hooks = old.hooks;
     }
-all_served old now next s none =
-    let e : length (present now.head) ≡ length (present old.head) = ap (λ h. length (present h)) s.head in
+all_served old now from s seats none =
     let t =
-    none_due old.head old.actors old.progress now.progress next s.turned s.few
-    (λ k a b. ap (λ h. due_entry h now.progress.events k) (sym s.head) ∙ none k a (omega (arith, b, e))) in
+    (passed old now from old.head.possible s seats
+    (quiet_before old.head now.progress.events from old.head.possible seats
+    (subst (λ (h : Head). NoThreadDue h now.progress.events from h.possible) s.head none)) s.few (omega arith)).turned in
     same now.head now.actors now.progress now.hooks old.head old.actors _ old.hooks s.head s.actors t s.hooks
   where
     same : (h : Head) (a : List (List Op)) (p : RunState) (hs : List (List (Option Counts))) (i : Head) (b : List (List Op)) (q : RunState)

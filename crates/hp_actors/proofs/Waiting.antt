@@ -10,7 +10,9 @@ use Rattle.hp_event.specs.declared.event.Event.TheVariants.{Enter, WalkBegin, Wa
 use Rattle.hp_model.specs.Events.{seat_of}
 use Rattle.hp_model.specs.FirstEvent.{first_event, is_client, refused_or_begun}
 use Rattle.hp_model.specs.Lists.{is_empty, without}
-use Rattle.hp_model.specs.MapLock.{operation, operation_step, is_map_held, is_map_op}
+use Rattle.hp_model.specs.Batch.{begun, begun_step, is_upmany, is_batch_begun}
+use Rattle.hp_model.specs.Lawful.{Comes}
+use Rattle.hp_model.specs.MapLock.{Operation, operation, operation_step, is_map_held, is_map_op}
 use Rattle.hp_model.specs.NextEvent.{next_event, is_full, if_room, lacks_room, next_in_flight}
 use Rattle.hp_model.specs.Readers.{reading_since, reading_since_step, is_reading}
 use Rattle.hp_model.specs.Refusals.{refusal}
@@ -18,11 +20,12 @@ use Rattle.hp_model.specs.RefusalsAtOnce.{first_that_holds, refusals_at_once}
 use Rattle.hp_model.specs.Registrations.{Registration, registration, registration_step, is_registering}
 use Rattle.hp_model.specs.Seats.{is_busy, holds_map, registers, role_of}
 use Rattle.hp_model.specs.Subsystems.{names_sub}
-use Rattle.hp_model.specs.Waits.{Wait, maps_held, first_wait, is_waiting, is_disarming, wait_for_map, wait_for_registration, wait_for_walk, wait_for_writer, wait_to_register, wait_to_begin}
+use Rattle.hp_model.specs.Suspend.{held_by}
+use Rattle.hp_model.specs.Waits.{Wait, maps_held, writer_in, first_wait, is_waiting, is_disarming, wait_for_map, wait_for_registration, wait_for_walk, wait_for_batch, wait_for_writer, wait_to_register, wait_to_begin}
 use Rattle.hp_model.specs.Walks.{Walk, walk, walking, walking_step, is_walking}
-use Rattle.hp_model.proofs.Laws.{operation_push, registration_push, reading_since_push, walking_push}
+use Rattle.hp_model.proofs.Laws.{operation_push, registration_push, reading_since_push, walking_push, begun_push}
 use Rattle.hp_model.proofs.Owners.{map_free, none_some}
-use Rattle.hp_model.proofs.WaitLemmas.{map_waits, registration_waits, writer_waits, first_waits, register_waits}
+use Rattle.hp_model.proofs.WaitLemmas.{is_writing, map_waits, registration_waits, writer_waits, first_waits, register_waits}
 use Rattle.hp_actors.specs.Waiting.{IsReady, IsWaiting, is_end}
 
 neither : (a b : Bool) → a ≡ false → b ≡ false → (a || b) ≡ false
@@ -59,21 +62,41 @@ leaves_ready xs (ReadUnlock seat) k other idle =
     record { idle = idle; reading = ap (λ b. is_some (cond b None (reading_since k xs))) (ne_eqb seat k other) }
 leaves_ready xs e k other idle = record { idle = idle; reading = refl }
 
+or_false : (b : Bool) → (b || false) ≡ b
+or_false true = refl
+or_false false = refl
+
 -- what an event that is no end leaves held
 record LeavesHeld (before : List Event) (e : Event) : Type 0 where
   pub map : is_map_held before ≡ true → is_some (operation_step (operation before) before e) ≡ true
   pub registers : is_registering before ≡ true → is_some (registration_step (registration before) before e) ≡ true
-  pub walks : is_walking before ≡ true → not (is_empty (walking_step (walking before) before e)) ≡ true
+  pub writes : is_writing before ≡ true →
+      (not (is_empty (walking_step (walking before) before e))
+      || (held_by is_upmany (operation_step (operation before) before e) && not (is_empty (begun_step (begun before) before e))))
+      ≡ true
 
-leaves_held : (xs : List Event) (e : Event) → is_end e ≡ false → LeavesHeld xs e
-leaves_held xs (Enter seat o) end = record { map = λ held. refl; registers = λ held. held; walks = λ held. held }
-leaves_held xs (RegBegin seat state o) end = record { map = λ held. held; registers = λ held. refl; walks = λ held. held }
-leaves_held xs (WalkBegin seat cpu from to) end =
-    record { map = λ held. held; registers = λ held. held; walks = λ held. not_empty (without cpu (walking xs)) cpu }
-leaves_held xs (WalkEnd seat cpu answer) end = absurd (true≢false end)
-leaves_held xs (OpEnd seat answer) end = absurd (true≢false end)
-leaves_held xs (RegEnd seat answer) end = absurd (true≢false end)
-leaves_held xs e end = record { map = λ held. held; registers = λ held. held; walks = λ held. held }
+-- where an operation enters nobody holds the map lock, so an upmany has begun no walk
+walks_then : (xs : List Event) (b : Bool) → operation xs ≡ None → is_writing xs ≡ true → (is_walking xs || b) ≡ true
+walks_then xs b none h =
+    let no : is_batch_begun xs ≡ false = rw none refl in
+    rw (sym (or_false (is_walking xs)) ∙ (ap (λ z. is_walking xs || z) (sym no) ∙ h)) refl
+
+leaves_held : (head : Head) (xs : List Event) (e : Event) → Comes head xs e → is_end e ≡ false → LeavesHeld xs e
+leaves_held head xs (Enter seat o) comes end =
+    let free = map_free xs o comes.takes_map comes.passes.not_waiting in
+    record { map = λ held. refl; registers = λ held. held; writes = λ held. walks_then xs _ free held }
+leaves_held head xs (RegBegin seat state o) comes end =
+    record { map = λ held. held; registers = λ held. refl; writes = λ held. held }
+leaves_held head xs (WalkBegin seat cpu from to) comes end =
+    record {
+      map = λ held. held;
+      registers = λ held. held;
+      writes = λ held. let some = not_empty (without cpu (walking xs)) cpu in rw some refl;
+    }
+leaves_held head xs (WalkEnd seat cpu answer) comes end = absurd (true≢false end)
+leaves_held head xs (OpEnd seat answer) comes end = absurd (true≢false end)
+leaves_held head xs (RegEnd seat answer) comes end = absurd (true≢false end)
+leaves_held head xs e comes end = record { map = λ held. held; registers = λ held. held; writes = λ held. held }
 
 either_on : (a b c d : Bool) → (a ≡ true → c ≡ true) → (b ≡ true → d ≡ true) → (a || b) ≡ true → (c || d) ≡ true
 either_on true b c d x y h = ap (λ z. z || d) (x refl)
@@ -82,9 +105,9 @@ either_on false b false d x y h = y h
 
 -- what an operation waits for is there as long as the locks are held
 waits_on : (before after : List Event) (o : Op) → (is_map_held before ≡ true → is_map_held after ≡ true) →
-    (is_registering before ≡ true → is_registering after ≡ true) → (is_walking before ≡ true → is_walking after ≡ true) →
+    (is_registering before ≡ true → is_registering after ≡ true) → (is_writing before ≡ true → is_writing after ≡ true) →
     is_waiting before o ≡ true → is_waiting after o ≡ true
-waits_on before after o map reg walks w = go o w
+waits_on before after o map reg writes w = go o w
   where
     map_on : is_some (wait_for_map (operation before)) ≡ true → is_some (wait_for_map (operation after)) ≡ true
     map_on w = map_waits (operation after) ∙ map (sym (map_waits (operation before)) ∙ w)
@@ -93,8 +116,8 @@ waits_on before after o map reg walks w = go o w
         is_some (wait_for_registration (registration after)) ≡ true
     reg_on w = registration_waits (registration after) ∙ reg (sym (registration_waits (registration before)) ∙ w)
 
-    register_on : (is_walking before || is_registering before) ≡ true → (is_walking after || is_registering after) ≡ true
-    register_on w = either_on (is_walking before) (is_registering before) (is_walking after) (is_registering after) walks reg w
+    register_on : (is_writing before || is_registering before) ≡ true → (is_writing after || is_registering after) ≡ true
+    register_on w = either_on (is_writing before) (is_registering before) (is_writing after) (is_registering after) writes reg w
 
     arm_on : (b : Bool) → is_some (cond b None (wait_for_registration (registration before))) ≡ true →
         is_some (cond b None (wait_for_registration (registration after))) ≡ true
@@ -113,9 +136,10 @@ waits_on before after o map reg walks w = go o w
     go op.Enable w = map_on w
     go (op.Freeze p) w = map_on w
     go op.Thaw w = map_on w
+    go (op.UpMany set) w = map_on w
     go (op.Arm c v) w = arm_on (is_disarming v) w
     go op.ShowStates w = reg_on w
-    go op.Lock w = writer_waits after ∙ walks (sym (writer_waits before) ∙ w)
+    go op.Lock w = writer_waits after ∙ writes (sym (writer_waits before) ∙ w)
     go (op.Setup s sub form) w = register_waits after ∙ register_on (sym (register_waits before) ∙ w)
     go (op.Remove s form) w = register_waits after ∙ register_on (sym (register_waits before) ∙ w)
     go (op.Add s i form) w = register_waits after ∙ register_on (sym (register_waits before) ∙ w)
@@ -133,6 +157,7 @@ at_once_same head before after k op.Disable same = rw same refl
 at_once_same head before after k op.Enable same = rw same refl
 at_once_same head before after k (op.Freeze p) same = rw same refl
 at_once_same head before after k op.Thaw same = rw same refl
+at_once_same head before after k (op.UpMany set) same = rw same refl
 at_once_same head before after k op.Lock same = rw same refl
 at_once_same head before after k op.Unlock same = rw same refl
 at_once_same head before after k (op.Setup s sub form) same = rw same refl
@@ -160,16 +185,16 @@ ready_still head xs e k o other r =
     }
 
 -- it waits on after an event of another seat that ends nothing
-pub waits_still : (head : Head) (xs : List Event) (e : Event) (k : ℕ) (o : Op) → seat_of e ≢ k → is_end e ≡ false →
-    IsWaiting head xs k o → IsWaiting head (xs ++ e ∷ []) k o
-waits_still head xs e k o other end w =
-    let l = leaves_held xs e end in
+pub waits_still : (head : Head) (xs : List Event) (e : Event) (k : ℕ) (o : Op) → Comes head xs e → seat_of e ≢ k →
+    is_end e ≡ false → IsWaiting head xs k o → IsWaiting head (xs ++ e ∷ []) k o
+waits_still head xs e k o comes other end w =
+    let l = leaves_held head xs e comes end in
     record {
       ready = ready_still head xs e k o other w.ready;
       waits =
           waits_on xs (xs ++ e ∷ []) o (λ h. ap is_some (operation_push xs e) ∙ l.map h)
           (λ h. ap is_some (registration_push xs e) ∙ l.registers h)
-          (λ h. ap (λ cs. not (is_empty cs)) (walking_push xs e) ∙ l.walks h) w.waits;
+          (λ h. rw (walking_push xs e, operation_push xs e, begun_push xs e) (l.writes h)) w.waits;
     }
 
 -- an operation of the map lock waits whenever that is held
@@ -188,8 +213,16 @@ no_walk_map : (w : Option Walk) (s : ℕ) → wait_for_walk w ≡ Some (maps_hel
 no_walk_map None s h = absurd (cc)
 no_walk_map (Some w) s h = absurd (cc)
 
+no_batch_map : (cs : List ℕ) (o : Option Operation) (s : ℕ) → wait_for_batch cs o ≡ Some (maps_held s) → ⊥
+no_batch_map cs None s h = absurd (cc)
+no_batch_map cs (Some o) s h = go (is_upmany o.op && not (is_empty cs)) h
+  where
+    go : (b : Bool) → cond b (Some (writer_in o.seat)) None ≡ Some (maps_held s) → ⊥
+    go true h = absurd (cc)
+    go false h = absurd (cc)
+
 no_writer_map : (cs : List ℕ) (xs : List Event) (s : ℕ) → wait_for_writer cs xs ≡ Some (maps_held s) → ⊥
-no_writer_map [] xs s h = absurd (cc)
+no_writer_map [] xs s h = no_batch_map (begun xs) (operation xs) s h
 no_writer_map (c ∷ cs) xs s h = no_walk_map (walk c xs) s h
 
 neither_map : (a b : Option Wait) (s : ℕ) → (a ≡ Some (maps_held s) → ⊥) → (b ≡ Some (maps_held s) → ⊥) →
@@ -219,6 +252,7 @@ map_waited xs o s h = go o h
     go op.Enable h = refl
     go (op.Freeze p) h = refl
     go op.Thaw h = refl
+    go (op.UpMany set) h = refl
     go (op.Arm c v) h = absurd (no_arm (is_disarming v) h)
     go op.ShowStates h = absurd (no_registration_map (registration xs) s h)
     go op.Lock h = absurd (no_writer_map (walking xs) xs s h)

@@ -1,14 +1,14 @@
 -- Where an operation waits to begin, or in flight for a thread, by which events a wait can end, and what a run knows of the actors that
 -- wait. This project's own.
-use Rattle.std.specs.Prelude.{◌≡◌, ◌≢◌, ℕ, ◌+◌, ◌≤◌, Bool, true, false, IfSome, IsSome, Option, Some, None, List, length, slice_get}
+use Rattle.std.specs.Prelude.{◌≡◌, ℕ, ◌+◌, ◌≤◌, Bool, true, false, IfSome, Option, Some, None, List, length, slice_get}
 use Rattle.hp_event.specs.declared.op.Op.{Op}
 use Rattle.hp_event.specs.declared.head.Head.{Head}
 use Rattle.hp_event.specs.declared.event.Event.{Event}
 use Rattle.hp_event.specs.declared.event.Event.TheVariants.{WalkEnd, OpEnd, RegEnd}
-use Rattle.hp_model.specs.MapLock.{Operation, operation, is_map_op}
-use Rattle.hp_model.specs.NextEvent.{due_entry, next_event, is_full}
+use Rattle.hp_model.specs.ApTurn.{IsApTurn}
+use Rattle.hp_model.specs.MapLock.{is_map_op}
+use Rattle.hp_model.specs.NextEvent.{next_event, is_full}
 use Rattle.hp_model.specs.RefusalsAtOnce.{first_that_holds, refusals_at_once}
-use Rattle.hp_model.specs.Registrations.{Registration, registration}
 use Rattle.hp_model.specs.Seats.{is_busy}
 use Rattle.hp_model.specs.Waits.{is_waiting}
 use Rattle.hp_board.specs.Contents.{Contents}
@@ -25,17 +25,9 @@ pub record MakesNoEvent (head : Head) (events : List Event) (seat : ℕ) (op : O
   pub no_event : next_event head events seat op ≡ None
   pub not_full : is_full head events seat op ≡ false
 
--- the registration that is in flight is the seat's or, where none is, the map lock is
-pub data HasInFlight (events : List Event) (seat : ℕ) : Type 0 where
-  by_registration : (r : Registration) → registration events ≡ Some r → r.seat ≡ seat → HasInFlight events seat
-  by_map_lock : (o : Operation) → registration events ≡ None → operation events ≡ Some o → o.seat ≡ seat → HasInFlight events seat
-
--- and an entry is due from another seat
-pub record WaitsForThread (head : Head) (events : List Event) (seat : ℕ) : Type 0 where
-  pub has : HasInFlight events seat
-  pub other : ℕ
-  pub due : IsSome (due_entry head events other)
-  pub is_other : other ≢ seat
+-- the next entry of what it has in flight is a thread's to make
+abbrev pub WaitsForThread : Head → List Event → (seat : ℕ) → Type 0
+WaitsForThread head events k = (cpu : ℕ) × IsApTurn head events k cpu
 
 -- nothing of the seat is in flight, and its operation isn't refused at once
 pub record IsReady (head : Head) (events : List Event) (seat : ℕ) (op : Op) : Type 0 where

@@ -1,9 +1,8 @@
 //! Rounds: one turn of each seat, in rising number.
 
-ghost use Rattle.std.specs.Prelude.{◌≡◌, ℕ, ◌+◌, ◌<◌, ◌≤◌, IfSome, None, OnOk, List, length, true};
-ghost use Rattle.std.specs.Option.{unwrap_or};
+ghost use Rattle.std.specs.Prelude.{◌≡◌, ℕ, ◌+◌, ◌<◌, ◌≤◌, IfSome, IfNone, OnOk, List, length, true};
+ghost use Rattle.hp_ledger.specs.UnderWay.{IsThreadDue, NoThreadDue};
 ghost use Rattle.hp_model.specs.Lists.{numbers};
-ghost use Rattle.hp_model.specs.NextEvent.{due_entry};
 ghost use Rattle.hp_model.specs.Processors.{present};
 ghost use Rattle.hp_model.specs.ScriptRun.{start, is_over, after_round, IsRun};
 ghost use Rattle.hp_model.specs.ScriptTurns.{after_turns};
@@ -50,7 +49,7 @@ impl<H: Hook> Run<H> {
         self.serve_threads();
         let (first, last) = self.actors_seats();
         for seat in first..last {
-            if self.still_waits(seat) {
+            if self.actor_waits((seat - first) as usize) {
                 continue;
             }
             self.turn(seat)?;
@@ -66,7 +65,8 @@ impl<H: Hook> Run<H> {
         (self.threads, self.threads + self.actors.len() as u32)
     }
 
-    /// One turn of each thread's seat, in rising number. Those that have nothing to make are passed over.
+    /// One turn of each thread's seat, in rising number, which is that of its processor. Those that have nothing
+    /// to make are passed over.
     ///
     /// Takes no memory.
     fn serve_threads(&mut self)
@@ -77,24 +77,25 @@ impl<H: Hook> Run<H> {
             } }
         ensures made { IsLater self.old self.new }
     {
-        let mut next = 0;
-        while let Some(seat) = self.next_due(next) {
+        self.sound();
+        let mut from = 0;
+        while let Some((cpu, seat)) = self.next_thread_due(from) {
+            from = cpu + 1;
             self.serve(seat);
-            next = seat + 1;
         }
     }
 
-    /// The first thread's seat from a number on that an entry is due from, if there is one. Takes no memory.
-    fn next_due(&self, next: u32) -> Option<u32>
-        ensures seat { IfSome result (λ seat. (next ≤ seat) × (seat < length (present self.now.head))) }
-        ensures counted { IfSome result (λ seat. seat < u32.MAX) }
-        ensures idle { (seat : ℕ) → next ≤ seat → seat < unwrap_or result (length (present self.now.head)) →
-            due_entry self.now.head self.now.progress.events seat ≡ None }
+    /// The lowest processor from one on of which an entry is due from its thread, and the thread's seat, if there is
+    /// one. Takes no memory.
+    fn next_thread_due(&self, from: u32) -> Option<(u32, u32)>
+        ensures due { IfSome result (λ due. (from ≤ due.0)
+            × IsThreadDue self.now.head self.now.progress.events due.0 due.1
+            × NoThreadDue self.now.head self.now.progress.events from due.0) }
+        ensures counted { IfSome result (λ due. due.0 < u32.MAX) }
+        ensures idle { IfNone result (NoThreadDue self.now.head self.now.progress.events from self.now.head.possible) }
     {
-        match self.board.due_seat() {
-            Some(seat) if next <= seat && seat < self.threads => Some(seat),
-            _ => None,
-        }
+        self.board.sound();
+        self.board.next_thread_due(from)
     }
 
     /// Whether every operation is answered. Takes no memory.

@@ -1,6 +1,6 @@
 //! The run of a script.
 
-ghost use Rattle.std.specs.Prelude.{◌≡◌, ◌↔◌, ◌<◌, OnOk, OnErr, length, true};
+ghost use Rattle.std.specs.Prelude.{◌≡◌, ◌↔◌, ◌+◌, ◌<◌, OnOk, OnErr, length, true};
 ghost use Rattle.hp_model.specs.Processors.{present};
 ghost use Rattle.hp_model.specs.ScriptTurns.{turn};
 ghost use Rattle.hp_event.specs.declared.op.Op.{Op as AnOp};
@@ -61,6 +61,7 @@ impl<H: Hook> Run<H> {
 
     /// One turn of a thread's seat: it makes the entry that is due from it, if one is. The operations keep
     /// their hooks. Takes no memory.
+    #[inline(always)]
     pub(crate) fn serve(&mut self, seat: u32)
         requires { seat < length (present self.old.head) }
         ensures { self.new
@@ -108,29 +109,34 @@ impl<H: Hook> Run<H> {
         if seat < self.threads {
             return false;
         }
-        match self.actors.get((seat - self.threads) as usize) {
+        self.actor_waits((seat - self.threads) as usize)
+    }
+
+    /// Whether the next turn of an actor makes nothing, as `still_waits` says it of its seat: of the actor at a
+    /// place of their list. Takes no memory.
+    #[inline(always)]
+    pub(crate) fn actor_waits(&self, place: usize) -> bool
+        ensures { result ≡ true →
+            turn self.now.head self.now.actors self.now.progress (length (present self.now.head) + place)
+            ≡ self.now.progress }
+    {
+        match self.actors.get(place) {
             Some(actor) => match actor.waits {
-                Waits::Unknown => waits_for_thread(&self.board, seat),
                 Waits::WhileMapHeld => self.board.holder().is_some(),
                 Waits::UntilEnd(end) => end == self.last_end,
+                Waits::Unknown => waits_for_thread(&self.board, self.threads + place as u32),
             },
             None => false,
         }
     }
 }
 
-/// Whether what comes next of a seat's walk or registration in flight is another seat's entry: until that is
-/// made, a turn of the seat makes nothing. Takes no memory.
+/// Whether the next entry of a seat's operation in flight is a thread's to make: until it is made, a turn of the
+/// seat makes nothing. Takes no memory.
 fn waits_for_thread<H: Hook>(board: &Board<H>, seat: u32) -> bool
     ensures exactly { (result ≡ true) ↔ WaitsForThread board.now.head board.now.events seat }
     ensures nothing { result ≡ true → (op : AnOp) → MakesNoEvent board.now.head board.now.events seat op }
 {
     board.sound();
-    match board.due_seat() {
-        Some(due) if due != seat => match board.registrar() {
-            Some(registrar) => registrar == seat,
-            None => board.holder() == Some(seat),
-        },
-        _ => false,
-    }
+    board.ap_turn(seat).is_some()
 }

@@ -1,7 +1,7 @@
-//! Two actors, by three schedules.
+//! Two actors, by three schedules, and two of which one brings processors up together.
 
 use hp_actors::Run;
-use hp_event::{Answer, Event};
+use hp_event::{Answer, Event, How};
 use hp_hook::{Hook, Rack, ScriptHook};
 use hp_script::parse;
 use hp_states::{Dir, HookPlan};
@@ -64,18 +64,18 @@ fn text(alloc: Global, schedule: &[u8]) -> Result<Vec<u8>, Fail> {
 /// The seats of a run's events, and the last two.
 type Played = (Vec<u32>, Option<(Event, Event)>);
 
-/// Plays the script with this schedule.
-fn played(alloc: Global, schedule: &[u8], rack: &mut Rack<Marked>) -> Result<Played, Fail> {
+/// Plays a script: its journal.
+fn played(alloc: Global, text: &[u8], rack: &mut Rack<Marked>) -> Result<Vec<Event>, Fail> {
     let hooks = rack.hooks.len().min(u32::MAX as usize) as u32;
-    let script = match parse(alloc, &text(alloc, schedule)?, hooks) {
+    let script = match parse(alloc, text, hooks) {
         Ok(script) => script,
         Err(error) => return Err(Fail::from(error)),
     };
     let mut run = Run::start(alloc, &script, rack)?;
     run.play(script.schedule())?;
-    let played = seats_of(alloc, run.board().journal().events())?;
+    let events = Vec::from_slice(alloc, run.board().journal().events())?;
     run.finish(rack)?;
-    Ok(played)
+    Ok(events)
 }
 
 /// The seats of events, and the last two.
@@ -162,10 +162,88 @@ const LAST: (Event, Event) = (
 fn schedules_interleave_two_actors(rt: HostRuntime) -> Result<(), Fail> {
     for &(schedule, seats, marks) in ROWS.iter() {
         let mut rack = rack(rt.alloc())?;
-        let (made_by, last) = played(rt.alloc(), schedule, &mut rack)?;
+        let events = played(rt.alloc(), &text(rt.alloc(), schedule)?, &mut rack)?;
+        let (made_by, last) = seats_of(rt.alloc(), &events)?;
         assert!(rt; made_by.as_slice() == seats.as_slice());
         assert!(rt; last == Some(LAST));
         assert!(rt; seen(&rack) == Some((marks, MADE)));
     }
+    Ok(())
+}
+
+/// Two actors: one brings two processors up together, and the other reads and registers beside it.
+const TOGETHER: &[u8] =
+    b"cpus 3\nsub a both single\nschedule rounds\nactor one\nsetup 20 1\nsetup 150 1\nupmany 1 2\nactor two\nlock\nunlock\nsetup 160 1\nlock\nunlock\nremove 160\nlock\nunlock\n";
+
+/// The seats of their events: after the admissions, round by round.
+const TOGETHER_SEATS: [u32; 33] = [
+    0, 1, 2, 3, 4, // the threads, and the two actors
+    3, 4, 3, 4, 3, 4, // state 20 is set up, whose entries are the client's, beside a reader
+    0, 4, 3, 4, 0, 3, 4, // one waits for the other's registration, at whose entries threads are
+    3, 4, 0, 4, // the upmany enters, and its first walk waits for a registration
+    3, 3, // both walks begin
+    3, 1, 3, 2, 3, 3, // each makes the client's entry and its thread's, and ends
+    3, 4, 4, // and the other can't read before the operation ends
+];
+
+/// Those from the first walk on.
+fn walked() -> [Event; 11] {
+    [
+        Event::WalkBegin {
+            seat: 3,
+            cpu: 1,
+            from: 0,
+            to: 200,
+        },
+        Event::WalkBegin {
+            seat: 3,
+            cpu: 2,
+            from: 0,
+            to: 200,
+        },
+        up_call(3, 1, 20),
+        up_call(1, 1, 150),
+        up_call(3, 2, 20),
+        up_call(2, 2, 150),
+        Event::WalkEnd {
+            seat: 3,
+            cpu: 1,
+            answer: Answer::Ok(0),
+        },
+        Event::WalkEnd {
+            seat: 3,
+            cpu: 2,
+            answer: Answer::Ok(0),
+        },
+        Event::OpEnd {
+            seat: 3,
+            answer: Answer::Ok(0),
+        },
+        Event::ReadLock { seat: 4 },
+        Event::ReadUnlock { seat: 4 },
+    ]
+}
+
+/// The entry of a processor that a hook made, on its way up.
+fn up_call(seat: u32, cpu: u32, state: u32) -> Event {
+    Event::Call {
+        seat,
+        cpu,
+        state,
+        inst: 0,
+        dir: Dir::Up,
+        how: How::RanOk,
+    }
+}
+
+#[test]
+fn processors_come_up_together(rt: HostRuntime) -> Result<(), Fail> {
+    let mut rack = rack(rt.alloc())?;
+    let events = played(rt.alloc(), TOGETHER, &mut rack)?;
+    let (made_by, _) = seats_of(rt.alloc(), &events)?;
+    assert!(rt; made_by.as_slice() == TOGETHER_SEATS.as_slice());
+    let begun = events.len().min(22);
+    let (_, from_first) = events.split_at(begun);
+    assert!(rt; from_first == walked().as_slice());
     Ok(())
 }

@@ -17,7 +17,7 @@ use Rattle.hp_model.proofs.DueGives.{due_stands}
 use Rattle.hp_model.proofs.Laws.{operation_push, registration_push, role_push}
 use Rattle.hp_model.proofs.NextStands.{next_stands, next_belongs}
 use Rattle.hp_model.proofs.Owners.{same_some, none_some}
-use Rattle.hp_locks.specs.declared.why.Why.TheVariants.{Idle}
+use Rattle.hp_locks.specs.declared.why.Why.TheVariants.{HookOut, Idle}
 use Rattle.hp_board.specs.declared.turn.Turn.{Turn}
 use Rattle.hp_board.specs.declared.turn.Turn.TheVariants.{Made, Answered, NotYet}
 use Rattle.hp_board.specs.Contents.{Contents, with_event}
@@ -140,5 +140,6 @@ pub serve_keeps : (old new : Contents) (k by : ℕ) (turn : Turn) → IsServed b
 serve_keeps old new k by (Made at) t other =
     let s = due_stands old.head old.events by t.event t.next_is in
     subst (λ (b : Contents). StaysFor old b k) (sym t.new_is) (stays_by old t.event k by (s.0, s.2) other)
+serve_keeps old new k by (NotYet (HookOut s)) t other = stays_same old new k t.1
 serve_keeps old new k by (NotYet Idle) t other = stays_same old new k t.1
 serve_keeps old new k by turn t other = absurd t

@@ -15,7 +15,7 @@ use Rattle.hp_event.specs.declared.event.Event.TheVariants.{RegBegin, RegEnd, Ca
 use Rattle.hp_event.specs.Hows.{is_called}
 use Rattle.hp_event.specs.Heads.{sub_numbered}
 use Rattle.hp_hook.specs.Counted.{Counts}
-use Rattle.hp_locks.specs.declared.why.Why.TheVariants.{Idle}
+use Rattle.hp_locks.specs.declared.why.Why.TheVariants.{HookOut, Idle}
 use Rattle.hp_model.specs.Events.{is_call, is_registration_op}
 use Rattle.hp_model.specs.Lawful.{IsLawful}
 use Rattle.hp_model.specs.NextEvent.{next_event}
@@ -42,7 +42,7 @@ use Rattle.hp_board.specs.HookCount.{hook_count, held}
 use Rattle.hp_board.specs.Hooks.{has_hook, has_hook_after}
 use Rattle.hp_board.specs.Retired.{hooks_of, IsRacked}
 use Rattle.hp_board.specs.Turns.{IsTurn, IsServed, Makes}
-use Rattle.hp_board.proofs.TurnsMade.{brought, kept}
+use Rattle.hp_board.proofs.TurnsMade.{brings, kept}
 
 -- a write counts what it writes in place of what stood there
 count_set : (places : List (Option Step)) (s : ℕ) (place : Option Step) → s < length places →
@@ -127,24 +127,21 @@ count_next : (head : Head) (es : List Event) (places : List (Option Step)) (p : 
     hook_count (table_after head es e places) + held (has_hook_after es (Some e) had) ≡ hook_count places + held had
 count_next head es places p (RegBegin seat state op) had lawful t sound a has next =
     let s = next_stands head es p.seat p.op (RegBegin seat state op) next in
-    let inside : Contents = record { head = head; events = es; places = places } in
-    let brings : had ≡ is_setup op =
-    brought inside inside p (RegBegin seat state op) had refl lawful a has next refl in
+    let brought : had ≡ is_setup op = has ∙ brings head es p (RegBegin seat state op) lawful a next refl in
     let n =
     count_begun head op state places sound.states (can_change head es places seat op state t sound s.0.0) in
-    rw brings (ap (λ b. hook_count (with_added head op state places) + held b) (spent (is_setup op)) ∙ (let e = n in omega (arith, e)))
+    rw brought (ap (λ b. hook_count (with_added head op state places) + held b) (spent (is_setup op)) ∙ (let e = n in omega (arith, e)))
 count_next head es places p (RegEnd seat answer) had lawful t sound a has next =
     let s = next_stands head es p.seat p.op (RegEnd seat answer) next in
     let r = s.0.0.of in
     let flies : registration es ≡ Some r = s.0.0.in_flight in
-    let inside : Contents = record { head = head; events = es; places = places } in
-    let brings : had ≡ false = brought inside inside p (RegEnd seat answer) had refl lawful a has next refl in
+    let brought : had ≡ false = has ∙ brings head es p (RegEnd seat answer) lawful a next refl in
     let same = a.same r.op (inr (r, flies, s.0.0.seat_is ∙ s.1, refl)) in
     let registers : is_registration_op r.op ≡ true =
     ap is_registration_op same ∙ next_belongs head es p (RegEnd seat answer) lawful a next in
     let h : HasRegistration head es places r = subst (λ o. IfSome o (HasRegistration head es places)) flies t.in_flight in
     let n = count_ended r.op answer r.state places h.step h.place_is registers in
-    rw (flies, brings) (omega (arith, n))
+    rw (flies, brought) (omega (arith, n))
 count_next head es places p (Call seat cpu state inst dir how) had lawful t sound a has next =
     ap (λ b. hook_count (table_after head es (Call seat cpu state inst dir how) places) + held b) (kept had)
     ∙ ap (λ n. n + held had) (count_changed_if (is_called how) places state (called_step (site_at cpu inst dir)))
@@ -186,7 +183,8 @@ turn_keeps_hooks old new p had (Answered None answer) lawful t sound a has is =
 turn_keeps_hooks old new p had (NotYet why) lawful t sound a has is =
     ⊎_elim (λ none. none_keeps old new (next_event old.head old.events p.seat p.op) had is.1 none)
     (λ w. waits_keep old new (next_event old.head old.events p.seat p.op) had is.1
-    (ap (λ o. has_hook_after old.events o had) w.next_is ∙ arms_leaves old.events w.entry w.event had w.arms))
+    (ap (λ o. has_hook_after old.events o had) w.1.next_is
+    ∙ arms_leaves old.events (Call w.1.out.seat w.1.out.cpu w.0 w.1.out.inst w.1.out.dir w.1.out.how) w.1.event had w.1.arms))
     (not_made p.seat p.op old why is.0)
 
 -- an entry leaves as many
@@ -201,6 +199,7 @@ pub serve_keeps_hooks : (old new : Contents) (by : ℕ) (turn : Turn) → IsServ
 serve_keeps_hooks old new by (Made at) is =
     let s = due_stands old.head old.events by is.event is.next_is in
     ap (λ (b : Contents). hook_count b.places) is.new_is ∙ count_call old.head old.events old.places is.event s.1
+serve_keeps_hooks old new by (NotYet (HookOut s)) is = ap (λ (b : Contents). hook_count b.places) is.1
 serve_keeps_hooks old new by (NotYet Idle) is = ap (λ (b : Contents). hook_count b.places) is.1
 serve_keeps_hooks old new by turn is = absurd is
 

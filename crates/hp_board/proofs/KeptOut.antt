@@ -1,80 +1,74 @@
 -- A write of `fail` is kept out exactly while a hook is lent for an entry of the walk of its processor.
-use Rattle.std.proofs.Common.{◌≡◌, ◌≢◌, ℕ, Bool, true, false, ◌&&◌, not, is_some, is_none, Option, Some, None, refl, ap, sym, ◌∙◌, arith}
-use Rattle.std.proofs.lemmas.Bool.{true≢false, false≢true}
-use Rattle.hp_event.specs.declared.event.Event.{Event}
-use Rattle.hp_event.specs.declared.event.Event.TheVariants.{Call}
-use Rattle.hp_model.specs.Lawful.{IsLawful}
-use Rattle.hp_model.specs.Lent.{arms, arms_walker}
-use Rattle.hp_model.specs.Walks.{walk}
-use Rattle.hp_model.specs.NextEvent.{due_entry}
-use Rattle.hp_model.specs.Registrations.{Registration, registration}
-use Rattle.hp_model.proofs.EntryStays.{due_alone, due_calls, walk_or_registration}
-use Rattle.hp_table.specs.Step.{step_at, is_home}
-use Rattle.hp_ledger.specs.declared.entry.Entry.{Entry}
-use Rattle.hp_ledger.specs.Entries.{entry_event}
-use Rattle.hp_board.specs.Contents.{Contents}
+use Rattle.std.proofs.Common.{◌≡◌, ℕ, ℤ, Bool, true, false, ◌&&◌, not, eqb, is_some, is_none, Option, Some, None, refl, ap, sym, ◌∙◌}
 use Rattle.std.specs.Prelude.{option_map}
-use Rattle.hp_board.specs.Loans.{IsCalm, IsOutFor, AreOut}
+use Rattle.std.proofs.lemmas.Bool.{true≢false, false≢true, eqb-true, eq-eqb}
+use Rattle.hp_event.specs.declared.event.Event.{Event}
+use Rattle.hp_event.specs.declared.event.Event.TheVariants.{Armed, Call}
+use Rattle.hp_model.specs.Events.{is_call}
+use Rattle.hp_model.specs.Lawful.{IsLawful}
+use Rattle.hp_model.specs.Lent.{arms, arms_walker, calls_at}
+use Rattle.hp_model.specs.Walks.{walk}
+use Rattle.hp_model.specs.Registrations.{Registration, registration}
+use Rattle.hp_model.proofs.EntryStays.{due_calls, walk_or_registration}
+use Rattle.hp_board.specs.Contents.{Contents}
+use Rattle.hp_board.proofs.Loans.{disarms_not}
+use Rattle.hp_board.specs.Loans.{ArmsNone, CallsHome, IsCalm, IsOutFor}
 
-abbrev cpu_in : Event → ℕ
-cpu_in (Call seat cpu state inst dir how) = cpu
-cpu_in _ = 0
-
--- the entry that something is out for, by the ledger's
-out_of_entry : (b : Contents) (x : Entry) → IsLawful b.head b.events → AreOut b.head b.events b.places →
-    due_entry b.head b.events x.seat ≡ Some (entry_event b.head b.events x) → is_home (step_at b.places x.key.state) ≡ false →
-    (o : IsOutFor b.head b.events x.key.state) × (o.cpu ≡ x.cpu)
-out_of_entry b x lawful out due away =
-    let o = out x.key.state away in
-    let same =
-    due_alone b.head b.events o.seat x.seat (Call o.seat o.cpu x.key.state o.inst o.dir o.how) (entry_event b.head b.events x) lawful o.due due in
-    (o, ap cpu_in same)
-
-walks_where : (b : Contents) (s : ℕ) (o : IsOutFor b.head b.events s) → IsLawful b.head b.events →
-    is_some (walk o.cpu b.events) ≡ is_none (registration b.events)
+-- an entry that is lent for is one of a walk where no registration is in flight
+pub walks_where : (b : Contents) (s : ℕ) (o : IsOutFor b s) → IsLawful b.head b.events →
+    is_some (walk o.cpu b.events) ≡ not (is_some (option_map (λ (r : Registration). r.seat) (registration b.events)))
 walks_where b s o lawful =
     let h = due_calls b.head b.events o.seat o.seat o.cpu s o.inst o.dir o.how o.due in
-    walk_or_registration b.head b.events o.seat o.cpu s o.inst o.dir o.how lawful h.0
+    walk_or_registration b.head b.events o.seat o.cpu s o.inst o.dir o.how lawful h.0 ∙ mapped (registration b.events)
+  where
+    mapped : (r : Option Registration) → is_none r ≡ not (is_some (option_map (λ (r : Registration). r.seat) r))
+    mapped None = refl
+    mapped (Some r) = refl
 
-none_mapped : (r : Option Registration) → is_none (option_map (λ (r : Registration). r.seat) r) ≡ is_none r
-none_mapped None = refl
-none_mapped (Some r) = refl
+-- a write of `fail` of a processor that walks
+pub arms_it : (b : Contents) (seat c : ℕ) (value : ℤ) (s : ℕ) (o : IsOutFor b s) → o.cpu ≡ c → is_some (walk c b.events) ≡ true →
+    arms_walker b.events (Call o.seat o.cpu s o.inst o.dir o.how) (Armed seat c value) ≡ true
+arms_it b seat c value s o same walks =
+    ap (λ z. is_some (walk z b.events) && eqb c z) same ∙ (ap (λ w. w && eqb c c) walks ∙ eq-eqb c c refl)
 
-both_true : (a b : Bool) → a ≡ true → b ≡ true → (a && b) ≡ true
-both_true true true p q = refl
-both_true true false p q = q
-both_true false b p q = p
+-- an event that is no entry calls no hook
+no_call : (s : ℕ) (e : Event) → is_call e ≡ false → calls_at s e ≡ false
+no_call s (Call k c t i d how) h = absurd (true≢false h)
+no_call s e h = refl
 
-not_both : (a b : Bool) → (a ≡ true → b ≡ true → ⊥) → (a && b) ≡ false
-not_both true true h = absurd (h refl refl)
-not_both true false h = refl
-not_both false b h = refl
+pub calls_none : (b : Contents) (e : Event) → is_call e ≡ false → CallsHome b e
+calls_none b e h s calls = absurd (false≢true (sym (no_call s e h) ∙ calls))
 
--- a write of `fail` is kept out where the entry is one of a walk of its processor
-pub kept_out : (b : Contents) (x : Entry) (e : Event) → IsLawful b.head b.events → AreOut b.head b.events b.places →
-    due_entry b.head b.events x.seat ≡ Some (entry_event b.head b.events x) → is_home (step_at b.places x.key.state) ≡ false →
-    is_none (option_map (λ (r : Registration). r.seat) (registration b.events)) ≡ true → arms x.cpu e ≡ true →
-    (is_home (step_at b.places x.key.state) ≡ false)
-    × ((o : IsOutFor b.head b.events x.key.state)
-    × (arms_walker b.events (Call o.seat o.cpu x.key.state o.inst o.dir o.how) e ≡ true))
-kept_out b x e lawful out due away none armed =
-    let o = out_of_entry b x lawful out due away in
-    let walks = walks_where b x.key.state o.0 lawful ∙ (sym (none_mapped (registration b.events)) ∙ none) in
-    (away, (o.0, both_true (is_some (walk o.0.cpu b.events)) (arms o.0.cpu e) walks (ap (λ c. arms c e) o.1 ∙ armed)))
+-- a write of `fail` of a processor that no hook is lent for in a walk
+pub arms_nobody : (b : Contents) (seat c : ℕ) (value : ℤ) → ((s : ℕ) (o : IsOutFor b s) → o.cpu ≡ c → is_some (walk c b.events) ≡ false) →
+    ArmsNone b (Armed seat c value)
+arms_nobody b seat c value none s o = go (eqb c o.cpu) refl
+  where
+    both : (w x : Bool) → x ≡ false → (w && x) ≡ false
+    both true x h = h
+    both false x h = refl
 
--- and no other is
-pub calm_by : (b : Contents) (x : Entry) (e : Event) → IsLawful b.head b.events →
-    due_entry b.head b.events x.seat ≡ Some (entry_event b.head b.events x) →
-    (is_none (option_map (λ (r : Registration). r.seat) (registration b.events)) ≡ true → arms x.cpu e ≡ true → ⊥) → IsCalm b e
-calm_by b x e lawful due other s o away =
-    let same =
-    due_alone b.head b.events o.seat x.seat (Call o.seat o.cpu s o.inst o.dir o.how) (entry_event b.head b.events x) lawful o.due due in
-    not_both (is_some (walk o.cpu b.events)) (arms o.cpu e)
-    (λ walks armed. other (none_mapped (registration b.events) ∙ (sym (walks_where b s o lawful) ∙ walks))
-    (sym (ap (λ c. arms c e) (ap cpu_in same)) ∙ armed))
+    go : (x : Bool) → eqb c o.cpu ≡ x → (is_some (walk o.cpu b.events) && eqb c o.cpu) ≡ false
+    go true e =
+        let same = sym (eqb-true c o.cpu e) in
+        ap (λ w. w && eqb c o.cpu) (ap (λ z. is_some (walk z b.events)) same ∙ none s o same)
+    go false e = both (is_some (walk o.cpu b.events)) (eqb c o.cpu) e
 
-pub none_is : {A : Type 0} (o : Option A) (b : Bool) → is_some o ≡ not b → is_none o ≡ b
-none_is None true e = refl
-none_is None false e = absurd (false≢true e)
-none_is (Some x) true e = absurd (true≢false e)
-none_is (Some x) false e = refl
+-- any other event arms nobody
+pub arms_not : (b : Contents) (e : Event) → ((seat c : ℕ) (value : ℤ) → e ≡ Armed seat c value → ⊥) → ArmsNone b e
+arms_not b e other s o = and_none (is_some (walk o.cpu b.events)) (arms o.cpu e) (none e other)
+  where
+    and_none : (w x : Bool) → x ≡ false → (w && x) ≡ false
+    and_none true x h = h
+    and_none false x h = refl
+
+    none : (e : Event) → ((seat c : ℕ) (value : ℤ) → e ≡ Armed seat c value → ⊥) → arms o.cpu e ≡ false
+    none (Armed seat c value) other = absurd (other seat c value refl)
+    none e other = refl
+
+-- a seat that comes in or goes does neither
+pub calm_seat : (b : Contents) (e : Event) → is_call e ≡ false → ((c : ℕ) → arms c e ≡ false) → IsCalm b e
+calm_seat b e no_call arms_none = (
+  λ s o. disarms_not b.events o.seat o.cpu s o.inst o.dir o.how e (arms_none o.cpu),
+  calls_none b e no_call,
+)

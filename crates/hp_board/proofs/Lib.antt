@@ -6,8 +6,13 @@ pub mod HooksCounted
 pub mod Complete
 pub mod Loans
 pub mod KeptOut
+pub mod Below
+pub mod LentEntries
 pub mod Waiting
 pub mod Homes
+pub mod Served
 pub mod LoansStay
+pub mod LoansMade
+pub mod OwnEntries
 pub mod HookOuts
 pub mod Moving

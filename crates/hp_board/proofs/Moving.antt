@@ -1,11 +1,11 @@
 -- Where no hook is lent, what can stand is made by a turn.
-use Rattle.std.proofs.Common.{◌≡◌, ℕ, true, false, Some, None, List, inl, inr, refl, sym, ◌∙◌}
+use Rattle.std.proofs.Common.{◌≡◌, ℕ, true, Some, None, List, inl, inr, refl, sym, ◌∙◌}
 use Rattle.std.specs.Prelude.{Contains}
 use Rattle.std.proofs.lemmas.Bool.{true≢false}
 use Rattle.std.proofs.lemmas.List.Elements.{All-contains}
 use Rattle.hp_event.specs.declared.event.Event.{Event}
 use Rattle.hp_locks.specs.declared.why.Why.{Why}
-use Rattle.hp_locks.specs.declared.why.Why.TheVariants.{Idle}
+use Rattle.hp_locks.specs.declared.why.Why.TheVariants.{HookOut, Idle}
 use Rattle.hp_ledger.specs.Next.{IsKept}
 use Rattle.hp_model.specs.Lawful.{IsLawful}
 use Rattle.hp_model.specs.Moves.{ArePending, CanMove}
@@ -32,11 +32,12 @@ unless_kept b p home never new (Made at) is = refl
 unless_kept b p home never new (Answered at answer) is = refl
 unless_kept b p home never new (NotYet why) is = absurd (never why (plain_wait p.seat p.op b why home is.0))
 
-serves : (b : Contents) (k : ℕ) (e : Event) → due_entry b.head b.events k ≡ Some e → (new : Contents) (turn : Turn) →
+serves : (b : Contents) (k : ℕ) (e : Event) → AllHome b.places → due_entry b.head b.events k ≡ Some e → (new : Contents) (turn : Turn) →
     IsServed k b new turn → moves turn ≡ true
-serves b k e due new (Made at) is = refl
-serves b k e due new (NotYet Idle) is = absurd (some_none e (sym due ∙ is.0))
-serves b k e due new t is = absurd is
+serves b k e home due new (Made at) is = refl
+serves b k e home due new (NotYet (HookOut s)) is = absurd (true≢false (sym (home s) ∙ is.0.away))
+serves b k e home due new (NotYet Idle) is = absurd (some_none e (sym due ∙ is.0))
+serves b k e home due new t is = absurd is
 
 pub some_seat_moves : (b : Contents) (pending : List Pending) → IsLawful b.head b.events → AllHome b.places →
     ArePending b.head b.events pending → SomeMoves b pending
@@ -51,7 +52,7 @@ some_seat_moves b pending lawful home a = go (some_moves b.head b.events pending
         inl (p, in_it, unless_kept b p home (λ why kept. some_none e (sym next ∙ kept.no_event)))
     go (inl (e, stands, inr (cpu, at, call))) =
         let due = due_gives b.head b.events _ e lawful stands call refl in
-        inr (cpu, _, at, serves b _ e due)
+        inr (cpu, _, at, serves b _ e home due)
     go (inr (p, in_it, full)) =
         let is = (full_exactly b.head b.events p lawful (allowed p in_it)).1 full in
         inl (p, in_it, unless_kept b p home (λ why kept. true≢false (sym is ∙ kept.not_full)))

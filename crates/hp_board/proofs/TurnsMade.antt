@@ -35,7 +35,7 @@ and_true : (b : Bool) → (b && true) ≡ b
 and_true true = refl
 and_true false = refl
 
-brings : (head : Head) (es : List Event) (p : Pending) (e : Event) → IsLawful head es → IsAllowed head es p →
+pub brings : (head : Head) (es : List Event) (p : Pending) (e : Event) → IsLawful head es → IsAllowed head es p →
     next_event head es p.seat p.op ≡ Some e → is_registering e ≡ true → has_hook es p.seat p.op ≡ brings_hook e
 brings head es p (RegBegin seat state op) lawful a next is =
     let s = next_stands head es p.seat p.op (RegBegin seat state op) next in

@@ -17,8 +17,8 @@ use Rattle.hp_board.specs.Loans.{WaitsForThread, WaitsToArm}
 use Rattle.hp_board.specs.Turns.{IsNotYet}
 
 pub not_made : (k : ℕ) (op : Op) (b : Contents) (why : Why) → IsNotYet k op b why →
-    (next_event b.head b.events k op ≡ None) ⊎ WaitsToArm b k op
-not_made k op b (HookOut s) h = ⊎_elim (λ (w : WaitsForThread b k op). inl w.kept.no_event) (λ w. inr w) h.1
+    (next_event b.head b.events k op ≡ None) ⊎ ((s : ℕ) × WaitsToArm b s k op)
+not_made k op b (HookOut s) h = ⊎_elim (λ (w : WaitsForThread b s k op). inl w.kept.no_event) (λ w. inr (s, w)) h
 not_made k op b (ApTurn cpu) h = inl h.0.no_event
 not_made k op b why h = inl h.no_event
 
@@ -45,6 +45,8 @@ arms_quietly es c e h = by_armed (λ x. leaves_hook es (Some x) ≡ true) (λ se
 
 -- where no hook is lent it is as the ledger says
 pub plain_wait : (k : ℕ) (op : Op) (b : Contents) (why : Why) → AllHome b.places → IsNotYet k op b why → IsKept b.head b.events k op why
-plain_wait k op b (HookOut s) home h = absurd (true≢false (sym (home s) ∙ h.0))
+plain_wait k op b (HookOut s) home h =
+    absurd (⊎_elim (λ (w : WaitsForThread b s k op). true≢false (sym (home s) ∙ w.away))
+    (λ (w : WaitsToArm b s k op). true≢false (sym (home s) ∙ w.out.away)) h)
 plain_wait k op b (ApTurn cpu) home h = h.0
 plain_wait k op b why home h = h

@@ -14,9 +14,8 @@ use Rattle.hp_model.specs.NextEvent.{next_event, due_entry, is_full}
 use Rattle.hp_ledger.specs.Next.{IsKept}
 use Rattle.hp_board.specs.declared.turn.Turn.{Turn}
 use Rattle.hp_board.specs.declared.turn.Turn.TheVariants.{Made, Answered, NotYet}
-use Rattle.hp_table.specs.Step.{step_at, is_home, AllHome}
 use Rattle.hp_board.specs.Contents.{Contents, with_event}
-use Rattle.hp_board.specs.Loans.{WaitsForThread, WaitsToArm}
+use Rattle.hp_board.specs.Loans.{CallsAway, WaitsForThread, WaitsToArm}
 
 -- this one event was appended, at this place, and gives this answer, or none
 pub record Makes (next : Option Event) (at : ℕ) (answer : Option Answer) (old new : Contents) : Type 0 where
@@ -42,15 +41,15 @@ abbrev pub goes_on : Turn → Bool
 goes_on (Answered at answer) = false
 goes_on _ = true
 
--- the hook of a state is lent, and the operation waits for it: where the next entry is a thread's to make, that its hook comes home; and
--- a write of `fail` that can stand, the hook of an entry in the middle of the processor's walk
+-- the hook of a state is lent, and the operation waits for it: where the next entry is a thread's to make, that it comes home for that
+-- entry; and a write of `fail` that can stand, that it comes home from the entry in the middle of the processor's walk
 abbrev pub IsHookOut : (state seat : ℕ) → Op → Contents → Type 0
-IsHookOut s k op b = (is_home (step_at b.places s) ≡ false) × (WaitsForThread b k op ⊎ WaitsToArm b k op)
+IsHookOut s k op b = WaitsForThread b s k op ⊎ WaitsToArm b s k op
 
--- what it waits for
+-- what it waits for; a thread alone where the entry that this has to make calls no hook that is away
 abbrev pub IsNotYet : (seat : ℕ) → Op → Contents → Why → Type 0
 IsNotYet k op b (HookOut s) = IsHookOut s k op b
-IsNotYet k op b (ApTurn cpu) = IsKept b.head b.events k op (ApTurn cpu) × AllHome b.places
+IsNotYet k op b (ApTurn cpu) = IsKept b.head b.events k op (ApTurn cpu) × ((s : ℕ) → WaitsForThread b s k op → ⊥)
 IsNotYet k op b why = IsKept b.head b.events k op why
 
 -- what a turn of a client's seat does
@@ -60,9 +59,10 @@ IsTurn k op old new (Answered (Some at) answer) = Makes (next_event old.head old
 IsTurn k op old new (Answered None answer) = IsFullFor k op answer old new
 IsTurn k op old new (NotYet why) = IsNotYet k op old why × (new ≡ old)
 
--- what a thread's turn does: it makes the entry that is due from it, if one is
+-- what a thread's turn does: it makes the entry that is due from it, if one is, and waits where that calls a hook that is away
 abbrev pub IsServed : (seat : ℕ) → (old new : Contents) → Turn → Type 0
 IsServed k old new (Made at) = Makes (due_entry old.head old.events k) at None old new
+IsServed k old new (NotYet (HookOut s)) = CallsAway old s (due_entry old.head old.events k) × (new ≡ old)
 IsServed k old new (NotYet Idle) = (due_entry old.head old.events k ≡ None) × (new ≡ old)
 IsServed k old new _ = ⊥
 

@@ -1,11 +1,12 @@
 //! The board.
 
-ghost use Rattle.std.specs.Prelude.{◌≡◌, ◌<◌, ◌↔◌, ℕ, Some, IsSome, IfOk, option_map};
+ghost use Rattle.std.specs.Prelude.{◌≡◌, ◌<◌, ◌≤◌, ◌↔◌, ℕ, Some, IfOk, IfSome, IfNone, option_map};
 ghost use Rattle.hp_ledger.specs.Clients.{clients};
+ghost use Rattle.hp_ledger.specs.UnderWay.{IsDueOn, NoneDue, IsThreadDue, NoThreadDue};
+ghost use Rattle.hp_model.specs.ApTurn.{IsApTurn};
 ghost use Rattle.hp_model.specs.Lists.{among};
 ghost use Rattle.hp_model.specs.MapLock.{Operation, operation};
 ghost use Rattle.hp_model.specs.Net.{keys_in_force};
-ghost use Rattle.hp_model.specs.NextEvent.{due_entry};
 ghost use Rattle.hp_model.specs.Registrations.{Registration, registration};
 ghost use Rattle.hp_model.specs.Seats.{is_busy};
 ghost use Rattle.hp_model.specs.Settled.{settled, is_online};
@@ -20,11 +21,11 @@ use std::marker::Model;
 
 /// The machine of CPU hotplug: processors, states with their hooks, and a journal of all that was done.
 ///
-/// Contracts see its head, its events, oldest first, and what stands at each state with its hook's counts
-/// (`Contents`). Its journal is lawful at any time; what stands at a state is what the journal has
-/// registered there, and of a registration in flight what it adds; and each hook has counted the calls
-/// of the journal since the setup that registered it began. A hook that is lent is that of the entry
-/// that is due.
+/// Contracts see its head, its events, oldest first, what stands at each state with its hook's counts, and
+/// the processors that hooks are lent for (`Contents`). Its journal is lawful at any time; what stands at a
+/// state is what the journal has registered there, and of a registration in flight what it adds; and each
+/// hook has counted the calls of the journal since the setup that registered it began. A hook that is lent
+/// is that of an entry that is due of one of these processors; two of them are lent hooks of two states.
 #[derive(Drop)]
 pub struct Board<H: Hook> {
     pub(crate) machine: Machine<H>,
@@ -38,7 +39,7 @@ impl<H: Hook> Model for Board<H> {
 
     ghost view = { λ b. b.machine };
 
-    ghost invariant = { λ b. AreOut b.machine.head b.machine.events b.machine.places };
+    ghost invariant = { λ b. AreOut b.machine };
 }
 
 impl<H: Hook> Board<H> {
@@ -70,14 +71,41 @@ impl<H: Hook> Board<H> {
         self.machine.state(cpu) >= TEARDOWN_CPU
     }
 
-    /// The seat that an entry is due from, if one is: there is at most one at any time. `serve` makes it
-    /// where that is a thread's.
+    /// The lowest processor from one on of which an entry is due, and the seat that it is due from, if there is
+    /// one: `serve` makes it where that is a thread's. Of one processor at most one entry is due, and but in an
+    /// upmany of one alone.
     ///
-    /// Takes no memory, and looks at no event. After `cpuhp_invoke_ap_callback` of `kernel/cpu.c`.
-    pub fn due_seat(&self) -> Option<u32>
-        ensures { (k : ℕ) → IsSome (due_entry self.now.head self.now.events k) ↔ (result ≡ Some k) }
+    /// Takes no memory, and time for the processors that walk. After `cpuhp_invoke_ap_callback` of
+    /// `kernel/cpu.c`.
+    pub fn next_due(&self, from: u32) -> Option<(u32, u32)>
+        ensures some { IfSome result (λ due. (from ≤ due.0) × IsDueOn self.now.head self.now.events due.0 due.1
+            × NoneDue self.now.head self.now.events from due.0) }
+        ensures none { IfNone result (NoneDue self.now.head self.now.events from self.now.head.possible) }
     {
-        self.machine.due_seat()
+        self.machine.next_due(from)
+    }
+
+    /// The lowest processor from one on of which an entry is due from its thread, and the thread's seat, if there is
+    /// one: `serve` makes it.
+    ///
+    /// Takes no memory, and time for the processors whose threads make the next entries. After
+    /// `cpuhp_thread_fun` of `kernel/cpu.c`.
+    pub fn next_thread_due(&self, from: u32) -> Option<(u32, u32)>
+        ensures some { IfSome result (λ due. (from ≤ due.0) × IsThreadDue self.now.head self.now.events due.0 due.1
+            × NoThreadDue self.now.head self.now.events from due.0) }
+        ensures none { IfNone result (NoThreadDue self.now.head self.now.events from self.now.head.possible) }
+    {
+        self.machine.next_thread_due(from)
+    }
+
+    /// The processor whose thread has to make the next entry of the operation of a client's seat that is in
+    /// flight, if one has: then the seat waits for it.
+    ///
+    /// Takes no memory, and looks at no event. After `cpuhp_kick_ap` of `kernel/cpu.c`.
+    pub fn ap_turn(&self, seat: u32) -> Option<u32>
+        ensures { (cpu : ℕ) → IsApTurn self.now.head self.now.events seat cpu ↔ (result ≡ Some cpu) }
+    {
+        self.machine.ap_turn(seat)
     }
 
     /// Whether an operation of a seat is in flight: it holds the map lock, or registers.

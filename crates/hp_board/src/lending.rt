@@ -1,16 +1,20 @@
 //! Hooks lent and given back.
 
-ghost use Rattle.std.specs.Prelude.{◌≡◌, ◌≢◌, ◌↔◌, ℕ, true, None, Some, IsTrue, IfSome, IfNone, IsSome, is_some};
-ghost use Rattle.hp_board.specs.Loans.{loan, asks_hook, is_hook};
+ghost use Rattle.std.specs.Prelude.{◌≡◌, ◌≢◌, ◌↔◌, ◌==◌, ◌&&◌, ◌||◌, not, ℕ, true, false, None, Some, IsTrue, IfSome, IfNone, IsSome, is_some};
+ghost use Rattle.hp_board.specs.Loans.{loan, can_lend, is_hook};
 ghost use Rattle.hp_board.specs.Turns.{IsServed};
 ghost use Rattle.hp_board.specs.declared.turn.Turn.TheVariants.{Made};
+ghost use Rattle.hp_ledger.specs.Entries.{entry_event};
+ghost use Rattle.hp_ledger.specs.declared.entry.Means.TheVariants.{Hook as ByHook};
 ghost use Rattle.hp_model.specs.NextEvent.{due_entry};
-ghost use Rattle.hp_table.specs.Step.{AllHome};
+ghost use Rattle.hp_states.specs.CpuSets.{has};
+ghost use Rattle.hp_table.specs.Step.{step_at, is_home, AllHome};
 
 use crate::board::Board;
 use crate::loan::{Back, Loan};
 use hp_hook::Hook;
 use hp_ledger::{Entry, Means};
+use hp_states::MAX_CPU_SET;
 
 impl<H: Hook> Board<H> {
     /// Whether something is lent to a seat.
@@ -19,10 +23,36 @@ impl<H: Hook> Board<H> {
     pub fn has_lent(&self, by: u32) -> bool
         ensures { result ≡ is_some (loan self.now by) }
     {
+        if self.machine.lent().is_empty() {
+            return false;
+        }
+        self.machine.sound();
         match self.machine.due(by) {
-            Some(entry) => !self.machine.table().is_home(entry.key.state),
+            Some(entry) => self.is_lent(entry.cpu),
             None => false,
         }
+    }
+
+    /// Whether a hook is lent for the entry of a processor.
+    pub(crate) fn is_lent(&self, cpu: u32) -> bool
+        ensures { result ≡ has self.now.lent cpu }
+    {
+        self.machine.sound();
+        cpu < MAX_CPU_SET && self.machine.lent().has(cpu)
+    }
+
+    /// Whether an entry is made by its hook's answer, and that hook is away.
+    #[inline(always)]
+    pub(crate) fn is_out(&self, entry: &Entry) -> bool
+        ensures by_hook { result ≡ true → entry.now.means ≡ ByHook }
+        ensures away { result ≡ true → is_home (step_at self.now.places entry.now.key.state) ≡ false }
+        ensures home { result ≡ false → entry.now.means ≡ ByHook →
+            is_home (step_at self.now.places entry.now.key.state) ≡ true }
+    {
+        if self.machine.lent().is_empty() {
+            return false;
+        }
+        is_by_hook(entry) && !self.machine.table().is_home(entry.key.state)
     }
 
     /// Whether every hook is home.
@@ -31,22 +61,20 @@ impl<H: Hook> Board<H> {
     pub fn is_home(&self) -> bool
         ensures { IsTrue result ↔ AllHome self.now.places }
     {
-        match self.out() {
-            Some(_) => false,
-            None => true,
-        }
+        self.machine.lent().is_empty()
     }
 
     /// Lends the hook of the entry that is due from a seat, where its answer makes the entry: the hook
     /// can be called outside then, and `give` makes the entry by its answer.
     ///
-    /// Nothing is lent to the seat. None exactly where no entry is due from it that a hook's answer makes;
-    /// then nothing has changed. What is lent to other seats stays so. Makes no event, and takes no memory.
-    /// After `cpuhp_thread_fun` of `kernel/cpu.c`; that hooks are lent is this project's own.
+    /// There is no condition. None exactly where no entry is due from the seat that a hook's answer makes, or
+    /// that hook is away, lent to this seat or to another; then nothing has changed. What is lent to other
+    /// seats stays so. Makes no event, and takes no memory. After `cpuhp_thread_fun` of `kernel/cpu.c`; that
+    /// hooks are lent is this project's own.
     pub fn lend(&mut self, by: u32) -> Option<Loan<H>>
-        requires { loan self.old by ≡ None }
-        ensures some { IsSome result ↔ (asks_hook (due_entry self.old.head self.old.events by) ≡ true) }
+        ensures some { IsSome result ↔ (can_lend (due_entry self.old.head self.old.events by) self.old.places ≡ true) }
         ensures lent { IfSome result (λ l. loan self.new by ≡ Some l) }
+        ensures put { IfSome result (λ l. (cpu : ℕ) → has self.new.lent cpu ≡ (cpu == l.cpu || has self.old.lent cpu)) }
         ensures events { (self.new.head ≡ self.old.head) × (self.new.events ≡ self.old.events) }
         ensures none { IfNone result (self.new ≡ self.old) }
         ensures stays { (k : ℕ) → k ≢ by → loan self.new k ≡ loan self.old k }
@@ -56,15 +84,13 @@ impl<H: Hook> Board<H> {
         if !is_by_hook(&entry) {
             return None;
         }
-        match self.machine.lend(entry.key.state) {
-            Some(hook) => Some(Loan {
-                hook,
-                cpu: entry.cpu,
-                key: entry.key,
-                dir: entry.dir,
-            }),
-            None => unreachable!(),
-        }
+        let hook = self.machine.lend(&entry)?;
+        Some(Loan {
+            hook,
+            cpu: entry.cpu,
+            key: entry.key,
+            dir: entry.dir,
+        })
     }
 
     /// Puts a hook home that was lent to a seat, makes the entry by its answer, and answers the place of
@@ -75,7 +101,8 @@ impl<H: Hook> Board<H> {
     /// this project's own.
     pub fn give(&mut self, by: u32, back: Back<H>) -> u32
         requires { loan self.old by ≡ Some back }
-        ensures served { IsServed by self.old self.new (Made result) }
+        ensures served { IsServed by (record self.old { lent = self.new.lent }) self.new (Made result) }
+        ensures taken { (cpu : ℕ) → has self.new.lent cpu ≡ (not (cpu == back.cpu) && has self.old.lent cpu) }
         ensures home { loan self.new by ≡ None }
         ensures stays { (k : ℕ) → k ≢ by → loan self.new k ≡ loan self.old k }
     {
@@ -87,9 +114,9 @@ impl<H: Hook> Board<H> {
             key: _,
             dir: _,
         } = back;
+        self.machine.sound();
         match self.machine.due(by) {
             Some(entry) => {
-                self.machine.sound();
                 let at = self.machine.journal().len();
                 self.machine.make_answered(&entry, hook, answer);
                 at
@@ -100,7 +127,7 @@ impl<H: Hook> Board<H> {
 }
 
 /// Whether an entry is made by its hook's answer.
-fn is_by_hook(entry: &Entry) -> bool
+pub(crate) fn is_by_hook(entry: &Entry) -> bool
     ensures { result ≡ is_hook entry.now.means }
 {
     matches!(entry.means, Means::Hook)

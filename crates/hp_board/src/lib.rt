@@ -4,13 +4,16 @@
 //! A `Board` starts with processors and subsystems. Seats come in: a client, or the hotplug thread of a
 //! processor. `turn` makes the one event that comes next of a client's seat and its operation, or answers
 //! what it waits for; `serve` makes the entry that is due from a thread. Hooks go in with setups, are called
-//! once for each entry that the journal says was called, and are handed back as they stood. `retire` gives
-//! the board up for its journal and its hooks.
+//! once for each entry that the journal says was called, and are handed back as they stood. `lend` lends the
+//! hook of an entry that is due, to be called outside, and `give` makes the entry by its answer; in an upmany
+//! several hooks are out at once, each for another processor and of another state. `retire` gives the board
+//! up for its journal and its hooks.
 //!
-//! Contracts see the head, the events and what stands at each state (`specs/Contents.antt`). `Turns.antt`
-//! says what a turn makes of them, by hp_model's `next_event`, `due_entry` and `is_full`; `Hooks.antt` what
-//! becomes of the hook that is asked with; `Admission.antt` and `Starts.antt` each refusal; `Retired.antt`
-//! which hooks there are at the end, by the journal. Its journal is lawful at any time (`Board::sound`). The
+//! Contracts see the head, the events, what stands at each state, and the processors that hooks are lent for
+//! (`specs/Contents.antt`). `Turns.antt` says what a turn makes of them, by hp_model's `next_event`,
+//! `due_entry` and `is_full`; `Loans.antt` which hooks are out, what is lent to a seat, and what waits for a
+//! hook; `Hooks.antt` what becomes of the hook that is asked with; `Admission.antt` and `Starts.antt` each
+//! refusal; `Retired.antt` which hooks there are at the end, by the journal. Its journal is lawful at any time (`Board::sound`). The
 //! functions of `laws.rt` and `hook_laws.rt` have empty bodies: their contracts are laws of turns.
 #![tactic(auto)]
 

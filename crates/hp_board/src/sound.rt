@@ -14,13 +14,13 @@ impl<H: Hook> Board<H> {
     /// What is so of every board, which callers cite: it does nothing.
     ///
     /// Its journal is lawful, what stands at each state is what the journal says, the states are those of a
-    /// table, 201 in all, and a hook that is lent is that of the entry that is due: the five facts of
-    /// what is lent to a seat are `IsLoan`. Takes no memory. This project's own.
+    /// table, 201 in all, and a hook that is lent is that of an entry that is due: `AreOut` says which are
+    /// away, and `IsLoan` the five facts of what is lent to a seat. Takes no memory. This project's own.
     pub fn sound(&self)
         ensures lawful { IsLawful self.now.head self.now.events }
         ensures table { IsTableOf self.now.head self.now.events self.now.places }
         ensures places { IsSound self.now.places }
-        ensures out { AreOut self.now.head self.now.events self.now.places }
+        ensures out { AreOut self.now }
         ensures loans { (k : ℕ) (a : AnAside) → loan self.now k ≡ Some a → IsLoan self.now.head self.now.events k a }
     {
         // what is so of every board

@@ -61,6 +61,7 @@ impl<H: Hook> Board<H> {
               head = record { possible = plan.possible; absent = plan.absent; subs = subs };
               events = [];
               places = replicate (ONLINE + 1) None;
+              lent = board.lent;
             }) }
         ensures head { OnOk result (IsHead (record { possible = plan.possible; absent = plan.absent; subs = subs })) }
         ensures refused { IfErr result (IsStartRefusal (record { possible = plan.possible; absent = plan.absent; subs = subs })) }
@@ -96,7 +97,13 @@ impl<H: Hook> Board<H> {
 /// A board with a head that one can be started with.
 fn begin<H: Hook>(alloc: Global, head: Head) -> Result<Board<H>, NoMemory>
     requires { IsHead head }
-    ensures { IfOk result (λ board. board ≡ record { head = head; events = []; places = replicate (ONLINE + 1) None }) }
+    ensures { IfOk result (λ board. board
+        ≡ record {
+          head = head;
+          events = [];
+          places = replicate (ONLINE + 1) None;
+          lent = board.lent;
+        }) }
 {
     let machine = Machine::start(alloc, head)?;
     Ok(Board { machine })

@@ -2,17 +2,21 @@
 
 ghost use Rattle.std.specs.Prelude.{◌≡◌, ◌↔◌, ℕ, true, IsTrue, None, Some, Ok, IfOk, IfSome, IfNone, OnOk, OnErr, false, is_some};
 ghost use Rattle.hp_board.specs.Hooks.{has_hook, has_hook_after, leaves_hook};
-ghost use Rattle.hp_board.specs.Loans.{loan, IsOutFor, IsCalm};
+ghost use Rattle.hp_board.specs.Loans.{loan, CallsAway, IsOutFor, IsCalm};
 ghost use Rattle.hp_board.specs.Turns.{IsTurn, IsServed, IsNotYet, IsHookOut, TakesRoom, turn_by, goes_on};
 ghost use Rattle.hp_board.specs.declared.turn.Turn.TheVariants.{NotYet};
 ghost use Rattle.hp_ledger.specs.Entries.{entry_event};
 ghost use Rattle.hp_ledger.specs.Next.{IsKept};
-ghost use Rattle.hp_model.specs.Lent.{arms, arms_walker};
-ghost use Rattle.hp_table.specs.Step.{step_at, is_home, AllHome, HasCounted};
+ghost use Rattle.hp_ledger.specs.UnderWay.{hook_asked};
+ghost use Rattle.hp_model.specs.ApTurn.{IsApTurn};
+ghost use Rattle.hp_model.specs.Events.{answer_by, is_call};
+ghost use Rattle.hp_model.specs.Lent.{arms_walker};
+ghost use Rattle.hp_model.specs.Walks.{walk};
+ghost use Rattle.hp_states.specs.CpuSets.{has};
+ghost use Rattle.hp_table.specs.Step.{step_at, is_home, HasCounted};
 ghost use Rattle.hp_event.specs.declared.event.Event.TheVariants.{Call};
 ghost use Rattle.hp_ledger.specs.TableChanges.{registering_step};
 ghost use Rattle.hp_locks.specs.declared.why.Why.TheVariants.{HookOut};
-ghost use Rattle.hp_model.specs.Events.{answer_by};
 ghost use Rattle.hp_model.specs.NextEvent.{next_event, due_entry};
 ghost use Rattle.hp_model.specs.Pending.{IsAllowed, IsInFlight};
 ghost use Rattle.hp_model.specs.Seats.{role_of};
@@ -60,8 +64,9 @@ impl<H: Hook> Board<H> {
     /// - `Answered` where that event answers it: by a refusal, by its end, or by the one event that it is.
     ///   With no place, and LogFull, where there is no room for its first event.
     /// - `NotYet` where the operation, which isn't refused and has room, waits for this. That is `HookOut`
-    ///   exactly where a thread has to make the next entry and its hook is lent, and where a write of `fail`
-    ///   can stand and a hook is lent for an entry of the processor's walk.
+    ///   exactly where a thread has to make the next entry, which calls a hook that is away, lent to that
+    ///   thread or to another; and where a write of `fail` can stand and a hook is lent for the entry of the
+    ///   processor's walk. An entry that is the client's own to make never waits so.
     /// - `NoMemory` where memory was wanting for a first event or for the begin of a walk.
     ///
     /// The begin of a setup takes its hook, loaded with the subsystem's plan. A setup that is answered
@@ -91,14 +96,14 @@ impl<H: Hook> Board<H> {
             (next_event self.old.head self.old.events by ask.old.op)) }
     {
         self.machine.sound();
-        match self.machine.next(by, ask.op) {
+        match self.machine.next(by, &ask.op) {
             Next::Event { event, need } => {
                 if let Some(state) = self.keeps_out(&event) {
                     return Ok(Turn::NotYet(Why::HookOut(state)));
                 }
                 let at = self.machine.journal().len();
-                self.machine.make(event, need, &mut ask.hook)?;
-                Ok(turn_of(event, at))
+                self.machine.make(&event, need, &mut ask.hook)?;
+                Ok(turn_of(&event, at))
             }
             Next::Entry(entry) => {
                 let at = self.machine.journal().len();
@@ -113,49 +118,85 @@ impl<H: Hook> Board<H> {
         }
     }
 
-    /// The state whose hook is lent for an entry of the walk of a processor that an event arms, if it is.
+    /// The state whose hook is lent for the entry of the walk of a processor that an event arms, if it is.
     fn keeps_out(&self, event: &Event) -> Option<u32>
-        ensures out { IfSome result (λ s. (is_home (step_at self.now.places s) ≡ false)
-            × ((o : IsOutFor self.now.head self.now.events s)
-            × (arms_walker self.now.events (Call o.seat o.cpu s o.inst o.dir o.how) event.now ≡ true))) }
+        requires { is_call event.now ≡ false }
+        ensures out { IfSome result (λ s. (o : IsOutFor self.now s)
+            × (arms_walker self.now.events (Call o.seat o.cpu s o.inst o.dir o.how) event.now ≡ true)) }
         ensures calm { IfNone result (IsCalm self.now event.now) }
     {
         self.machine.sound();
-        let entry = self.out()?;
-        if self.machine.registrar().is_none() && arms(event, entry.cpu) {
-            Some(entry.key.state)
-        } else {
-            None
+        match *event {
+            Event::Armed { cpu, .. } => self.armed_out(cpu),
+            _ => None,
         }
     }
 
-    /// What a client waits for: where that is a thread whose hook is lent, for the hook.
+    /// The state whose hook is lent for the entry of the walk of a processor, if one is.
+    fn armed_out(&self, cpu: u32) -> Option<u32>
+        ensures some { IfSome result (λ s. (o : IsOutFor self.now s) × (o.cpu ≡ cpu) × (is_some (walk cpu self.now.events) ≡ true)) }
+        ensures none { IfNone result ((s : ℕ) (o : IsOutFor self.now s) → o.cpu ≡ cpu →
+            is_some (walk cpu self.now.events) ≡ false) }
+    {
+        self.machine.sound();
+        if !self.is_lent(cpu) {
+            return None;
+        }
+        if self.machine.registrar().is_some() {
+            return None;
+        }
+        Some(self.lent_entry(cpu).key.state)
+    }
+
+    /// The entry of a processor that a hook is lent for.
+    fn lent_entry(&self, cpu: u32) -> Entry
+        requires { has self.now.lent cpu ≡ true }
+        ensures due { due_entry self.now.head self.now.events result.seat
+            ≡ Some (entry_event self.now.head self.now.events result) }
+        ensures cpu { result.cpu ≡ cpu }
+    {
+        self.machine.sound();
+        match self.machine.next_due(cpu) {
+            Some((_, seat)) => match self.machine.due(seat) {
+                Some(entry) => entry,
+                None => unreachable!(),
+            },
+            None => unreachable!(),
+        }
+    }
+
+    /// What a client waits for: where that is a thread whose entry calls a hook that is away, for the hook.
     fn waits_for(&self, why: Why) -> Why
         ensures { (seat : ℕ) (op : AnOp) → IsKept self.now.head self.now.events seat op why →
             IsNotYet seat op self.now result }
     {
+        self.machine.sound();
         match why {
-            Why::ApTurn(cpu) => match self.out() {
-                Some(entry) => Why::HookOut(entry.key.state),
+            Why::ApTurn(cpu) => match self.asked_away(cpu) {
+                Some(state) => Why::HookOut(state),
                 None => Why::ApTurn(cpu),
             },
             _ => why,
         }
     }
 
-    /// The entry that is due, where its hook is lent.
-    pub(crate) fn out(&self) -> Option<Entry>
-        ensures some { IfSome result (λ x.
-            (due_entry self.now.head self.now.events x.seat ≡ Some (entry_event self.now.head self.now.events x))
-            × (is_home (step_at self.now.places x.key.state) ≡ false)) }
-        ensures none { IfNone result (AllHome self.now.places) }
+    /// The state whose hook the next entry on a processor calls, where a client waits for its thread to make it,
+    /// if that hook is away.
+    fn asked_away(&self, cpu: u32) -> Option<u32>
+        ensures some { IfSome result (λ s. is_home (step_at self.now.places s) ≡ false) }
+        ensures asks { IfSome result (λ s. (seat : ℕ) (turn : IsApTurn self.now.head self.now.events seat cpu) →
+            hook_asked turn.state turn.how ≡ Some s) }
+        ensures none { IfNone result ((seat s : ℕ) (turn : IsApTurn self.now.head self.now.events seat cpu) →
+            hook_asked turn.state turn.how ≡ Some s → is_home (step_at self.now.places s) ≡ true) }
     {
-        let seat = self.machine.due_seat()?;
-        let entry = self.machine.due(seat)?;
-        if self.machine.table().is_home(entry.key.state) {
+        if self.machine.lent().is_empty() {
             return None;
         }
-        Some(entry)
+        let state = self.machine.hook_asked(cpu)?;
+        if self.machine.table().is_home(state) {
+            return None;
+        }
+        Some(state)
     }
 
     /// Whether a turn of a seat may be asked for with this: exactly where the conditions of `turn` hold.
@@ -174,8 +215,8 @@ impl<H: Hook> Board<H> {
             return false;
         }
         if !self.is_client(by)
-            || !names_sub(self.machine.journal().head(), ask.op)
-            || !self.is_of(by, ask.op)
+            || !names_sub(self.machine.journal().head(), &ask.op)
+            || !self.is_of(by, &ask.op)
         {
             return false;
         }
@@ -190,12 +231,12 @@ impl<H: Hook> Board<H> {
     }
 
     /// Whether a seat has no other operation than this in flight.
-    fn is_of(&self, seat: u32, op: Op) -> bool
+    fn is_of(&self, seat: u32, op: &Op) -> bool
         ensures { IsTrue result
-            ↔ ((x : AnOp) → IsInFlight self.now.events (record { seat = seat; op = x }) → x ≡ op) }
+            ↔ ((x : AnOp) → IsInFlight self.now.events (record { seat = seat; op = x }) → x ≡ op.now) }
     {
         match self.machine.op(seat) {
-            Some(in_flight) => is_same(in_flight, op),
+            Some(in_flight) => is_same(&in_flight, op),
             None => true,
         }
     }
@@ -203,18 +244,26 @@ impl<H: Hook> Board<H> {
     /// One turn of a thread's seat: the entry that is due from it is made, if one is.
     ///
     /// - `Made` where it was.
+    /// - `NotYet` with `HookOut` exactly where that calls a hook which is away, lent to another seat; nothing has
+    ///   changed then.
     /// - `NotYet` with `Idle` where no entry is due from the seat; nothing has changed then.
     ///
     /// There is no other answer. Nothing is lent to the seat. Takes no memory. After `cpuhp_thread_fun` of
     /// `kernel/cpu.c`.
+    #[inline(always)]
     pub fn serve(&mut self, by: u32) -> Turn
         requires { loan self.old by ≡ None }
         ensures served { IsServed by self.old self.new result }
         ensures stays { (k : ℕ) → loan self.new k ≡ loan self.old k }
+        ensures hook_out { (s : ℕ) → CallsAway self.old s (due_entry self.old.head self.old.events by)
+            ↔ (result ≡ NotYet (HookOut s)) }
     {
         self.machine.sound();
         match self.machine.due(by) {
             Some(entry) => {
+                if self.is_out(&entry) {
+                    return Turn::NotYet(Why::HookOut(entry.key.state));
+                }
                 let at = self.machine.journal().len();
                 self.machine.make_entry(&entry);
                 Turn::Made { at }
@@ -224,25 +273,18 @@ impl<H: Hook> Board<H> {
     }
 }
 
-/// Whether an event writes the `fail` file of a processor.
-fn arms(event: &Event, cpu: u32) -> bool
-    ensures { result ≡ arms cpu event.now }
-{
-    matches!(*event, Event::Armed { cpu: of, .. } if of == cpu)
-}
-
 /// Whether two operations are the same.
-fn is_same(one: Op, other: Op) -> bool
-    ensures { IsTrue result ↔ (one ≡ other) }
+fn is_same(one: &Op, other: &Op) -> bool
+    ensures { IsTrue result ↔ (one.now ≡ other.now) }
 {
     one == other
 }
 
 /// What is answered of an event that was made, at its place.
-fn turn_of(event: Event, at: u32) -> Turn
-    ensures { result ≡ turn_by (answer_by event) at }
+fn turn_of(event: &Event, at: u32) -> Turn
+    ensures { result ≡ turn_by (answer_by event.now) at }
 {
-    let answer = match event {
+    let answer = match *event {
         Event::Refused { errno, .. } => Answer::Refused(errno),
         Event::OpEnd { answer, .. } | Event::RegEnd { answer, .. } => answer,
         Event::ReadLock { .. }

@@ -97,7 +97,7 @@ type Standing = (Option<u32>, bool, Option<u32>, Option<u32>);
 
 fn standing(board: &Board<Marked>) -> Standing {
     (
-        board.due_seat(),
+        board.next_due(0).map(|(_, seat)| seat),
         board.is_busy(2),
         board.holder(),
         board.registrar(),

@@ -1,5 +1,6 @@
 //! The tests of hp_board: that boards can be kept, that turns come out as written by hand, which hooks are
-//! lent and who waits for them, that the very hook that went in comes back, and how a board ends.
+//! lent and who waits for them, one at a time and several at once, that the very hook that went in comes
+//! back, and how a board ends.
 //!
 //! They use hp_board as any crate does. They stand apart from it because a crate with tests is proved
 //! twice, once with them and once without.
@@ -15,5 +16,7 @@ mod lending;
 mod loans;
 #[cfg(test)]
 mod refusals;
+#[cfg(test)]
+mod several;
 #[cfg(test)]
 mod turns;

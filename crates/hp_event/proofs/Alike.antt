@@ -1,11 +1,12 @@
 -- Two events, and two operations, are one where the derived `==` says so. `==` goes by the variants, and in each by its
 -- fields: so it says so where it does for each field's type.
 use Rattle.std.proofs.Common.{◌≡◌, ◌↔◌, ℕ, Bool, true, false, ◌&&◌, List, [], ◌∷◌, IsTrue, refl, sym, ap, subst, rules}
-use Rattle.std.specs.Prelude.{◌==◌, ℤ}
+use Rattle.std.specs.Prelude.{◌==◌}
 use Rattle.std.specs.Cmp.{IsEquivalence}
 use Rattle.std.specs.Ordering.{int_eq}
 use Rattle.std.proofs.lemmas.Bool.Decides.{Decides-eqb, Decides-int_eq}
 use Rattle.hp_states.specs.contracts.dir.DirPartialEq.TheImpl.{eq-value as dir_eq}
+use Rattle.hp_states.specs.contracts.cpu_set.CpuSetPartialEq.TheImpl.{eq-value as cpu_set_eq}
 use Rattle.hp_event.specs.contracts.answer.AnswerPartialEq.TheImpl.{eq-value as answer_eq}
 use Rattle.hp_event.specs.contracts.how.HowPartialEq.TheImpl.{eq-value as how_eq}
 use Rattle.hp_event.specs.contracts.op.FormPartialEq.TheImpl.{eq-value as form_eq}
@@ -22,8 +23,7 @@ use Rattle.hp_event.specs.contracts.event.EventEq.TheImpl.Laws.{laws-law as even
 use mathlib.Core.Logic.{inl, inr}
 use mathlib.Core.Bool.{true≢false}
 use denote.Struct.Field.{Field}
-use denote.Struct.Values.{Values}
-use denote.Enum.Declared.{Record, Choice, values_one}
+use denote.Enum.Declared.{Record, values_one}
 use denote.Enum.Compared.{Each, by}
 
 -- what this `==` takes for one is one
@@ -95,6 +95,9 @@ roles a b h = search (rules, h)
 forms : Alike form_eq.it
 forms a b h = search (rules, h)
 
+cpu_sets : Alike cpu_set_eq.it
+cpu_sets a b h = search (rules, h)
+
 -- ---- operations and events
 
 ops : Alike op_eq.it
@@ -119,6 +122,7 @@ ops a b h = values op_enum _ (
     next last integers
     next single
     next single
+    next last cpu_sets
     next tt
     ) a b h
 

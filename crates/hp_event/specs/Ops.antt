@@ -3,7 +3,7 @@
 use Rattle.std.specs.Prelude.{Bool, true, false, Option, Some, None}
 use Rattle.hp_event.specs.declared.op.Form.{Form}
 use Rattle.hp_event.specs.declared.op.Op.{Op}
-use Rattle.hp_event.specs.declared.op.Op.TheVariants.{Up, Down, Target, Boot, Disable, Enable, Freeze, Thaw, Setup, Remove, Add, Del}
+use Rattle.hp_event.specs.declared.op.Op.TheVariants.{Up, Down, Target, Boot, Disable, Enable, Freeze, Thaw, Setup, Remove, Add, Del, UpMany}
 
 -- whether an operation is one that takes the map lock
 abbrev pub is_map_op : Op → Bool
@@ -15,7 +15,13 @@ is_map_op Disable = true
 is_map_op Enable = true
 is_map_op (Freeze primary) = true
 is_map_op Thaw = true
+is_map_op (UpMany set) = true
 is_map_op _ = false
+
+-- whether it brings several processors up together
+abbrev pub is_upmany : Op → Bool
+is_upmany (UpMany set) = true
+is_upmany _ = false
 
 -- the form of a registration
 abbrev pub form_of : Op → Option Form

@@ -39,7 +39,7 @@ pub enum File {
 /// states; `inst` is an instance, or 0 at a state without instances; `errno` is an error number. The
 /// type asks nothing of these numbers: that a seat is below `MAX_SEATS`, a processor below
 /// `MAX_CPUS`, a state at most 200 and an error number one of `hp_states` is so in a lawful journal,
-/// which hp_model defines. An event takes at most 48 bytes.
+/// which hp_model defines. An event takes at most 64 bytes.
 #[derive(Clone, Copy, Debug, PartialEq, Eq)]
 pub enum Event {
     /// A seat comes in, with the next number that no seat had.
@@ -51,7 +51,8 @@ pub enum Event {
     Leave {
         seat: u32,
     },
-    /// An operation of the map lock begins: up, down, target, boot, disable, enable, freeze, thaw.
+    /// An operation of the map lock begins: up, down, target, boot, disable, enable, freeze, thaw,
+    /// upmany.
     Enter {
         seat: u32,
         op: Op,
@@ -154,7 +155,7 @@ impl Event {
     }
 }
 
-/// The most bytes that an event may take: a journal of `MAX_EVENTS` events stays below 48 MiB.
-const MAX_EVENT_BYTES: usize = 48;
+/// The most bytes that an event may take: a journal of `MAX_EVENTS` events stays below 64 MiB.
+const MAX_EVENT_BYTES: usize = 64;
 
 const _: () = prove!(size_of::<Event>() <= MAX_EVENT_BYTES);

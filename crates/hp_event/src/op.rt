@@ -6,6 +6,8 @@
 ghost use Rattle.std.specs.Prelude.{◌≡◌};
 ghost use Rattle.hp_event.specs.Ops.{form_of, is_adding as is_adding_of, is_setup as is_setup_of, is_map_op};
 
+use hp_states::CpuSet;
+
 /// How a registration is asked for. Which calls of `cpuhp_setup_state` and its kin of
 /// `cpu_hotplug.rst` a form stands for: those without calls, and those that hold the read lock.
 #[derive(Clone, Copy, Debug, PartialEq, Eq)]
@@ -65,6 +67,8 @@ pub enum Op {
     Thaw,
     /// Makes a wakeup pending.
     Wakeup,
+    /// Brings these processors up together, at least one: their walks are in flight at once.
+    UpMany(CpuSet),
 }
 
 impl Op {
@@ -104,8 +108,8 @@ impl Op {
         matches!(self, Op::Setup { .. } | Op::Add { .. })
     }
 
-    /// Whether the operation takes the map lock: up, down, target, boot, disable, enable, freeze or
-    /// thaw.
+    /// Whether the operation takes the map lock: up, down, target, boot, disable, enable, freeze, thaw
+    /// or upmany.
     ///
     /// Takes no memory. After `cpu_maps_update_begin` of `kernel/cpu.c`.
     pub fn takes_map(self) -> bool
@@ -119,7 +123,8 @@ impl Op {
             | Op::Disable
             | Op::Enable
             | Op::Freeze(_)
-            | Op::Thaw => true,
+            | Op::Thaw
+            | Op::UpMany(_) => true,
             _ => false,
         }
     }

@@ -4,7 +4,7 @@ use hp_event::{
     Answer, Event, Form, Head, How, Journal, JournalError, Key, Keys, Name, Numbers, Op, Role, Sub,
     Subs,
 };
-use hp_states::{Dir, HookPlan, MAX_EVENTS, NoMemory, Place, Rule};
+use hp_states::{CpuSet, Dir, HookPlan, MAX_EVENTS, NoMemory, Place, Rule};
 use std::alloc::Global;
 use std::mem::size_of;
 use std::test::Fail;
@@ -185,6 +185,12 @@ fn operations_say_what_they_take(rt: HostRuntime) {
             Op::Lock.takes_map()
         ) == (false, true, false)
     );
+    let mut set = CpuSet::none();
+    set.put(255);
+    let upmany = Op::UpMany(set);
+    assert!(rt; (upmany.form(), upmany.is_setup(), upmany.is_adding()) == (None, false, false));
+    assert!(rt; upmany.takes_map());
+    assert!(rt; upmany != Op::UpMany(CpuSet::none()));
 }
 
 #[test]
@@ -277,7 +283,7 @@ fn a_million_single_promises_are_cheap(rt: HostRuntime) -> Result<(), Fail> {
 
 #[test]
 fn events_are_small_and_errors_have_texts(rt: HostRuntime) -> Result<(), Fail> {
-    assert!(rt; size_of::<Event>() == 32);
+    assert!(rt; size_of::<Event>() == 56);
     assert!(rt; (JournalError::Full as u32, JournalError::NoMemory as u32) == (1, 2));
     let full = JournalError::Full;
     let none = JournalError::NoMemory;

@@ -28,6 +28,7 @@ use Rattle.hp_model.specs.Walks.{walk, walking}
 use Rattle.hp_model.proofs.InFlight.{walking_is}
 use Rattle.hp_model.proofs.NextGives.{next_exactly}
 use Rattle.hp_model.proofs.OneNext.{owners}
+use Rattle.hp_model.proofs.Operations.{Operations, Entered}
 use Rattle.hp_model.proofs.Owners.{idle_op, idle_reg, not_self}
 use Rattle.hp_model.proofs.RegistrationGives as by_registration
 use Rattle.hp_model.proofs.SomeMoves.{facts, entered_op}
@@ -54,9 +55,8 @@ first head es k asked e lawful free names stands by of =
     same x (inl f) = absurd (not_self f.0.seat k (idle_op es k f.0 free.idle f.1) f.2)
     same x (inr f) = absurd (not_self f.0.seat k (idle_reg es k f.0 free.idle f.1) f.2)
 
-names_map : (head : Head) (x : Op) → is_map_op x ≡ true → names_sub head x ≡ true
-names_map head (op.Setup s sub form) h = absurd (true≢false (sym h))
-names_map head x h = refl
+names_entered : (head : Head) (es : List Event) (o : Operation) → Operations head es → operation es ≡ Some o → names_sub head o.op ≡ true
+names_entered head es o k held = let e : Entered head o = rw held at k.entered in e.enters.has_sub
 
 -- of the seat that holds the map lock
 holder_busy : (es : List Event) (k : ℕ) (o : Operation) → operation es ≡ Some o → o.seat ≡ k → is_busy k es ≡ true
@@ -88,7 +88,7 @@ of_holder head es k o x e lawful held by stands s of =
     next : next_event head es k o.op ≡ Some e
     next =
         (next_exactly head es (record { seat = k; op = o.op }) e lawful
-        (record { client = client; same = same; has_sub = names_map head o.op takes })).1 (stands, s, of takes)
+        (record { client = client; same = same; has_sub = names_entered head es o (facts head es lawful).operations held })).1 (stands, s, of takes)
 
 -- of the seat whose registration ends
 self_among : (c : ℕ) (cs : List ℕ) → among c (c ∷ cs) ≡ true
@@ -145,7 +145,7 @@ asked_for head es (event.Admit seat role) lawful of stands = elim of [ ]
 asked_for head es (event.Leave seat) lawful of stands = elim of [ ]
 asked_for head es (event.Call seat cpu state inst dir how) lawful of stands = elim of [ ]
 asked_for head es (event.Enter seat asked) lawful of stands =
-    by_first head es (event.Enter seat asked) lawful stands.0.free (names_map head asked stands.0.takes_map) stands refl
+    by_first head es (event.Enter seat asked) lawful stands.0.free stands.0.has_sub stands refl
 asked_for head es (event.Refused seat errno asked) lawful of stands =
     by_first head es (event.Refused seat errno asked) lawful stands.0.free stands.0.has_sub stands refl
 asked_for head es (event.RegBegin seat state asked) lawful of stands =

@@ -76,7 +76,7 @@ impl Law {
             ≡ record { head = self.old.head; events = self.old.events ++ event.now ∷ [] }) }
         ensures err { OnErr result (self.new ≡ self.old) }
     {
-        let need = self.machine.need(*event);
+        let need = self.machine.need(event);
         self.take_with_room(event, need)
     }
 
@@ -136,7 +136,7 @@ impl Law {
                 }
                 None => unreachable!(),
             },
-            _ => self.machine.make(*event, need, &mut hook_for(event)),
+            _ => self.machine.make(event, need, &mut hook_for(event)),
         }
     }
 
@@ -193,10 +193,10 @@ impl Law {
         if !is_client(role) {
             return None;
         }
-        if !names_sub(self.machine.journal().head(), op) {
+        if !names_sub(self.machine.journal().head(), &op) {
             return None;
         }
-        match self.machine.next(seat, op) {
+        match self.machine.next(seat, &op) {
             Next::Event { event: next, need } => same(&next, event).then_some(need),
             _ => None,
         }

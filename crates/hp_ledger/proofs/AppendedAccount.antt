@@ -16,17 +16,16 @@ use Rattle.hp_model.specs.StandsRegistrations.{RegEnds}
 use Rattle.hp_model.specs.Lawful.{Comes, Stands, IsLawful}
 use Rattle.hp_model.proofs.Laws.{registration_push}
 use Rattle.hp_model.proofs.OneNext.{owners}
-use Rattle.hp_model.proofs.Owners.{same_some}
+use Rattle.hp_model.proofs.Owners.{Owners, same_some}
 use Rattle.hp_table.specs.Step.{Step}
 use Rattle.hp_walk.specs.Keys.{keys_by}
-use Rattle.hp_ledger.specs.declared.flights.Flights.{Flights}
 use Rattle.hp_ledger.specs.declared.operation.Held.{Held}
 use Rattle.hp_ledger.specs.declared.registering.Registering.{Registering}
 use Rattle.hp_ledger.specs.declared.parts.Parts.{Parts}
 use Rattle.hp_ledger.specs.Account.{IsAccount}
 use Rattle.hp_ledger.specs.After.{suspension_after}
-use Rattle.hp_ledger.specs.Appending.{IsOpOf, WentTo, Flew, WentOnIf, Registered, left_by, Appended}
-use Rattle.hp_ledger.specs.Flights.{IsFlights}
+use Rattle.hp_ledger.specs.Appending.{IsOpOf, WentTo, Flew, Registered, left_by, Appended, room_of_walk}
+use Rattle.hp_ledger.specs.BatchTurns.{is_batch}
 use Rattle.hp_ledger.specs.Locks.{IsLocks}
 use Rattle.hp_ledger.specs.Operations.{IsHeldBy}
 use Rattle.hp_ledger.specs.Processors.{IsStanding}
@@ -34,15 +33,16 @@ use Rattle.hp_ledger.specs.Registering.{IsRegisteringOf}
 use Rattle.hp_ledger.specs.Seats.{IsRoll}
 use Rattle.hp_ledger.specs.Suspended.{IsSuspended}
 use Rattle.hp_ledger.specs.Table.{IsTableOf}
-use Rattle.hp_ledger.proofs.CanAppend.{called_on, armed_on, ended_on, keys_begun, keys_called}
-use Rattle.hp_ledger.proofs.FlightEntries.{flights_entry}
-use Rattle.hp_ledger.proofs.FlightSteps.{LeavesWalks, begin_idle, walker_idle, flights_begin, flights_end, flights_stay}
-use Rattle.hp_ledger.proofs.HeldNext.{online_all}
-use Rattle.hp_ledger.proofs.LocksMore.{WalksAlone, locks_more}
+use Rattle.hp_ledger.proofs.AwaitedMore.{awaited_more}
+use Rattle.hp_ledger.proofs.CanAppend.{called_on, armed_on, ended_on}
+use Rattle.hp_ledger.proofs.FlightSteps.{flights_end}
+use Rattle.hp_ledger.proofs.FlightsMore.{batch_is, flights_after}
+use Rattle.hp_ledger.proofs.LocksMore.{locks_more}
 use Rattle.hp_ledger.proofs.RegistrationMore.{IsBesideRegistration, registration_begins, registration_calls, registration_ends, registration_stays}
 use Rattle.hp_ledger.proofs.RollMore.{present_below, roll_more}
 use Rattle.hp_ledger.proofs.StandingMore.{IsOnProcessor, standing_more}
 use Rattle.hp_ledger.proofs.SuspensionMore.{IsUnder, suspension_more}
+use Rattle.hp_ledger.proofs.TurnsMore.{turns_more}
 use Rattle.hp_ledger.proofs.WalkLeaves.{ends_at}
 
 on_processor : (head : Head) (es : List Event) (p : Parts) (to : ℕ) (e : Event) → IsLawful head es → Comes head es e → IsAccount head es p →
@@ -94,47 +94,25 @@ suspended_after head es p new e lawful comes is h =
 none_back : (n a : ℕ) → n ≡ 0 → a ≡ 0 → n + a ≡ 0
 none_back n a h g = rw (h, g) refl
 
-flights_same : (head : Head) (es : List Event) (e : Event) (old new : Flights) → IsLawful head es → Comes head es e → IsFlights head es old →
-    LeavesWalks old e → new ≡ old → IsFlights head (es ++ e ∷ []) new
-flights_same head es e old new lawful comes is leaves same =
-    subst (IsFlights head (es ++ e ∷ [])) (sym same) (flights_stay head es e old lawful comes is leaves)
-
-flights_after : (head : Head) (es : List Event) (places : List (Option Step)) (needed freed : ℕ) (e : Event) (old new : Flights) →
-    IsLawful head es → Comes head es e → needed ≡ taken (need head es e) → IsTableOf head (es ++ e ∷ []) places → IsFlights head es old →
-    Flew (keys_by places) needed freed e old new → IsFlights head (es ++ e ∷ []) new
-flights_after head es places needed freed (WalkBegin seat cpu from to) old new lawful comes n t is flew =
-    let idle = begin_idle head es seat cpu from to comes in
-    flights_begin head es places seat cpu from to needed old new lawful comes is (keys_begun head es places seat cpu from to t idle) flew.0 n
-flights_after head es places needed freed (Call seat c s i d how) old new lawful comes n t is flew = go old.walking refl flew.0
-  where
-    go : (w : Option ℕ) → old.walking ≡ w → WentOnIf w (keys_by places) c how old new → IsFlights head (es ++ Call seat c s i d how ∷ []) new
-    go None none same = flights_same head es (Call seat c s i d how) old new lawful comes is none same
-    go (Some k) walks went =
-        flights_entry head es places seat c s i d how old new lawful comes is
-        (keys_called head es places seat c s i d how t (walker_idle head es old k lawful is walks)) went
-flights_after head es places needed freed (WalkEnd seat c answer) old new lawful comes n t is flew =
-    (flights_end head es seat c answer freed old new comes is flew).0
-flights_after head es places needed freed e old new lawful comes n t is flew = flights_same head es e old new lawful comes is tt flew.0
-
-registration_same : (head : Head) (es : List Event) (e : Event) (old new : Option Registering) → Comes head es e → IsRegisteringOf head es old →
+registration_same : (head : Head) (es : List Event) (e : Event) (old new : Option Registering) → Owners es → Comes head es e → IsRegisteringOf head es old →
     IsBesideRegistration e → new ≡ old → IsRegisteringOf head (es ++ e ∷ []) new
-registration_same head es e old new comes is beside same =
-    subst (IsRegisteringOf head (es ++ e ∷ [])) (sym same) (registration_stays head es old e comes beside is)
+registration_same head es e old new own comes is beside same =
+    subst (IsRegisteringOf head (es ++ e ∷ [])) (sym same) (registration_stays head es old e own comes beside is)
 
 registration_after : (head : Head) (es : List Event) (needed freed : ℕ) (e : Event) (old new : Option Registering) →
-    Comes head es e → needed ≡ taken (need head es e) → IsRegisteringOf head es old → Registered needed freed e old new →
+    Owners es → Comes head es e → needed ≡ taken (need head es e) → IsRegisteringOf head es old → Registered needed freed e old new →
     IsRegisteringOf head (es ++ e ∷ []) new
-registration_after head es needed freed (RegBegin seat state asked) old None comes n is went = elim (went.0) [ ]
-registration_after head es needed freed (RegBegin seat state asked) old (Some g) comes n is went =
+registration_after head es needed freed (RegBegin seat state asked) old None own comes n is went = elim (went.0) [ ]
+registration_after head es needed freed (RegBegin seat state asked) old (Some g) own comes n is went =
     registration_begins head es seat asked state needed g comes went.0 n
-registration_after head es needed freed (Call seat c s i d how) None new comes n is went =
+registration_after head es needed freed (Call seat c s i d how) None new own comes n is went =
     subst (IsRegisteringOf head (es ++ Call seat c s i d how ∷ [])) (sym went.0) (registration_push es (Call seat c s i d how) ∙ is)
-registration_after head es needed freed (Call seat c s i d how) (Some g) None comes n is went = elim (went.0) [ ]
-registration_after head es needed freed (Call seat c s i d how) (Some g) (Some after) comes n is went =
+registration_after head es needed freed (Call seat c s i d how) (Some g) None own comes n is went = elim (went.0) [ ]
+registration_after head es needed freed (Call seat c s i d how) (Some g) (Some after) own comes n is went =
     registration_calls head es g after seat c s i d how comes is went.0
-registration_after head es needed freed (RegEnd seat answer) old new comes n is went =
+registration_after head es needed freed (RegEnd seat answer) old new own comes n is went =
     subst (IsRegisteringOf head (es ++ RegEnd seat answer ∷ [])) (sym went.0) (registration_ends head es seat answer)
-registration_after head es needed freed e old new comes n is went = registration_same head es e old new comes is tt went.0
+registration_after head es needed freed e old new own comes n is went = registration_same head es e old new own comes is tt went.0
 
 -- what a registration that ends has left
 left_over : (head : Head) (es : List Event) (seat : ℕ) (answer : Answer) (old : Option Registering) → RegEnds head es seat answer →
@@ -142,22 +120,22 @@ left_over : (head : Head) (es : List Event) (seat : ℕ) (answer : Answer) (old 
 left_over head es seat answer None comes is = absurd (let n = sym is ∙ comes.in_flight in cc)
 left_over head es seat answer (Some g) comes is = rw is.in_flight (ap (λ n. n - 1) is.left_is)
 
-freed_after : (head : Head) (es : List Event) (places : List (Option Step)) (needed a b : ℕ) (e : Event) (p new : Parts) →
-    Comes head es e → IsAccount head es p → Flew (keys_by places) needed a e p.flights new.flights →
+freed_after : (head : Head) (es : List Event) (places : List (Option Step)) (room needed a b : ℕ) (e : Event) (p new : Parts) →
+    Comes head es e → IsAccount head es p → Flew (keys_by places) room a e p.flights new.flights →
     Registered needed b e p.registration new.registration → a + b ≡ given_back head es e
-freed_after head es places needed a b (WalkEnd seat c answer) p new comes is flew went =
+freed_after head es places room needed a b (WalkEnd seat c answer) p new comes is flew went =
     let g = (flights_end head es seat c answer a p.flights new.flights comes is.flights flew).1 in
     let none = went.1 in
     omega (arith, g, none)
-freed_after head es places needed a b (RegEnd seat answer) p new comes is flew went =
+freed_after head es places room needed a b (RegEnd seat answer) p new comes is flew went =
     let g = left_over head es seat answer p.registration comes is.registration in
     let none = flew.1 in
     let left = went.1 in
     omega (arith, g, none, left)
-freed_after head es places needed a b (WalkBegin seat cpu from to) p new comes is flew went = none_back a b flew.1 went.1
-freed_after head es places needed a b (Call seat c s i d how) p new comes is flew went = none_back a b flew.1 went.1
-freed_after head es places needed a b (RegBegin seat state asked) p new comes is flew went = none_back a b flew.1 went.1
-freed_after head es places needed a b e p new comes is flew went = none_back a b flew.1 went.1
+freed_after head es places room needed a b (WalkBegin seat cpu from to) p new comes is flew went = none_back a b flew.1 went.1
+freed_after head es places room needed a b (Call seat c s i d how) p new comes is flew went = none_back a b flew.1 went.1
+freed_after head es places room needed a b (RegBegin seat state asked) p new comes is flew went = none_back a b flew.1 went.1
+freed_after head es places room needed a b e p new comes is flew went = none_back a b flew.1 went.1
 
 pub account_after : (head : Head) (es : List Event) (places : List (Option Step)) (p new : Parts) (needed freed : ℕ) (e : Event) →
     IsLawful head es → Stands head es e → needed ≡ taken (need head es e) → IsTableOf head (es ++ e ∷ []) places → IsAccount head es p →
@@ -165,17 +143,27 @@ pub account_after : (head : Head) (es : List Event) (places : List (Option Step)
 account_after head es places p new needed freed e lawful stands n t is h =
     let comes = stands.0 in
     let own = owners head es lawful in
-    let flies : WalksAlone es p.flights.walking = record { walking_is = is.flights.walking_is } in (
+    let batch = is_batch p.operation in
+    let room = room_of_walk (keys_by places) batch needed e in
+    let flies = flights_after head es places p.operation needed h.freed_by_walk e p.flights new.flights lawful comes n t is.operation is.flights
+    h.flights in
+    let operates = h.operation head es lawful comes is.processors is.operation in
+    let queued = turns_more head es places p.operation e new.flights p.turns new.turns lawful stands t is.operation is.turns flies h.turns in (
       record {
         seats = subst (IsRoll head (es ++ e ∷ [])) (sym h.seats) (roll_more head es p.seats e own comes is.seats);
-        locks = subst (IsLocks (es ++ e ∷ [])) (sym h.locks) (locks_more head es p.locks p.flights.walking e own comes flies is.locks);
+        locks = subst (IsLocks (es ++ e ∷ [])) (sym h.locks)
+            (rw (← batch_is head es p.operation is.operation) at (locks_more head es p.locks e lawful comes is.locks));
         processors =
             subst (IsStanding head (es ++ e ∷ [])) (sym h.processors)
             (standing_more head es p.processors h.to e (on_processor head es p h.to e lawful comes is h.to_is) is.processors);
-        operation = h.operation head es (online_all head es p.processors is.processors) is.operation;
-        flights = flights_after head es places needed h.freed_by_walk e p.flights new.flights lawful comes n t is.flights h.flights;
-        registration = registration_after head es needed h.freed_by_registration e p.registration new.registration comes n is.registration h.registration;
+        operation = operates;
+        flights = flies;
+        registration = registration_after head es needed h.freed_by_registration e p.registration new.registration own comes n is.registration h.registration;
         suspended = suspended_after head es p new e lawful comes is h.suspended;
+        turns = queued;
+        awaited =
+            awaited_more head es places p.operation new.operation e room h.freed_by_walk p.flights new.flights p.turns new.turns p.awaited
+            new.awaited lawful stands t is.operation operates is.flights flies queued h.flights h.turns h.awaited is.awaited;
       },
-      h.freed_is ∙ freed_after head es places needed h.freed_by_walk h.freed_by_registration e p new comes is h.flights h.registration,
+      h.freed_is ∙ freed_after head es places room needed h.freed_by_walk h.freed_by_registration e p new comes is h.flights h.registration,
     )

@@ -1,5 +1,5 @@
 -- Each part of the account can take an event that stands.
-use Rattle.std.proofs.Common.{◌≡◌, ℕ, ℤ, ◌+◌, ◌<◌, ◌≤◌, true, ltb, leb, inl, inr, Option, Some, None, IsSome, IfSome, List, [], ◌∷◌, ◌++◌, length, refl, sym, ap, ◌∙◌, subst, arith}
+use Rattle.std.proofs.Common.{◌≡◌, ℕ, ℤ, ◌+◌, ◌<◌, ◌≤◌, true, ltb, leb, inl, inr, Option, Some, None, IsSome, IfSome, List, [], ◌∷◌, ◌++◌, length, refl, sym, ◌∙◌, subst, arith}
 use Rattle.std.proofs.lemmas.Bool.{ltb-true}
 use Rattle.hp_states.specs.declared.limits.TheConstants.{MAX_EVENTS, ONLINE}
 use Rattle.hp_states.specs.declared.dir.Dir.{Dir}
@@ -17,15 +17,13 @@ use Rattle.hp_model.specs.Lists.{occurs}
 use Rattle.hp_model.specs.Registrations.{Registration, registration}
 use Rattle.hp_model.specs.RegistrationShape.{key_of}
 use Rattle.hp_model.specs.Processors.{is_possible, is_present, processors}
-use Rattle.hp_model.specs.Registered.{insts_of as insts_of_registered}
 use Rattle.hp_model.specs.RefusalsAtOnce.{refusals_at_once}
 use Rattle.hp_model.specs.Needs.{need, taken}
 use Rattle.hp_model.specs.StandsCalls.{Calls}
 use Rattle.hp_model.specs.StandsOperations.{WalkEnds}
 use Rattle.hp_model.specs.Lawful.{Comes, Stands, IsLawful}
-use Rattle.hp_model.proofs.Laws.{registration_push, registered_push}
+use Rattle.hp_model.proofs.Laws.{registration_push}
 use Rattle.hp_model.proofs.NextOfRegistration.{processor_present}
-use Rattle.hp_model.proofs.OneNext.{owners}
 use Rattle.hp_model.proofs.Operations.{in_filter, once_in, there}
 use Rattle.hp_model.proofs.Passing.{passed, none_holds}
 use Rattle.hp_model.proofs.RoomKept.{event_fits}
@@ -34,7 +32,7 @@ use Rattle.hp_reg.specs.Progress.{Progress, cpus_left, below}
 use Rattle.hp_reg.specs.declared.phase.Phase.{Phase}
 use Rattle.hp_reg.specs.declared.phase.Phase.TheVariants.{Making, Undoing}
 use Rattle.hp_reg.specs.declared.step.RegStep.TheVariants as regstep
-use Rattle.hp_suspend.proofs.Few.{thawing_few, booting_few}
+use Rattle.hp_suspend.proofs.Few.{thawing_few, booting_few, batching_few}
 use Rattle.hp_table.specs.Step.{Step}
 use Rattle.hp_table.proofs.Places.{within_places}
 use Rattle.hp_walk.specs.Keys.{keys_by}
@@ -42,12 +40,13 @@ use Rattle.hp_ledger.specs.declared.flights.Flight.{Flight}
 use Rattle.hp_ledger.specs.declared.flights.Flights.{Flights}
 use Rattle.hp_ledger.specs.declared.operation.Held.{Held}
 use Rattle.hp_ledger.specs.declared.operation.Sequence.{Sequence}
-use Rattle.hp_ledger.specs.declared.operation.Sequence.TheVariants.{Single, Freeze, Thaw, Boot, NoWalk}
+use Rattle.hp_ledger.specs.declared.operation.Sequence.TheVariants.{Single, Freeze, Thaw, Boot, Batch, NoWalk}
 use Rattle.hp_ledger.specs.declared.registering.Registering.{Registering}
 use Rattle.hp_ledger.specs.declared.parts.Parts.{Parts}
 use Rattle.hp_ledger.specs.Account.{IsAccount}
-use Rattle.hp_ledger.specs.Appending.{CanLeave, CanEnd, HasPlaceFor, HasRoomFor, CanOperate, HasCountsIf, CanFly, CanRegister, CanAppend}
-use Rattle.hp_ledger.specs.FlightChanges.{IfWalks}
+use Rattle.hp_ledger.specs.Appending.{CanLeave, CanEnd, HasPlaceFor, HasRoomFor, CanOperate, HasCountsIf, CanFly, CanRegister, CanAppend, room_of_walk}
+use Rattle.hp_ledger.specs.BatchTurns.{is_batch, HasPlaceInSet}
+use Rattle.hp_ledger.specs.FlightChanges.{IfFlies, IfWalks, CanGoOn}
 use Rattle.hp_ledger.specs.Flights.{IsFlights}
 use Rattle.hp_ledger.specs.Ledger.{NoAdmission}
 use Rattle.hp_ledger.specs.Operations.{IsSequence, IsHeldBy, HasCounts}
@@ -58,10 +57,11 @@ use Rattle.hp_ledger.specs.Suspended.{Suspension, IsSuspended}
 use Rattle.hp_ledger.specs.Table.{IsTableOf, HasRegistration}
 use Rattle.hp_ledger.proofs.FlightEntries.{can_enter}
 use Rattle.hp_ledger.proofs.FlightFacts.{walk_kept}
-use Rattle.hp_ledger.proofs.FlightSteps.{HasKeys, has_keys, walker_idle, can_begin, can_end}
+use Rattle.hp_ledger.proofs.FlightSteps.{begin_idle, walker_idle, can_begin, can_end}
+use Rattle.hp_ledger.proofs.FlightsMore.{keys_begun, keys_called, room_is, flights_after}
+use Rattle.hp_ledger.proofs.TurnsMore.{can_turn}
 use Rattle.hp_ledger.proofs.WalkMoves.{walk_begins}
 use Rattle.hp_ledger.proofs.LocksCan.{locks_can}
-use Rattle.hp_ledger.proofs.LocksMore.{WalksAlone}
 use Rattle.hp_ledger.proofs.PlaceLemmas.{at_place-within}
 use Rattle.hp_ledger.proofs.RegistrationMore.{asked_for, registers}
 use Rattle.hp_ledger.proofs.RollMore.{present_below}
@@ -152,19 +152,26 @@ counted head entered es (op.Boot n) (Boot b) fits is =
     let one = f.0 in
     let two = f.1 in
     (omega (arith, one, fits), omega (arith, two, fits))
+counted head entered es (op.UpMany set) (Batch b) fits is =
+    let f = batching_few head entered es set b is in omega (arith, f, fits)
 counted head entered es asked NoWalk fits is = tt
 counted head entered es asked (Thaw t) fits is = elim is [ ]
 counted head entered es asked (Boot b) fits is = elim is [ ]
+counted head entered es asked (Batch b) fits is = elim is [ ]
 
 counted_if : (head : Head) (es : List Event) (held : Option Held) → length es + 1 ≤ MAX_EVENTS → IsHeldBy head es held → HasCountsIf held
 counted_if head es None fits is = tt
 counted_if head es (Some h) fits is = counted head is.of.before es is.of.op h.sequence fits is.sequence_is
 
-can_operate : (head : Head) (es : List Event) (held : Option Held) (e : Event) → Comes head es e → length es + 1 ≤ MAX_EVENTS →
-    IsHeldBy head es held → CanOperate e held
-can_operate head es held (Enter seat asked) comes fits is = comes.takes_map
-can_operate head es held (WalkEnd seat c answer) comes fits is = counted_if head es held fits is
-can_operate head es held e comes fits is = tt
+can_operate : (head : Head) (es : List Event) (held : Option Held) (e : Event) → IsLawful head es → Comes head es e →
+    length es + 1 ≤ MAX_EVENTS → IsHeldBy head es held → CanOperate e held
+can_operate head es held (Enter seat asked) lawful comes fits is = comes.takes_map
+can_operate head es held (WalkBegin seat cpu from to) lawful comes fits is =
+    let inside = (walk_begins head es seat cpu from to lawful comes).inside in
+    let possible = lawful.0.few_possible in
+    omega (arith, inside, possible)
+can_operate head es held (WalkEnd seat c answer) lawful comes fits is = counted_if head es held fits is
+can_operate head es held e lawful comes fits is = tt
 
 is_some_of : (o : Option Flight) (P : Flight → Type 0) → IfWalks o P → IsSome o
 is_some_of None P h = elim h [ ]
@@ -174,35 +181,27 @@ can_end_of : (head : Head) (es : List Event) (f : Flights) (e : Event) → IsLaw
     CanEnd e f
 can_end_of head es f (WalkEnd seat c answer) lawful comes is =
     let k = can_end head es seat c answer f lawful comes is in
-    (k.0, is_some_of (at_place f.by_cpu.items c) (λ flight. 0 < flight.left) k.1)
+    (k.0, is_some_of (at_place f.by_cpu.items c) (λ flight. 0 < flight.left) k.2)
 can_end_of head es f e lawful comes is = tt
 
--- while no registration is in flight, the table after a walk's begin or its entry has the keys that there were before
-pub keys_begun : (head : Head) (es : List Event) (places : List (Option Step)) (seat cpu from to : ℕ) →
-    IsTableOf head (es ++ WalkBegin seat cpu from to ∷ []) places → registration es ≡ None → HasKeys head es places
-keys_begun head es places seat cpu from to t idle = λ s.
-    let e : Event = WalkBegin seat cpu from to in
-    ap insts_of_registered (sym (registered_push head s es e))
-    ∙ has_keys head (es ++ e ∷ []) places t (registration_push es e ∙ idle) s
-
-pub keys_called : (head : Head) (es : List Event) (places : List (Option Step)) (seat c st i : ℕ) (d : Dir) (how : How) →
-    IsTableOf head (es ++ Call seat c st i d how ∷ []) places → registration es ≡ None → HasKeys head es places
-keys_called head es places seat c st i d how t idle = λ s.
-    let e : Event = Call seat c st i d how in
-    ap insts_of_registered (sym (registered_push head s es e))
-    ∙ has_keys head (es ++ e ∷ []) places t (registration_push es e ∙ idle) s
-
 can_fly : (head : Head) (es : List Event) (places : List (Option Step)) (p : Parts) (needed : ℕ) (e : Event) → IsLawful head es →
-    Comes head es e → needed ≡ taken (need head es e) →
-    IsTableOf head (es ++ e ∷ []) places → IsAccount head es p → CanFly (keys_by places) needed e p.flights
+    Comes head es e → needed ≡ taken (need head es e) → IsTableOf head (es ++ e ∷ []) places → IsAccount head es p →
+    CanFly (keys_by places) (room_of_walk (keys_by places) (is_batch p.operation) needed e) e p.flights
 can_fly head es places p needed (WalkBegin seat cpu from to) lawful comes n t is =
     let inside = (walk_begins head es seat cpu from to lawful comes).inside in
     let most = subst (λ (m : ℕ). m ≤ ONLINE) (is.processors.settled_is cpu inside) (is.processors.highest cpu) in
-    let c = can_begin head es seat cpu from to needed p.flights lawful comes is.flights most n in
-    (c.inside, c.states, c.room)
-can_fly head es places p needed (Call seat c s i d how) lawful comes n t is = λ k walks.
-    can_enter head es places seat c s i d how p.flights k lawful comes is.flights
-    (keys_called head es places seat c s i d how t (walker_idle head es p.flights k lawful is.flights walks)) walks
+    let has = keys_begun head es places seat cpu from to t (begin_idle head es seat cpu from to lawful comes) in
+    let room = room_of_walk (keys_by places) (is_batch p.operation) needed (WalkBegin seat cpu from to) in
+    let c = can_begin head es seat cpu from to room p.flights lawful comes is.flights most
+    (room_is head es places p.operation needed seat cpu from to is.operation has n) in
+    (c.inside, c.few, c.states, c.room)
+can_fly head es places p needed (Call seat c s i d how) lawful comes n t is = go (at_place p.flights.by_cpu.items c) refl
+  where
+    go : (o : Option Flight) → at_place p.flights.by_cpu.items c ≡ o → IfFlies o (CanGoOn (keys_by places) how)
+    go None e = tt
+    go (Some f) e =
+        can_enter head es places seat c s i d how p.flights f lawful comes is.flights
+        (keys_called head es places seat c s i d how t (walker_idle head es p.flights c f lawful is.flights e)) e
 can_fly head es places p needed (WalkEnd seat c answer) lawful comes n t is = can_end head es seat c answer p.flights lawful comes is.flights
 can_fly head es places p needed e lawful comes n t is = tt
 
@@ -222,20 +221,32 @@ can_register head es places p (Call seat c s i d how) lawful comes sound t is =
     omega (arith, b, h)
 can_register head es places p e lawful comes sound t is = tt
 
+-- the processor of an event of a walk is one that a set can have
+in_set : (keys : ℕ → List ℕ) (needed : ℕ) (e : Event) (f : Flights) → CanFly keys needed e f → CanRegister e → HasPlaceInSet e
+in_set keys needed (WalkBegin seat c from to) f flies on = flies.1
+in_set keys needed (Call seat c s i d how) f flies on = omega (arith, on)
+in_set keys needed (WalkEnd seat c answer) f flies on = flies.1
+in_set keys needed e f flies on = tt
+
 pub can_append : (head : Head) (es : List Event) (places : List (Option Step)) (p : Parts) (needed : ℕ) (e : Event) → NoAdmission e →
     IsLawful head es → Stands head es e → needed ≡ taken (need head es e) → length places ≡ ONLINE + 1 →
     IsTableOf head (es ++ e ∷ []) places → IsAccount head es p → CanAppend (keys_by places) needed e p
 can_append head es places p needed e other lawful stands n sound t is =
     let comes = stands.0 in
     let fits = event_fits head es e lawful stands in
-    let flies : WalksAlone es p.flights.walking = record { walking_is = is.flights.walking_is } in
+    let flies = can_fly head es places p needed e lawful comes n t is in
+    let on = can_register head es places p e lawful comes sound t is in
     record {
       seats = can_leave head es p.seats e other comes is.seats;
-      locks = locks_can head es p.locks p.flights.walking e other (owners head es lawful) comes flies is.locks;
+      locks = locks_can head es p.locks e other lawful comes is.locks;
       ends = can_end_of head es p.flights e lawful comes is.flights;
       processors = placed head es p e lawful comes is;
       suspended = can_suspend head es p.suspended e lawful comes fits is.suspended;
-      operation = can_operate head es p.operation e comes fits is.operation;
-      flights = can_fly head es places p needed e lawful comes n t is;
-      registration = can_register head es places p e lawful comes sound t is;
+      operation = can_operate head es p.operation e lawful comes fits is.operation;
+      flights = flies;
+      registration = on;
+      turns = λ freed new flew.
+          can_turn head es places p.operation e new p.turns lawful stands t is.operation is.turns
+          (flights_after head es places p.operation needed freed e p.flights new lawful comes n t is.operation is.flights flew);
+      place_in_set = in_set (keys_by places) (room_of_walk (keys_by places) (is_batch p.operation) needed e) e p.flights flies on;
     }

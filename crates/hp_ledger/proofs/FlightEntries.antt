@@ -1,24 +1,26 @@
 -- The walks in flight stand where a journal's entries lead, by one entry more.
-use Rattle.std.proofs.Common.{◌≡◌, ℕ, ◌-◌, ◌<◌, Bool, true, false, eqb, is_some, Option, Some, None, List, [], ◌∷◌, ◌++◌, length, length-append, length-set, refl, ap, sym, subst, ◌∙◌, inl, inr, arith}
-use Rattle.std.specs.Prelude.{option_to_list}
-use Rattle.std.proofs.lemmas.Bool.{true≢false, eq-eqb}
+use Rattle.std.proofs.Common.{◌≡◌, ℕ, ◌-◌, Bool, true, false, eqb, Option, Some, None, List, [], ◌∷◌, ◌++◌, length, length-append, length-set, refl, ap, sym, subst, ◌∙◌, inl, inr, arith}
+use Rattle.std.specs.Prelude.{option_map}
+use Rattle.std.proofs.lemmas.Bool.{eq-eqb}
+use Rattle.hp_states.specs.CpuSets.{has}
 use Rattle.hp_states.specs.declared.dir.Dir.{Dir}
 use Rattle.hp_states.specs.declared.place.Place.{Place}
 use Rattle.hp_event.specs.declared.how.How.{How}
 use Rattle.hp_event.specs.declared.key.Key.{Key}
 use Rattle.hp_event.specs.declared.head.Head.{Head}
 use Rattle.hp_event.specs.declared.event.Event.{Event}
-use Rattle.hp_event.specs.declared.event.Event.TheVariants.{Call}
+use Rattle.hp_event.specs.declared.event.Event.TheVariants.{Call, WalkEnd}
+use Rattle.hp_model.specs.Caller.{caller}
 use Rattle.hp_model.specs.How.{how_in_walk, fits}
 use Rattle.hp_model.specs.Lawful.{IsLawful}
+use Rattle.hp_model.specs.Lists.{among}
 use Rattle.hp_model.specs.Registered.{keys}
-use Rattle.hp_model.specs.StandsCalls.{WalkEntry, InWalk, InRegistration, Calls}
+use Rattle.hp_model.specs.StandsCalls.{WalkEntry, InWalk, Calls}
 use Rattle.hp_model.specs.Walks.{Walk, walk, walk_entries}
 use Rattle.hp_model.proofs.Induction.{kept}
 use Rattle.hp_model.proofs.Kept.{RegistrationKept}
 use Rattle.hp_model.proofs.Laws.{walk_push, walk_entries_push, walking_push, registered_push}
 use Rattle.hp_model.proofs.OneEntry.{one_walk_entry}
-use Rattle.hp_model.proofs.OneNext.{walk_ended}
 use Rattle.hp_model.proofs.Owners.{none_some}
 use Rattle.hp_table.specs.Step.{Step}
 use Rattle.hp_walk.specs.declared.step.Step.{Step as Ask}
@@ -32,35 +34,11 @@ use Rattle.hp_ledger.specs.declared.flights.Flight.{Flight}
 use Rattle.hp_ledger.specs.declared.flights.Flights.{Flights}
 use Rattle.hp_ledger.specs.Places.{at_place}
 use Rattle.hp_ledger.specs.Flights.{IsFlight, IsFlightOf, IsFlights}
-use Rattle.hp_ledger.specs.FlightChanges.{CanGoOn, IfWalks, WentOn}
+use Rattle.hp_ledger.specs.FlightChanges.{CanGoOn, WentOn}
 use Rattle.hp_ledger.proofs.PlaceLemmas.{at_place-within}
-use Rattle.hp_ledger.proofs.FlightFacts.{flight_at, keys_at_begin, alone, walks, flown}
-use Rattle.hp_ledger.proofs.WalkEntries.{entry_asked, end_asked, walk_fits}
-use Rattle.hp_ledger.proofs.FlightSteps.{HasKeys, flight_stays, still, each_after, flight_room}
-
--- where no processor walks, an entry is a registration's
-pub call_of_registration : (head : Head) (xs : List Event) (seat cpu state inst : ℕ) (dir : Dir) (how : How) (f : Flights) →
-    Calls head xs seat cpu state inst dir how → IsFlights head xs f → f.walking ≡ None →
-    InRegistration head xs seat cpu state inst dir how
-call_of_registration head xs seat cpu state inst dir how f (inl h) t is =
-    absurd (none_some h.entry.of (sym (still head xs f t is cpu) ∙ h.entry.in_flight))
-call_of_registration head xs seat cpu state inst dir how f (inr h) t is = h
-
--- where one does, it is its walk's
-pub call_of_walk : (head : Head) (xs : List Event) (seat cpu state inst : ℕ) (dir : Dir) (how : How) (f : Flights) (n : ℕ) →
-    IsLawful head xs → Calls head xs seat cpu state inst dir how → IsFlights head xs f → f.walking ≡ Some n →
-    (n ≡ cpu) × InWalk head xs seat cpu state inst dir how
-call_of_walk head xs seat cpu state inst dir how f n lawful (inl h) t is =
-    let only = alone head xs f cpu h.entry.of t h.entry.in_flight in
-    let same : n ∷ [] ≡ cpu ∷ [] = ap option_to_list (sym is) ∙ (t.walking_is ∙ only) in
-    (head_same n cpu same, h)
-  where
-    head_same : (a b : ℕ) → a ∷ [] ≡ b ∷ [] → a ≡ b
-    head_same a b q = cc
-call_of_walk head xs seat cpu state inst dir how f n lawful (inr h) t is =
-    let k = kept head xs lawful in
-    let r : RegistrationKept head h.entry.of xs = rw h.entry.in_flight at k.registration_kept in
-    absurd (true≢false (sym (walks head xs f n t is) ∙ ap is_some (r.no_walk n)))
+use Rattle.hp_ledger.proofs.FlightFacts.{flight_at, keys_at_begin}
+use Rattle.hp_ledger.proofs.WalkEntries.{entry_asked, end_gives, gives_by_caller, walk_fits}
+use Rattle.hp_ledger.proofs.FlightSteps.{HasKeys, flight_stays, each_after, flight_room}
 
 -- an entry that can come is the one that the walk asks for, made so
 pub record IsAsked (K : ℕ → List ℕ) (f : Flight) (state inst : ℕ) (dir : Dir) (how : How) : Type 0 where
@@ -91,32 +69,12 @@ entry_is_asked head xs cpu state inst dir how f b h = go (asked (keys head b.of.
         let q = one_walk_entry head xs cpu state key.state inst key.inst dir d how made h e.0 in
         same key d place first made refl is q.state_same q.inst_same q.dir_same q.how_same
     go (ask.Ended answer) is =
-        absurd (walk_ended head xs f.seat cpu state inst dir how answer h (end_asked head xs cpu f answer b is))
-
--- what an entry asks for is met
-pub can_enter : (head : Head) (xs : List Event) (places : List (Option Step)) (seat cpu state inst : ℕ) (dir : Dir) (how : How)
-    (old : Flights) (n : ℕ) → IsLawful head xs → Calls head xs seat cpu state inst dir how → IsFlights head xs old →
-    HasKeys head xs places → old.walking ≡ Some n →
-    (cpu < length old.by_cpu.items) × IfWalks (at_place old.by_cpu.items cpu) (CanGoOn (keys_by places) how)
-can_enter head xs places seat cpu state inst dir how old n lawful h t has is =
-    let c = call_of_walk head xs seat cpu state inst dir how old n lawful h t is in
-    let w = flown head xs old cpu t (is ∙ ap Some c.0) in
-    let b = flight_at head xs old cpu w.0 t w.1 in
-    let K = keys head b.of.before in
-    let same : (s : ℕ) → K s ≡ keys_by places s = λ s. keys_at_begin head xs cpu w.0 b s ∙ has s in
-    let a = entry_is_asked head xs cpu state inst dir how w.0 b c.1.entry in
-    let asks : asked (keys_by places) w.0.walk ≡ ask.Call (record { state = state; inst = inst }) dir a.place a.first =
-    sym (asked_alike K (keys_by places) same w.0.walk) ∙ a.asks in
-    let goes : CanGoOn (keys_by places) how w.0 =
-    record {
-      going =
-          record {
-            within = within_alike K (keys_by places) same w.0.walk b.after.within;
-            room = flight_room head xs cpu w.0 lawful b;
-          };
-      asks = subst (λ x. FitsStep x how) (sym asks) a.fits_is;
-    } in
-    (at_place-within old.by_cpu.items cpu w.0 w.1, rw w.1 goes)
+        absurd (no_end (caller xs cpu state how h.of.seat)
+        (sym (gives_by_caller head xs cpu state inst dir how h) ∙ end_gives head xs cpu f answer b is))
+      where
+        no_end : (by : Option ℕ) → option_map (λ k. Call k cpu state inst dir how) by ≡ Some (WalkEnd f.seat cpu answer) → ⊥
+        no_end None e = cc
+        no_end (Some k) e = cc
 
 -- an entry on a processor that walks is its walk's
 in_walk : (head : Head) (xs : List Event) (seat cpu state inst : ℕ) (dir : Dir) (how : How) (w : Walk) → IsLawful head xs →
@@ -126,6 +84,26 @@ in_walk head xs seat cpu state inst dir how w lawful (inr h) at =
     let k = kept head xs lawful in
     let r : RegistrationKept head h.entry.of xs = rw h.entry.in_flight at k.registration_kept in
     absurd (none_some w (sym (r.no_walk cpu) ∙ at))
+
+-- what an entry asks for is met
+pub can_enter : (head : Head) (xs : List Event) (places : List (Option Step)) (seat cpu state inst : ℕ) (dir : Dir) (how : How)
+    (old : Flights) (f : Flight) → IsLawful head xs → Calls head xs seat cpu state inst dir how → IsFlights head xs old →
+    HasKeys head xs places → at_place old.by_cpu.items cpu ≡ Some f → CanGoOn (keys_by places) how f
+can_enter head xs places seat cpu state inst dir how old f lawful h t has is =
+    let b = flight_at head xs old cpu f t is in
+    let i = in_walk head xs seat cpu state inst dir how b.of lawful h b.in_flight in
+    let K = keys head b.of.before in
+    let same : (s : ℕ) → K s ≡ keys_by places s = λ s. keys_at_begin head xs cpu f b s ∙ has s in
+    let a = entry_is_asked head xs cpu state inst dir how f b i.entry in
+    let asks : asked (keys_by places) f.walk ≡ ask.Call (record { state = state; inst = inst }) dir a.place a.first =
+    sym (asked_alike K (keys_by places) same f.walk) ∙ a.asks in
+    record {
+      going = record {
+        within = within_alike K (keys_by places) same f.walk b.after.within;
+        room = flight_room head xs cpu f lawful b;
+      };
+      asks = subst (λ x. FitsStep x how) (sym asks) a.fits_is;
+    }
 
 -- the walk goes on past the entry
 went_on : (head : Head) (xs : List Event) (places : List (Option Step)) (seat cpu state inst : ℕ) (dir : Dir) (how : How)
@@ -161,16 +139,16 @@ pub flights_entry : (head : Head) (xs : List Event) (places : List (Option Step)
     (old new : Flights) → IsLawful head xs → Calls head xs seat cpu state inst dir how → IsFlights head xs old →
     HasKeys head xs places → WentOn (keys_by places) cpu how old new →
     IsFlights head (xs ++ Call seat cpu state inst dir how ∷ []) new
-flights_entry head xs places seat cpu state inst dir how old new lawful h t has went =
+flights_entry head xs places seat cpu state inst dir how old new lawful h t table went =
     record {
       cpus = ap length went.with_it.by_cpu_is ∙ (length-set old.by_cpu.items cpu (Some went.now) ∙ t.cpus);
       each =
           each_after head (xs ++ e ∷ []) old.by_cpu.items new.by_cpu.items cpu (Some went.now)
           (at_place-within old.by_cpu.items cpu went.flight went.was) went.with_it.by_cpu_is
-          (went_on head xs places seat cpu state inst dir how went.flight went.now b has
+          (went_on head xs places seat cpu state inst dir how went.flight went.now b table
           (entry_is_asked head xs cpu state inst dir how went.flight b i.entry) went.seat_is went.took went.left_is)
           other;
-      walking_is = ap option_to_list went.with_it.walking_is ∙ (t.walking_is ∙ sym (walking_push xs e));
+      walking_is = λ c. ap (λ z. has z c) went.walking_is ∙ (t.walking_is c ∙ sym (ap (among c) (walking_push xs e)));
     }
   where
     e : Event

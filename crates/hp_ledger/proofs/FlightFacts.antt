@@ -1,21 +1,27 @@
 -- Facts of the walks in flight after a lawful journal's events.
-use Rattle.std.proofs.Common.{◌≡◌, ℕ, zero, suc, ◌<◌, true, cond, eqb, ltb, is_some, Option, Some, None, List, [], ◌∷◌, ◌+◌, length, get_or, refl, ap, sym, subst, ◌∙◌, arith}
-use Rattle.std.specs.Prelude.{option_to_list}
-use Rattle.std.proofs.lemmas.Bool.{true≢false, eq-eqb}
+use Rattle.std.proofs.Common.{◌≡◌, ℕ, zero, suc, ◌<◌, ◌≤◌, Bool, true, false, cond, eqb, is_some, Option, Some, None, List, [], ◌∷◌, ◌++◌, ◌+◌, length, get_or, refl, ap, sym, subst, ◌∙◌, arith}
+use Rattle.std.proofs.lemmas.Bool.{true≢false, false≢true, eq-eqb}
 use Rattle.std.proofs.lemmas.Bool.Decides.{nat_tests}
 use Rattle.hp_event.specs.declared.head.Head.{Head}
+use Rattle.hp_states.specs.CpuSets.{has}
 use Rattle.hp_event.specs.declared.event.Event.{Event}
-use Rattle.hp_model.specs.Lists.{among}
+use Rattle.hp_event.specs.declared.event.Event.TheVariants.{WalkBegin, WalkEnd}
+use Rattle.hp_model.specs.Batch.{is_upmany}
+use Rattle.hp_model.specs.Journal.{over_from}
+use Rattle.hp_model.specs.Lists.{among, occurs, without}
 use Rattle.hp_model.specs.Lawful.{IsLawful}
 use Rattle.hp_model.specs.MapLock.{operation}
 use Rattle.hp_model.specs.Registered.{registered, keys, insts_of as insts_of_registered}
 use Rattle.hp_model.specs.Registrations.{registration}
-use Rattle.hp_model.specs.Seats.{holds_map, is_busy}
-use Rattle.hp_model.specs.Walks.{Walk, walk, walking}
+use Rattle.hp_model.specs.Suspend.{held_by}
+use Rattle.hp_model.specs.Walks.{Walk, walk, walking, walking_step}
+use Rattle.hp_model.proofs.Counts.{occurs-append}
 use Rattle.hp_model.proofs.Induction.{kept}
 use Rattle.hp_model.proofs.InFlight.{walking_is}
 use Rattle.hp_model.proofs.Kept.{WalkKept}
+use Rattle.hp_model.proofs.ListLemmas.{is_among, occurs-without, once_in}
 use Rattle.hp_model.proofs.OneNext.{owners}
+use Rattle.hp_model.proofs.WaitLemmas.{first_among}
 use Rattle.hp_table.specs.Step.{Step, step_at}
 use Rattle.hp_walk.specs.Cursor.{cpu_of}
 use Rattle.hp_walk.specs.After.{IsWithin}
@@ -87,62 +93,116 @@ pub keys_same : (head : Head) (events : List Event) (places : List (Option Step)
 keys_same head events places c f b s lawful t =
     keys_at_begin head events c f b s ∙ keys_there head events places s t (no_registration head events c f lawful b)
 
-one_of_one : (n c : ℕ) → ltb 0 (cond (eqb n c) 1 0 + 0) ≡ true → n ≡ c
-one_of_one n c h = grind (arith, nat_tests)
+-- no processor is twice among those that walk
+once_more : (cpu d n : ℕ) → n ≤ 1 → cond (eqb d cpu) 0 n + (cond (eqb cpu d) 1 0 + 0) ≤ 1
+once_more cpu d n h = grind (arith, nat_tests)
 
-self_among : (c : ℕ) → among c (c ∷ []) ≡ true
-self_among c = let self : eqb c c ≡ true = eq-eqb c c refl in rw self refl
+once_less : (b : Bool) (n : ℕ) → n ≤ 1 → cond b 0 n ≤ 1
+once_less true n h = omega arith
+once_less false n h = h
 
--- a processor that walks is the only one
-pub alone : (head : Head) (events : List Event) (flights : Flights) (c : ℕ) (w : Walk) → IsFlights head events flights →
-    walk c events ≡ Some w → walking events ≡ c ∷ []
-alone head events flights c w t at = go flights.walking t.walking_is
+once_step : (ws : List ℕ) (before : List Event) (e : Event) → ((d : ℕ) → occurs d ws ≤ 1) → (d : ℕ) → occurs d (walking_step ws before e) ≤ 1
+once_step ws before (WalkBegin seat cpu from to) h d =
+    rw (occurs-append d (without cpu ws) (cpu ∷ []), occurs-without cpu d ws) (once_more cpu d (occurs d ws) (h d))
+once_step ws before (WalkEnd seat cpu answer) h d = rw (occurs-without cpu d ws) (once_less (eqb d cpu) (occurs d ws) (h d))
+once_step ws before e h d = h d
+
+once_from : (ws : List ℕ) (before es : List Event) → ((d : ℕ) → occurs d ws ≤ 1) → (d : ℕ) → occurs d (over_from walking_step ws before es) ≤ 1
+once_from ws before [] h d = h d
+once_from ws before (e ∷ es) h d = once_from (walking_step ws before e) (before ++ e ∷ []) es (once_step ws before e h) d
+
+pub walks_once : (xs : List Event) (d : ℕ) → occurs d (walking xs) ≤ 1
+unfolding walking
+walks_once xs d = once_from [] [] xs (λ c. omega arith) d
+
+some_of : (v : Option Walk) → is_some v ≡ true → (w : Walk) × (v ≡ Some w)
+some_of None h = absurd (false≢true h)
+some_of (Some w) h = (w, refl)
+
+-- but in an upmany a processor that walks is the only one
+pub alone : (head : Head) (events : List Event) (c : ℕ) (w : Walk) → IsLawful head events →
+    held_by is_upmany (operation events) ≡ false → walk c events ≡ Some w → walking events ≡ c ∷ []
+alone head events c w lawful single at = go (walking events) refl
   where
     there : among c (walking events) ≡ true
     there = walking_is c events ∙ ap is_some at
 
-    go : (o : Option ℕ) → option_to_list o ≡ walking events → walking events ≡ c ∷ []
-    go None e = absurd (true≢false (sym there ∙ sym (ap (among c) e)))
-    go (Some n) e =
-        let same : n ≡ c = one_of_one n c (ap (among c) e ∙ there) in sym e ∙ ap (λ z. z ∷ []) same
+    same : (d : ℕ) → among d (walking events) ≡ true → d ≡ c
+    same d i =
+        let v = some_of (walk d events) (sym (walking_is d events) ∙ i) in
+        (owners head events lawful).one_walk d c v.0 w v.1 at single
 
--- the client whose operation walks is busy
-pub walker_busy : (head : Head) (events : List Event) (c : ℕ) (w : Walk) → IsLawful head events → walk c events ≡ Some w →
-    is_busy w.seat events ≡ true
-walker_busy head events c w lawful at =
-    let o = (owners head events lawful).walk_op c w at in
-    let held : holds_map w.seat (operation events) ≡ true = rw o.1 (eq-eqb o.0.seat w.seat o.2) in
-    rw held refl
+    twice : (d : ℕ) (ds : List ℕ) → 2 ≤ occurs d (d ∷ (d ∷ ds))
+    twice d ds = let self : eqb d d ≡ true = eq-eqb d d refl in rw self (omega arith)
 
--- the processor that walks has a walk in flight
+    go : (ws : List ℕ) → walking events ≡ ws → walking events ≡ c ∷ []
+    go [] e = absurd (true≢false (sym there ∙ ap (among c) e))
+    go (d ∷ []) e =
+        let s = same d (ap (among d) e ∙ first_among d []) in e ∙ ap (λ z. z ∷ []) s
+    go (d ∷ (f ∷ ds)) e =
+        let s = same d (ap (among d) e ∙ first_among d (f ∷ ds)) in
+        let t = same f (ap (among f) e ∙ among_more_first f d ds) in
+        let all : walking events ≡ c ∷ (c ∷ ds) = e ∙ ((λ i. s i ∷ (t i ∷ ds))) in
+        let two = twice c ds in
+        let one = walks_once events c in
+        let n = ap (occurs c) all in
+        absurd (omega (arith, two, one, n))
+      where
+        among_more_first : (f d : ℕ) (ds : List ℕ) → among f (d ∷ (f ∷ ds)) ≡ true
+        among_more_first f d ds =
+            let i = once_in f ds in is_among f (d ∷ (f ∷ ds)) (more (eqb d f) i)
+          where
+            more : (b : Bool) → 0 < occurs f (f ∷ ds) → 0 < cond b 1 0 + occurs f (f ∷ ds)
+            more b h = omega (arith, h)
+
+-- a processor that walks has a walk in flight
 pub walks : (head : Head) (events : List Event) (flights : Flights) (c : ℕ) → IsFlights head events flights →
-    flights.walking ≡ Some c → is_some (walk c events) ≡ true
-walks head events flights c t is =
-    let e : c ∷ [] ≡ walking events = ap option_to_list (sym is) ∙ t.walking_is in
-    sym (walking_is c events) ∙ (ap (among c) (sym e) ∙ self_among c)
+    has flights.walking c ≡ true → is_some (walk c events) ≡ true
+walks head events flights c t is = sym (walking_is c events) ∙ (sym (t.walking_is c) ∙ is)
 
--- which is kept
-pub flown : (head : Head) (events : List Event) (flights : Flights) (c : ℕ) → IsFlights head events flights →
-    flights.walking ≡ Some c → (f : Flight) × (at_place flights.by_cpu.items c ≡ Some f)
-flown head events flights c t is = go (at_place flights.by_cpu.items c) refl
+-- a walk in flight is kept
+pub flight_of : (head : Head) (events : List Event) (flights : Flights) (c : ℕ) → IsFlights head events flights →
+    is_some (walk c events) ≡ true → (f : Flight) × (at_place flights.by_cpu.items c ≡ Some f)
+flight_of head events flights c t is = go (at_place flights.by_cpu.items c) refl
   where
     go : (o : Option Flight) → at_place flights.by_cpu.items c ≡ o → (f : Flight) × (at_place flights.by_cpu.items c ≡ Some f)
-    go None e = absurd (true≢false (sym (walks head events flights c t is) ∙ ap is_some (no_flight_at head events flights c t e)))
+    go None e = absurd (true≢false (sym is ∙ ap is_some (no_flight_at head events flights c t e)))
     go (Some f) e = (f, e)
+
+pub flown : (head : Head) (events : List Event) (flights : Flights) (c : ℕ) → IsFlights head events flights →
+    has flights.walking c ≡ true → (f : Flight) × (at_place flights.by_cpu.items c ≡ Some f)
+flown head events flights c t is = flight_of head events flights c t (walks head events flights c t is)
+
+-- and what is kept walks
+pub flies : (head : Head) (events : List Event) (flights : Flights) (c : ℕ) (f : Flight) → IsFlights head events flights →
+    at_place flights.by_cpu.items c ≡ Some f → has flights.walking c ≡ true
+flies head events flights c f t is =
+    t.walking_is c ∙ (walking_is c events ∙ ap is_some (flight_at head events flights c f t is).in_flight)
+
+-- a walk stands among the table's keys
+pub within_at : (head : Head) (events : List Event) (places : List (Option Step)) (flights : Flights) (c : ℕ) (f : Flight) →
+    IsLawful head events → IsFlights head events flights → IsTableOf head events places →
+    at_place flights.by_cpu.items c ≡ Some f → IsWithin (keys_by places) f.walk
+within_at head events places flights c f lawful t table is =
+    let b = flight_at head events flights c f t is in
+    let same : (s : ℕ) → keys head b.of.before s ≡ keys_by places s = λ s. keys_same head events places c f b s lawful table in
+    within_alike (keys head b.of.before) (keys_by places) same f.walk b.after.within
 
 -- so what a walk's next asks for is met
 pub can_next : (head : Head) (events : List Event) (places : List (Option Step)) (flights : Flights) (c : ℕ) → IsLawful head events →
-    IsFlights head events flights → IsTableOf head events places → flights.walking ≡ Some c →
+    IsFlights head events flights → IsTableOf head events places → has flights.walking c ≡ true →
     (c < length flights.by_cpu.items) × IfWalks (at_place flights.by_cpu.items c) (λ flight. IsWithin (keys_by places) flight.walk)
 can_next head events places flights c lawful t table is =
-    let w = flown head events flights c t is in
-    let b = flight_at head events flights c w.0 t w.1 in
-    let same : (s : ℕ) → keys head b.of.before s ≡ keys_by places s = λ s. keys_same head events places c w.0 b s lawful table in (
+    let w = flown head events flights c t is in (
       at_place-within flights.by_cpu.items c w.0 w.1,
-      rw w.1 (within_alike (keys head b.of.before) (keys_by places) same w.0.walk b.after.within),
+      rw w.1 (within_at head events places flights c w.0 lawful t table w.1),
     )
 
 -- where no processor walks, none does by the journal
-pub none_walks : (head : Head) (events : List Event) (flights : Flights) → IsFlights head events flights → flights.walking ≡ None →
-    walking events ≡ []
-none_walks head events flights t is = sym t.walking_is ∙ ap option_to_list is
+pub none_walks : (head : Head) (events : List Event) (flights : Flights) → IsFlights head events flights →
+    ((c : ℕ) → has flights.walking c ≡ false) → walking events ≡ []
+none_walks head events flights t none = go (walking events) refl
+  where
+    go : (ws : List ℕ) → walking events ≡ ws → walking events ≡ []
+    go [] e = e
+    go (c ∷ cs) e = absurd (true≢false (sym (t.walking_is c ∙ (ap (among c) e ∙ first_among c cs)) ∙ none c))

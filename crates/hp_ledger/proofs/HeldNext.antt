@@ -1,8 +1,9 @@
 -- What comes next of the operation that holds the map lock is what the journal says.
-use Rattle.std.proofs.Common.{◌≡◌, ℕ, ℤ, zero, suc, pos, ◌<◌, Bool, false, Some, None, List, [], ◌∷◌, length, refl, sym, ap, ◌∙◌, subst, arith}
+use Rattle.std.proofs.Common.{◌≡◌, ℕ, ℤ, zero, suc, pos, ◌<◌, Bool, false, not, Some, None, List, [], ◌∷◌, length, refl, sym, ap, ◌∙◌, subst, arith}
 use Rattle.std.specs.Prelude.{slice_get, slice_index, map, option_map}
 use Rattle.std.proofs.lemmas.Bool.{ltb-true}
 use Rattle.std.proofs.lemmas.Option.{slice_get-get_or}
+use Rattle.hp_states.specs.declared.cpu_set.CpuSet.{CpuSet}
 use Rattle.hp_states.specs.Sections.{is_online_state}
 use Rattle.hp_event.specs.declared.answer.Answer.{Answer}
 use Rattle.hp_event.specs.declared.answer.Answer.TheVariants.{Ok}
@@ -14,7 +15,10 @@ use Rattle.hp_model.specs.MapLock.{Operation, operation}
 use Rattle.hp_model.specs.Processors.{is_possible}
 use Rattle.hp_model.specs.RefusalsAtOnce.{refusals_at_once, first_that_holds}
 use Rattle.hp_model.specs.Settled.{settled}
-use Rattle.hp_model.specs.Sequence.{ends, answers, single_next, next, target_of}
+use Rattle.hp_model.specs.Batch.{batch, unbegun, to_begin_of, to_begin}
+use Rattle.hp_model.specs.Lists.{is_empty}
+use Rattle.hp_model.specs.Walks.{walking, is_walking}
+use Rattle.hp_model.specs.Sequence.{walks, ends, answers, failures, single_next, batch_next, next, target_of}
 use Rattle.hp_model.specs.Lawful.{IsLawful}
 use Rattle.hp_model.specs.StandsOperations.{Enters}
 use Rattle.hp_model.proofs.Induction.{held_from, held_none}
@@ -26,10 +30,12 @@ use Rattle.hp_ledger.specs.Flags.{AreFlags}
 use Rattle.hp_suspend.specs.declared.freeze.Freeze.{Freeze as AFreeze}
 use Rattle.hp_suspend.specs.declared.thaw.Thaw.{Thaw as AThaw}
 use Rattle.hp_suspend.specs.declared.boot.Boot.{Boot as ABoot}
+use Rattle.hp_suspend.specs.declared.batch.Batch.{Batch as ABatch}
+use Rattle.hp_suspend.specs.Batching.{IsBatching}
 use Rattle.hp_suspend.specs.Freezing.{IsFreezing}
 use Rattle.hp_suspend.specs.Thawing.{IsThawing}
 use Rattle.hp_suspend.specs.Booting.{IsBooting}
-use Rattle.hp_ledger.specs.declared.operation.Sequence.TheVariants.{Single, Freeze, Thaw, Boot, NoWalk}
+use Rattle.hp_ledger.specs.declared.operation.Sequence.TheVariants.{Single, Freeze, Thaw, Boot, Batch, NoWalk}
 use Rattle.hp_ledger.specs.declared.operation.Held.{Held}
 use Rattle.hp_ledger.specs.Operations.{IsSingle, IsSequence, IsHeld, single_by}
 use Rattle.hp_ledger.specs.Processors.{Standing, IsStanding, online_flags}
@@ -137,6 +143,59 @@ boot_is head es o b is = go o.op refl is
     go : (asked : Op) → o.op ≡ asked → IsSequence head o.before es asked (Boot b) → OfBoot es o b
     go (op.Boot n) e is = record { max = n; op_is = e; is = is }
     go asked e is = elim is [ ]
+
+pub record OfBatch (head : Head) (es : List Event) (o : Operation) (b : ABatch) : Type 0 where
+  pub set : CpuSet
+  pub op_is : o.op ≡ op.UpMany set
+  pub is : IsBatching head o.before es set b
+
+pub batch_is : (head : Head) (es : List Event) (o : Operation) (b : ABatch) → IsSequence head o.before es o.op (Batch b) → OfBatch head es o b
+batch_is head es o b is = go o.op refl is
+  where
+    go : (asked : Op) → o.op ≡ asked → IsSequence head o.before es asked (Batch b) → OfBatch head es o b
+    go (op.UpMany set) e is = record { set = set; op_is = e; is = is }
+    go asked e is = elim is [ ]
+
+-- what comes next of an upmany is the walk of the first that is to begin, or where none is and nothing walks its end
+first_walks : (cs : List ℕ) (walking : Bool) (answer : Answer) (c : ℕ) → Some c ≡ slice_get cs 0 → walks c 200 ≡ batch_next cs walking answer
+first_walks (d ∷ ds) walking answer c h = ap (λ n. walks n 200) (same d h)
+  where
+    same : (d : ℕ) → Some c ≡ Some d → c ≡ d
+    same d e = cc
+first_walks [] walking answer c h = absurd (some_none h)
+  where
+    some_none : Some c ≡ None → ⊥
+    some_none e = cc
+
+none_ends : (cs : List ℕ) (answer : Answer) → None ≡ slice_get cs 0 → ends answer ≡ batch_next cs false answer
+none_ends [] answer h = refl
+none_ends (d ∷ ds) answer h = absurd (none_some h)
+  where
+    none_some : None ≡ Some d → ⊥
+    none_some e = cc
+
+left_of : (head : Head) (es : List Event) (o : Operation) (set : CpuSet) → operation es ≡ Some o → o.op ≡ op.UpMany set →
+    slice_get (to_begin head es) 0 ≡ slice_get (unbegun (batch head o.before (op.UpMany set)) es) 0
+left_of head es o set held asked =
+    ap (λ x. slice_get (to_begin_of head x es) 0) held ∙ ap (λ x. slice_get (unbegun (batch head o.before x) es) 0) asked
+
+pub batch_walks_next : (head : Head) (es : List Event) (o : Operation) (set : CpuSet) (c : ℕ) → operation es ≡ Some o →
+    o.op ≡ op.UpMany set → Some c ≡ slice_get (to_begin head es) 0 → walks c 200 ≡ next head es o.before o.op
+batch_walks_next head es o set c held asked h =
+    first_walks (unbegun (batch head o.before (op.UpMany set)) es) (is_walking es) (Ok (pos (length (failures (answers es))))) c
+    (h ∙ left_of head es o set held asked)
+    ∙ ap (next head es o.before) (sym asked)
+
+pub batch_ends_next : (head : Head) (es : List Event) (o : Operation) (set : CpuSet) (b : ABatch) → operation es ≡ Some o →
+    o.op ≡ op.UpMany set → IsBatching head o.before es set b → walking es ≡ [] → None ≡ slice_get (to_begin head es) 0 →
+    ends (Ok (pos b.failed)) ≡ next head es o.before o.op
+batch_ends_next head es o set b held asked is still h =
+    none_ends (unbegun (batch head o.before (op.UpMany set)) es) (Ok (pos b.failed)) (h ∙ left_of head es o set held asked)
+    ∙ ap (λ n. batch_next (unbegun (batch head o.before (op.UpMany set)) es) false (Ok (pos n))) is.failed_is
+    ∙ ap
+    (λ cs. batch_next (unbegun (batch head o.before (op.UpMany set)) es) (not (is_empty cs)) (Ok (pos (length (failures (answers es))))))
+    (sym still)
+    ∙ ap (next head es o.before) (sym asked)
 
 pub none_is : (head : Head) (es : List Event) (o : Operation) → IsSequence head o.before es o.op NoWalk →
     ends (Ok (pos 0)) ≡ next head es o.before o.op

@@ -1,5 +1,5 @@
 -- A ledger with one event more.
-use Rattle.std.proofs.Common.{◌≡◌, ℕ, ◌-◌, ◌<◌, ◌≤◌, Option, List, [], ◌∷◌, ◌++◌, length, sym, ◌∙◌, subst, arith}
+use Rattle.std.proofs.Common.{◌≡◌, ℕ, ◌-◌, ◌<◌, ◌≤◌, Option, List, [], ◌∷◌, ◌++◌, length, refl, sym, ◌∙◌, subst, arith}
 use Rattle.hp_event.specs.Story.{Story}
 use Rattle.hp_event.specs.declared.op.Op.TheVariants as op
 use Rattle.hp_event.specs.declared.event.Role.{Role}
@@ -14,6 +14,7 @@ use Rattle.hp_model.specs.Seats.{admits}
 use Rattle.hp_model.specs.StandsSeats.{CanSit}
 use Rattle.hp_model.proofs.HeadlineProof.{lawful_more}
 use Rattle.hp_model.proofs.Induction.{held_from, held_none}
+use Rattle.hp_model.proofs.Laws.{operation_push}
 use Rattle.hp_model.proofs.OneNext.{owners}
 use Rattle.hp_model.proofs.Promises.{Uses, uses, promised_none}
 use Rattle.hp_table.specs.Step.{Step}
@@ -21,6 +22,7 @@ use Rattle.hp_walk.specs.Keys.{keys_by}
 use Rattle.hp_ledger.specs.declared.parts.Parts.{Parts}
 use Rattle.hp_ledger.specs.Account.{IsAccount}
 use Rattle.hp_ledger.specs.Appending.{Appended, Admitted, CanAdmit}
+use Rattle.hp_ledger.specs.BatchTurns.{IsTurns}
 use Rattle.hp_ledger.specs.Flights.{IsFlights}
 use Rattle.hp_ledger.specs.Ledger.{Entries, IsAccounted}
 use Rattle.hp_ledger.specs.Locks.{IsLocks}
@@ -32,12 +34,14 @@ use Rattle.hp_ledger.specs.Suspended.{IsSuspended}
 use Rattle.hp_ledger.specs.Table.{IsTableOf}
 use Rattle.hp_ledger.proofs.AppendedAccount.{account_after}
 use Rattle.hp_ledger.proofs.FlightSteps.{flights_stay}
-use Rattle.hp_ledger.proofs.LocksMore.{WalksAlone, locks_more}
+use Rattle.hp_ledger.proofs.LocksMore.{locks_more}
 use Rattle.hp_ledger.proofs.OperationMore.{held_stays}
 use Rattle.hp_ledger.proofs.RegistrationMore.{registration_stays}
 use Rattle.hp_ledger.proofs.RollMore.{present_below, roll_more}
 use Rattle.hp_ledger.proofs.StandingMore.{standing_more}
 use Rattle.hp_ledger.proofs.SuspensionMore.{suspension_more}
+use Rattle.hp_ledger.proofs.AwaitedMore.{awaited_stay}
+use Rattle.hp_ledger.proofs.TurnsMore.{turns_stay}
 
 -- an event uses what it took, and what it gives back is left
 used : (head : Head) (es : List Event) (e : Event) → IsLawful head es → Stands head es e → Uses head es e
@@ -87,20 +91,24 @@ admitted_account head es p new seat role lawful stands is h =
     let e : Event = Admit seat role in
     let comes = stands.0 in
     let own = owners head es lawful in
-    let flies : WalksAlone es p.flights.walking = record { walking_is = is.flights.walking_is } in
+    let flies = flights_stay head es e p.flights lawful comes is.flights tt in
     record {
       seats = subst (IsRoll head (es ++ e ∷ [])) (sym h.seats) (roll_more head es p.seats e own comes is.seats);
-      locks = subst (IsLocks (es ++ e ∷ [])) (sym h.locks) (locks_more head es p.locks p.flights.walking e own comes flies is.locks);
+      locks = subst (IsLocks (es ++ e ∷ [])) (sym h.locks) (locks_more head es p.locks e lawful comes is.locks);
       processors =
           subst (IsStanding head (es ++ e ∷ [])) (sym h.processors) (standing_more head es p.processors 0 e tt is.processors);
       operation =
           subst (IsHeldBy head (es ++ e ∷ [])) (sym h.operation)
-          (held_stays head es e p.operation (λ k o n. absurd (cc)) (λ k c a n. absurd (cc)) (λ k a n. absurd (cc)) is.operation);
-      flights = subst (IsFlights head (es ++ e ∷ [])) (sym h.flights) (flights_stay head es e p.flights lawful comes is.flights tt);
+          (held_stays head es e p.operation (λ k o n. absurd (cc)) (λ k c a b n. absurd (cc)) (λ k c a n. absurd (cc)) (λ k a n. absurd (cc)) is.operation);
+      flights = subst (IsFlights head (es ++ e ∷ [])) (sym h.flights) flies;
       registration =
-          subst (IsRegisteringOf head (es ++ e ∷ [])) (sym h.registration) (registration_stays head es p.registration e comes tt is.registration);
+          subst (IsRegisteringOf head (es ++ e ∷ [])) (sym h.registration) (registration_stays head es p.registration e own comes tt is.registration);
       suspended =
           subst (IsSuspended head (es ++ e ∷ [])) (sym h.suspended) (suspension_more head es p.suspended op.Disable e tt is.suspended);
+      turns = subst (IsTurns head (es ++ e ∷ [])) (sym h.turns) (turns_stay head es e p.turns lawful stands is.turns (λ own. refl) (operation_push es e));
+      awaited =
+          awaited_stay p.operation new.operation p.flights new.flights p.turns new.turns p.awaited new.awaited h.operation h.flights h.turns
+          h.awaited is.awaited;
     }
 
 pub admits_seat : (old : Story) (reserved seat : ℕ) (parts new : Parts) (role : Role) → IsAccounted old reserved parts →

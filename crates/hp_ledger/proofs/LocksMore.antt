@@ -1,43 +1,81 @@
 -- Who holds which lock after one event more.
-use Rattle.std.proofs.Common.{◌≡◌, ◌≢◌, ℕ, zero, suc, ◌+◌, ◌<◌, Bool, true, false, cond, eqb, ltb, is_some, Option, Some, None, List, [], ◌∷◌, ◌++◌, length, length-append, get_or, refl, sym, ap, ◌∙◌, subst, arith, get_or-set_same, get_or-set_other}
-use Rattle.std.specs.Prelude.{option_map, option_to_list}
+use Rattle.std.proofs.Common.{◌≡◌, ◌≢◌, ℕ, zero, suc, ◌+◌, ◌<◌, Bool, true, false, ◌&&◌, cond, eqb, is_some, Option, Some, None, List, [], ◌∷◌, ◌++◌, length, length-append, get_or, refl, sym, ap, ◌∙◌, subst, arith, get_or-set_same, get_or-set_other}
+use Rattle.std.specs.Prelude.{option_map}
 use Rattle.std.proofs.Math.ListN.{set}
-use Rattle.std.proofs.lemmas.Bool.{eqb-true, eqb-false, eq-eqb, false≢true}
+use Rattle.std.proofs.lemmas.Bool.{eqb-true, eqb-false, eq-eqb, false≢true, true≢false}
 use Rattle.std.proofs.lemmas.List.{length-set}
 use Rattle.std.proofs.lemmas.List.Sums.{sum_by-set, fold-append}
 use Rattle.hp_event.specs.declared.answer.Answer.{Answer}
+use Rattle.hp_event.specs.declared.op.Op.{Op}
 use Rattle.hp_event.specs.declared.op.Op.TheVariants.{Lock, Unlock}
 use Rattle.hp_event.specs.declared.event.Role.{Role}
 use Rattle.hp_event.specs.declared.head.Head.{Head}
 use Rattle.hp_event.specs.declared.event.Event.{Event}
 use Rattle.hp_event.specs.declared.event.Event.TheVariants.{Admit, Enter, WalkBegin, WalkEnd, OpEnd, RegBegin, RegEnd, ReadLock, ReadUnlock}
+use Rattle.hp_model.specs.Batch.{begun, is_upmany, is_batch_begun}
 use Rattle.hp_model.specs.Lists.{without, among}
+use Rattle.hp_model.specs.Suspend.{held_by}
 use Rattle.hp_model.specs.MapLock.{Operation, operation}
 use Rattle.hp_model.specs.Walks.{Walk, walk, walking}
 use Rattle.hp_model.specs.Registrations.{Registration, registration}
 use Rattle.hp_model.specs.Readers.{readers, is_reading, reading_since}
 use Rattle.hp_model.specs.Seats.{admits, IsFree}
 use Rattle.hp_model.specs.RefusalsAtOnce.{refusals_at_once}
-use Rattle.hp_model.specs.Lawful.{Comes}
-use Rattle.hp_model.proofs.Laws.{operation_push, walk_push, walking_push, registration_push, readers_push, reading_since_push, admits_push}
+use Rattle.hp_model.specs.Lawful.{Comes, IsLawful}
+use Rattle.hp_model.proofs.Laws.{operation_push, begun_push, walk_push, walking_push, registration_push, readers_push, reading_since_push, admits_push}
 use Rattle.hp_model.proofs.InFlight.{empty_of, walking_is}
 use Rattle.hp_model.proofs.Operations.{there}
-use Rattle.hp_model.proofs.Owners.{Owners}
+use Rattle.hp_model.proofs.BatchLemmas.{walking_begun}
+use Rattle.hp_model.proofs.OneNext.{owners}
+use Rattle.hp_model.proofs.Owners.{Owners, owners_step, enters_at_rest, over_at_rest, map_free, same_some}
+use Rattle.hp_model.proofs.WaitLemmas.{first_among}
 use Rattle.hp_model.proofs.Passing.{passed, none_holds}
 use Rattle.hp_model.proofs.SeatLemmas.{no_reader, is_reader, reader_once}
 use Rattle.hp_model.proofs.SumLemmas.{length-without}
 use Rattle.hp_locks.specs.Holders.{Holders, reads, readers_in, with_map, with_writer, with_registrar, with_reader}
 use Rattle.hp_ledger.specs.Locks.{IsLocks, writer_of}
 use Rattle.hp_ledger.specs.After.{holders_after}
+use Rattle.hp_ledger.proofs.FlightFacts.{alone}
 
--- the seat that holds the write side, where no walk begins or ends
+-- the seat that holds the write side, where no walk begins or ends, and no operation
+batch_stays : (es : List Event) (e : Event) → operation (es ++ e ∷ []) ≡ operation es → begun (es ++ e ∷ []) ≡ begun es →
+    writer_of [] (es ++ e ∷ []) ≡ writer_of [] es
+batch_stays es e op begins = rw (op, begins) refl
+
 writer_stays : (es : List Event) (e : Event) → ((c : ℕ) → walk c (es ++ e ∷ []) ≡ walk c es) → walking (es ++ e ∷ []) ≡ walking es →
+    operation (es ++ e ∷ []) ≡ operation es → begun (es ++ e ∷ []) ≡ begun es →
     writer_of (walking (es ++ e ∷ [])) (es ++ e ∷ []) ≡ writer_of (walking es) es
-writer_stays es e same cpus = ap (λ cs. writer_of cs (es ++ e ∷ [])) cpus ∙ go (walking es)
+writer_stays es e same cpus op begins = ap (λ cs. writer_of cs (es ++ e ∷ [])) cpus ∙ go (walking es)
   where
     go : (cs : List ℕ) → writer_of cs (es ++ e ∷ []) ≡ writer_of cs es
-    go [] = refl
+    go [] = batch_stays es e op begins
     go (c ∷ cs) = ap (option_map (λ w. w.seat)) (same c)
+
+-- where anything walks it is the seat of the operation
+walk_there : (es : List Event) (c : ℕ) → among c (walking es) ≡ true → (w : Walk) × (walk c es ≡ Some w)
+walk_there es c h = go (walk c es) (sym (walking_is c es) ∙ h)
+  where
+    go : (v : Option Walk) → is_some v ≡ true → (w : Walk) × (v ≡ Some w)
+    go None h = absurd (false≢true h)
+    go (Some w) h = (w, refl)
+
+pub writer_by : (es : List Event) (o : Operation) (c : ℕ) → Owners es → operation es ≡ Some o → among c (walking es) ≡ true →
+    writer_of (walking es) es ≡ Some o.seat
+writer_by es o c own held there = go (walking es) refl
+  where
+    go : (cs : List ℕ) → walking es ≡ cs → writer_of cs es ≡ Some o.seat
+    go [] e = absurd (false≢true (sym (ap (among c) e) ∙ there))
+    go (d ∷ ds) e =
+        let w = walk_there es d (ap (among d) e ∙ first_among d ds) in
+        let by = own.walk_op d w.0 w.1 in
+        let same = same_some by.0 o (sym by.1 ∙ held) in
+        ap (option_map (λ (v : Walk). v.seat)) w.1 ∙ ap Some (sym by.2 ∙ ap (λ (x : Operation). x.seat) same)
+
+-- where nothing walks it is that of an upmany that has begun a walk
+pub writer_at_rest : (es : List Event) (b : Bool) → walking es ≡ [] → is_batch_begun es ≡ b →
+    writer_of (walking es) es ≡ cond b (option_map (λ (o : Operation). o.seat) (operation es)) None
+writer_at_rest es b still begins =
+    ap (λ cs. writer_of cs es) still ∙ ap (λ q. cond q (option_map (λ (o : Operation). o.seat) (operation es)) None) begins
 
 -- a seat that reads, or doesn't, after an event of another kind
 reading_stays : (es : List Event) (e : Event) → ((k : ℕ) → reading_since k (es ++ e ∷ []) ≡ reading_since k es) →
@@ -58,25 +96,113 @@ changed es e h new is seats since same reading map writer registrar = record {
   readers_are = ap readers_in reading ∙ is.readers_are ∙ ap length (sym same);
 }
 
--- a walk begins where none is in flight
-began : (es : List Event) (seat c from to : ℕ) → walking es ≡ [] →
+-- an operation enters where nothing walks, and none has begun
+no_batch : (es : List Event) → held_by is_upmany (operation es) ≡ false → is_batch_begun es ≡ false
+no_batch es h = rw h refl
+
+none_walks : (es : List Event) → ((c : ℕ) (w : Walk) → walk c es ≡ Some w → ⊥) → walking es ≡ []
+none_walks es still = go (walking es) refl
+  where
+    go : (cs : List ℕ) → walking es ≡ cs → walking es ≡ []
+    go [] e = e
+    go (d ∷ ds) e = let w = walk_there es d (ap (among d) e ∙ first_among d ds) in absurd (still d w.0 w.1)
+
+enters : (head : Head) (es : List Event) (seat : ℕ) (op : Op) → Owners es → Comes head es (Enter seat op) →
+    writer_of (walking es) es ≡ writer_of (walking (es ++ Enter seat op ∷ [])) (es ++ Enter seat op ∷ [])
+enters head es seat op own comes =
+    let e : Event = Enter seat op in
+    let still = none_walks es (enters_at_rest head es seat op own comes) in
+    let free = map_free es op comes.takes_map comes.passes.not_waiting in
+    let before = writer_at_rest es false still (no_batch es (ap (held_by is_upmany) free)) in
+    let begins : is_batch_begun (es ++ e ∷ []) ≡ false = rw (begun_push es e) (and_false (held_by is_upmany (operation (es ++ e ∷ [])))) in
+    before ∙ sym (writer_at_rest (es ++ e ∷ []) false (walking_push es e ∙ still) begins)
+  where
+    and_false : (b : Bool) → (b && false) ≡ false
+    and_false true = refl
+    and_false false = refl
+
+-- an operation ends where nothing walks
+over_none : (head : Head) (es : List Event) (seat : ℕ) (answer : Answer) → Owners es → Comes head es (OpEnd seat answer) →
+    None ≡ writer_of (walking (es ++ OpEnd seat answer ∷ [])) (es ++ OpEnd seat answer ∷ [])
+over_none head es seat answer own comes =
+    let e : Event = OpEnd seat answer in
+    let still = empty_of (walking es) (over_at_rest head es seat answer own comes) in
+    sym (writer_at_rest (es ++ e ∷ []) false (walking_push es e ∙ still)
+    (no_batch (es ++ e ∷ []) (ap (held_by is_upmany) (operation_push es e))))
+
+-- a walk begins, of the operation that holds the map lock
+began : (head : Head) (es : List Event) (seat c from to : ℕ) → Owners es → Comes head es (WalkBegin seat c from to) →
     Some seat ≡ writer_of (walking (es ++ WalkBegin seat c from to ∷ [])) (es ++ WalkBegin seat c from to ∷ [])
-began es seat c from to none =
+began head es seat c from to own comes =
     let e : Event = WalkBegin seat c from to in
     let self : eqb c c ≡ true = eq-eqb c c refl in
-    let cpus : walking (es ++ e ∷ []) ≡ c ∷ [] = walking_push es e ∙ rw none refl in
     let flies : walk c (es ++ e ∷ []) ≡ Some (record { seat = seat; from = from; to = to; before = es }) =
     walk_push c es e ∙ rw self refl in
-    sym (ap (λ cs. writer_of cs (es ++ e ∷ [])) cpus ∙ ap (option_map (λ (w : Walk). w.seat)) flies)
+    let there = walking_is c (es ++ e ∷ []) ∙ ap is_some flies in
+    let held = operation_push es e ∙ comes.held in
+    ap Some (sym comes.seat_is) ∙ sym (writer_by (es ++ e ∷ []) comes.of c (owners_step head es e comes own) held there)
 
--- the one walk ends
-over : (es : List Event) (seat c : ℕ) (answer : Answer) → walking es ≡ c ∷ [] →
+-- a walk ends: of an upmany, which holds the write side to its end, or the one walk
+batch_over : (head : Head) (es : List Event) (seat c : ℕ) (answer : Answer) → Owners es → Comes head es (WalkEnd seat c answer) →
+    held_by is_upmany (operation es) ≡ true →
+    writer_of (walking es) es ≡ writer_of (walking (es ++ WalkEnd seat c answer ∷ [])) (es ++ WalkEnd seat c answer ∷ [])
+batch_over head es seat c answer own comes batch =
+    writer_by es o c own held there ∙ sym (go (walking (es ++ e ∷ [])) refl)
+  where
+    e : Event
+    e = WalkEnd seat c answer
+
+    by : (o : Operation) × (operation es ≡ Some o) × (o.seat ≡ comes.of.seat)
+    by = own.walk_op c comes.of comes.in_flight
+
+    o : Operation
+    o = by.0
+
+    held : operation es ≡ Some o
+    held = by.1
+
+    there : among c (walking es) ≡ true
+    there = walking_is c es ∙ ap is_some comes.in_flight
+
+    after : operation (es ++ e ∷ []) ≡ Some o
+    after = operation_push es e ∙ held
+
+    begins : is_batch_begun (es ++ e ∷ []) ≡ true
+    begins =
+        let was = walking_begun es o c comes.of own held (sym (ap (held_by is_upmany) held) ∙ batch) comes.in_flight in
+        rw (operation_push es e, begun_push es e) was
+
+    go : (cs : List ℕ) → walking (es ++ e ∷ []) ≡ cs → writer_of (walking (es ++ e ∷ [])) (es ++ e ∷ []) ≡ Some o.seat
+    go [] q = writer_at_rest (es ++ e ∷ []) true q begins ∙ ap (option_map (λ (x : Operation). x.seat)) after
+    go (d ∷ ds) q =
+        writer_by (es ++ e ∷ []) o d (owners_step head es e comes own) after (ap (among d) q ∙ first_among d ds)
+
+over : (head : Head) (es : List Event) (seat c : ℕ) (answer : Answer) → IsLawful head es → Comes head es (WalkEnd seat c answer) →
+    held_by is_upmany (operation es) ≡ false →
     None ≡ writer_of (walking (es ++ WalkEnd seat c answer ∷ [])) (es ++ WalkEnd seat c answer ∷ [])
-over es seat c answer one =
+over head es seat c answer lawful comes single =
     let e : Event = WalkEnd seat c answer in
     let self : eqb c c ≡ true = eq-eqb c c refl in
+    let one = alone head es c comes.of lawful single comes.in_flight in
     let cpus : walking (es ++ e ∷ []) ≡ [] = walking_push es e ∙ rw (one, self) refl in
-    sym (ap (λ cs. writer_of cs (es ++ e ∷ [])) cpus)
+    sym (writer_at_rest (es ++ e ∷ []) false cpus
+    (no_batch (es ++ e ∷ []) (ap (held_by is_upmany) (operation_push es e) ∙ single)))
+
+walk_over : (head : Head) (es : List Event) (h : Holders) (seat c : ℕ) (answer : Answer) → IsLawful head es →
+    Comes head es (WalkEnd seat c answer) → IsLocks es h → (b : Bool) → held_by is_upmany (operation es) ≡ b →
+    IsLocks (es ++ WalkEnd seat c answer ∷ []) (cond b h (with_writer None h))
+walk_over head es h seat c answer lawful comes is true batch =
+    let e : Event = WalkEnd seat c answer in
+    changed es e h h is (admits_push es e) (λ k. reading_since_push k es e) (readers_push es e) refl
+    (is.map_is ∙ ap (option_map (λ (o : Operation). o.seat)) (sym (operation_push es e)))
+    (is.writer_is ∙ batch_over head es seat c answer (owners head es lawful) comes batch)
+    (is.registrar_is ∙ ap (option_map (λ (r : Registration). r.seat)) (sym (registration_push es e)))
+walk_over head es h seat c answer lawful comes is false single =
+    let e : Event = WalkEnd seat c answer in
+    changed es e h (with_writer None h) is (admits_push es e) (λ k. reading_since_push k es e) (readers_push es e) refl
+    (is.map_is ∙ ap (option_map (λ (o : Operation). o.seat)) (sym (operation_push es e)))
+    (over head es seat c answer lawful comes single)
+    (is.registrar_is ∙ ap (option_map (λ (r : Registration). r.seat)) (sym (registration_push es e)))
 
 -- how many read once a seat does or doesn't
 counted : (xs : List Bool) (k : ℕ) (b : Bool) → k < length xs →
@@ -107,7 +233,7 @@ locks head es h seat owners comes outside is =
     let not_in : is_reading seat es ≡ false = sym (is.reads_are seat) ∙ outside in
     record {
       map_is = is.map_is ∙ ap (option_map (λ (o : Operation). o.seat)) (sym (operation_push es e));
-      writer_is = is.writer_is ∙ sym (writer_stays es e (λ c. walk_push c es e) (walking_push es e));
+      writer_is = is.writer_is ∙ sym (writer_stays es e (λ c. walk_push c es e) (walking_push es e) (operation_push es e) (begun_push es e));
       registrar_is = is.registrar_is ∙ ap (option_map (λ (r : Registration). r.seat)) (sym (registration_push es e));
       seats = length-set h.reading seat true ∙ is.seats ∙ sym (admits_push es e);
       reads_are = λ k.
@@ -132,7 +258,7 @@ unlocks head es h seat owners comes inside is =
     let in_it : is_reading seat es ≡ true = sym (is.reads_are seat) ∙ inside in
     record {
       map_is = is.map_is ∙ ap (option_map (λ (o : Operation). o.seat)) (sym (operation_push es e));
-      writer_is = is.writer_is ∙ sym (writer_stays es e (λ c. walk_push c es e) (walking_push es e));
+      writer_is = is.writer_is ∙ sym (writer_stays es e (λ c. walk_push c es e) (walking_push es e) (operation_push es e) (begun_push es e));
       registrar_is = is.registrar_is ∙ ap (option_map (λ (r : Registration). r.seat)) (sym (registration_push es e));
       seats = length-set h.reading seat false ∙ is.seats ∙ sym (admits_push es e);
       reads_are = λ k.
@@ -152,12 +278,12 @@ unlocks head es h seat owners comes inside is =
 
 -- a seat comes in, which doesn't read
 admits_one : (es : List Event) (h : Holders) (seat : ℕ) (role : Role) → IsLocks es h →
-    IsLocks (es ++ Admit seat role ∷ []) (holders_after (Admit seat role) h)
+    IsLocks (es ++ Admit seat role ∷ []) (holders_after false (Admit seat role) h)
 admits_one es h seat role is =
     let e : Event = Admit seat role in
     record {
       map_is = is.map_is ∙ ap (option_map (λ (o : Operation). o.seat)) (sym (operation_push es e));
-      writer_is = is.writer_is ∙ sym (writer_stays es e (λ c. walk_push c es e) (walking_push es e));
+      writer_is = is.writer_is ∙ sym (writer_stays es e (λ c. walk_push c es e) (walking_push es e) (operation_push es e) (begun_push es e));
       registrar_is = is.registrar_is ∙ ap (option_map (λ (r : Registration). r.seat)) (sym (registration_push es e));
       seats = length-append h.reading (false ∷ []) ∙ ap (λ n. n + 1) is.seats ∙ sym (admits_push es e);
       reads_are = λ k. none_there h.reading k ∙ is.reads_are k ∙ sym (ap is_some (reading_since_push k es e));
@@ -186,72 +312,66 @@ reads_now head es seat comes =
     let p = passed head es seat Unlock comes.free.idle comes.passes.not_waiting comes.passes.not_refused in
     there (is_reading seat es) (none_holds (refusals_at_once head es seat Unlock) p.0).0
 
--- the processors that walk, at most one: none where a walk begins, and the one whose walk ends
-pub record WalksAlone (es : List Event) (walker : Option ℕ) : Type 0 where
-  pub walking_is : option_to_list walker ≡ walking es
-
-pub ends_alone : (es : List Event) (walker : Option ℕ) (c : ℕ) (w : Walk) → WalksAlone es walker → walk c es ≡ Some w → walking es ≡ c ∷ []
-ends_alone es walker c w one flies = go walker one.walking_is
-  where
-    there : among c (walking es) ≡ true
-    there = walking_is c es ∙ ap is_some flies
-
-    only : (n : ℕ) → among c (n ∷ []) ≡ true → n ≡ c
-    only n h = cases (eqb n c) refl h
-      where
-        cases : (b : Bool) → eqb n c ≡ b → ltb 0 (cond b 1 0 + 0) ≡ true → n ≡ c
-        cases true e h = eqb-true n c e
-        cases false e h = absurd (false≢true h)
-
-    go : (o : Option ℕ) → option_to_list o ≡ walking es → walking es ≡ c ∷ []
-    go None e = absurd (false≢true (ap (among c) e ∙ there))
-    go (Some n) e = let same = only n (ap (among c) e ∙ there) in sym e ∙ ap (λ z. z ∷ []) same
-
-pub locks_more : (head : Head) (es : List Event) (h : Holders) (walker : Option ℕ) (e : Event) → Owners es → Comes head es e →
-    WalksAlone es walker → IsLocks es h → IsLocks (es ++ e ∷ []) (holders_after e h)
-locks_more head es h walker (Admit seat role) owners comes one is = admits_one es h seat role is
-locks_more head es h walker (Enter seat op) owners comes one is =
+pub locks_more : (head : Head) (es : List Event) (h : Holders) (e : Event) → IsLawful head es → Comes head es e → IsLocks es h →
+    IsLocks (es ++ e ∷ []) (holders_after (held_by is_upmany (operation es)) e h)
+locks_more head es h (Admit seat role) lawful comes is = admits_one es h seat role is
+locks_more head es h (Enter seat op) lawful comes is =
     let e : Event = Enter seat op in
     changed es e h (with_map (Some seat) h) is (admits_push es e) (λ k. reading_since_push k es e) (readers_push es e) refl
     (ap (option_map (λ (o : Operation). o.seat)) (sym (operation_push es e)))
-    (is.writer_is ∙ sym (writer_stays es e (λ c. walk_push c es e) (walking_push es e)))
+    (is.writer_is ∙ enters head es seat op (owners head es lawful) comes)
     (is.registrar_is ∙ ap (option_map (λ (r : Registration). r.seat)) (sym (registration_push es e)))
-locks_more head es h walker (OpEnd seat answer) owners comes one is =
+locks_more head es h (OpEnd seat answer) lawful comes is =
     let e : Event = OpEnd seat answer in
-    changed es e h (with_map None h) is (admits_push es e) (λ k. reading_since_push k es e) (readers_push es e) refl
+    changed es e h (with_map None (with_writer None h)) is (admits_push es e) (λ k. reading_since_push k es e) (readers_push es e) refl
     (ap (option_map (λ (o : Operation). o.seat)) (sym (operation_push es e)))
-    (is.writer_is ∙ sym (writer_stays es e (λ c. walk_push c es e) (walking_push es e)))
+    (over_none head es seat answer (owners head es lawful) comes)
     (is.registrar_is ∙ ap (option_map (λ (r : Registration). r.seat)) (sym (registration_push es e)))
-locks_more head es h walker (WalkBegin seat c from to) owners comes one is =
+locks_more head es h (WalkBegin seat c from to) lawful comes is =
     let e : Event = WalkBegin seat c from to in
     changed es e h (with_writer (Some seat) h) is (admits_push es e) (λ k. reading_since_push k es e) (readers_push es e) refl
     (is.map_is ∙ ap (option_map (λ (o : Operation). o.seat)) (sym (operation_push es e)))
-    (began es seat c from to (empty_of (walking es) comes.no_walk))
+    (began head es seat c from to (owners head es lawful) comes)
     (is.registrar_is ∙ ap (option_map (λ (r : Registration). r.seat)) (sym (registration_push es e)))
-locks_more head es h walker (WalkEnd seat c answer) owners comes one is =
-    let e : Event = WalkEnd seat c answer in
-    changed es e h (with_writer None h) is (admits_push es e) (λ k. reading_since_push k es e) (readers_push es e) refl
-    (is.map_is ∙ ap (option_map (λ (o : Operation). o.seat)) (sym (operation_push es e)))
-    (over es seat c answer (ends_alone es walker c comes.of one comes.in_flight))
-    (is.registrar_is ∙ ap (option_map (λ (r : Registration). r.seat)) (sym (registration_push es e)))
-locks_more head es h walker (RegBegin seat state op) owners comes one is =
+locks_more head es h (WalkEnd seat c answer) lawful comes is =
+    walk_over head es h seat c answer lawful comes is (held_by is_upmany (operation es)) refl
+locks_more head es h (RegBegin seat state op) lawful comes is =
     let e : Event = RegBegin seat state op in
     changed es e h (with_registrar (Some seat) h) is (admits_push es e) (λ k. reading_since_push k es e) (readers_push es e) refl
     (is.map_is ∙ ap (option_map (λ (o : Operation). o.seat)) (sym (operation_push es e)))
-    (is.writer_is ∙ sym (writer_stays es e (λ c. walk_push c es e) (walking_push es e)))
+    (is.writer_is ∙ sym (writer_stays es e (λ c. walk_push c es e) (walking_push es e) (operation_push es e) (begun_push es e)))
     (ap (option_map (λ (r : Registration). r.seat)) (sym (registration_push es e)))
-locks_more head es h walker (RegEnd seat answer) owners comes one is =
+locks_more head es h (RegEnd seat answer) lawful comes is =
     let e : Event = RegEnd seat answer in
     changed es e h (with_registrar None h) is (admits_push es e) (λ k. reading_since_push k es e) (readers_push es e) refl
     (is.map_is ∙ ap (option_map (λ (o : Operation). o.seat)) (sym (operation_push es e)))
-    (is.writer_is ∙ sym (writer_stays es e (λ c. walk_push c es e) (walking_push es e)))
+    (is.writer_is ∙ sym (writer_stays es e (λ c. walk_push c es e) (walking_push es e) (operation_push es e) (begun_push es e)))
     (ap (option_map (λ (r : Registration). r.seat)) (sym (registration_push es e)))
-locks_more head es h walker (ReadLock seat) owners comes one is =
-    locks head es h seat owners comes (is.reads_are seat ∙ reads_not head es seat comes) is
-locks_more head es h walker (ReadUnlock seat) owners comes one is =
-    unlocks head es h seat owners comes (is.reads_are seat ∙ reads_now head es seat comes) is
-locks_more head es h walker e owners comes one is =
+locks_more head es h (ReadLock seat) lawful comes is =
+    locks head es h seat (owners head es lawful) comes (is.reads_are seat ∙ reads_not head es seat comes) is
+locks_more head es h (ReadUnlock seat) lawful comes is =
+    unlocks head es h seat (owners head es lawful) comes (is.reads_are seat ∙ reads_now head es seat comes) is
+locks_more head es h e lawful comes is =
     changed es e h h is (admits_push es e) (λ k. reading_since_push k es e) (readers_push es e) refl
     (is.map_is ∙ ap (option_map (λ (o : Operation). o.seat)) (sym (operation_push es e)))
-    (is.writer_is ∙ sym (writer_stays es e (λ c. walk_push c es e) (walking_push es e)))
+    (is.writer_is ∙ sym (writer_stays es e (λ c. walk_push c es e) (walking_push es e) (operation_push es e) (begun_push es e)))
     (is.registrar_is ∙ ap (option_map (λ (r : Registration). r.seat)) (sym (registration_push es e)))
+
+-- where nobody holds the write side, nothing walks
+pub unwritten_still : (es : List Event) (h : Holders) → IsLocks es h → h.writer ≡ None → walking es ≡ []
+unwritten_still es h is free = go (walking es) refl
+  where
+    some : (c : ℕ) (w : Option Walk) → walk c es ≡ w → is_some w ≡ true → option_map (λ (w : Walk). w.seat) w ≡ None → ⊥
+    some c None at there none = true≢false (sym there)
+    some c (Some w) at there none = cc none
+
+    go : (cs : List ℕ) → walking es ≡ cs → walking es ≡ []
+    go [] e = e
+    go (c ∷ cs) e =
+        let there : is_some (walk c es) ≡ true = sym (walking_is c es) ∙ (ap (among c) e ∙ first_among c cs) in
+        let none : option_map (λ (w : Walk). w.seat) (walk c es) ≡ None = sym (ap (λ ds. writer_of ds es) e) ∙ (sym is.writer_is ∙ free) in
+        absurd (some c (walk c es) refl there none)
+
+pub none_held : (o : Option ℕ) → is_some o ≡ false → o ≡ None
+none_held None h = refl
+none_held (Some k) h = absurd (true≢false h)

@@ -1,6 +1,7 @@
 -- What the parts of the account say of refusals is what the journal says.
 use Rattle.std.proofs.Common.{◌≡◌, ℕ, ◌+◌, ◌<◌, ◌≤◌, Bool, true, false, not, ◌||◌, cond, ltb, is_some, Option, Some, None, List, [], ◌∷◌, ◌++◌, length, map, get_or, refl, sym, ap, ◌∙◌, arith}
-use Rattle.std.specs.Prelude.{ℤ, option_map}
+use Rattle.std.specs.Prelude.{ℤ, option_map, Result, Ok, Err, IfSome}
+use Rattle.std.specs.Result.{result_err}
 use Rattle.std.specs.List.{count_by}
 use Rattle.std.proofs.lemmas.Bool.{or_parts, true≢false}
 use Rattle.std.proofs.lemmas.Bool.Decides.{nat_tests}
@@ -8,7 +9,8 @@ use Rattle.std.proofs.lemmas.List.{get_or-map, length-map}
 use Rattle.std.proofs.lemmas.List.Sums.{length-filter, sum_by-cons}
 use Rattle.hp_states.specs.declared.limits.TheConstants.{ONLINE, EBUSY, EINVAL, ENOSPC}
 use Rattle.hp_states.specs.declared.section.Range.{Range}
-use Rattle.hp_states.specs.Sections.{is_online_state, range_asked_by}
+use Rattle.hp_states.specs.declared.dir.Dir.TheVariants.{Up, Down}
+use Rattle.hp_states.specs.Sections.{is_online_state, is_stop, range_asked_by}
 use Rattle.hp_event.specs.declared.head.Head.{Head}
 use Rattle.hp_event.specs.declared.op.Form.{Form}
 use Rattle.hp_event.specs.declared.op.Op.{Op}
@@ -16,27 +18,31 @@ use Rattle.hp_event.specs.declared.op.Op.TheVariants.{Target, Arm, Setup, Add, D
 use Rattle.hp_event.specs.declared.event.Event.{Event}
 use Rattle.hp_model.specs.Processors.{is_present, online}
 use Rattle.hp_model.specs.Settled.{is_online}
-use Rattle.hp_model.specs.Walks.{is_walking}
 use Rattle.hp_model.specs.Registrations.{registration, is_registering}
 use Rattle.hp_model.specs.MapLock.{operation}
 use Rattle.hp_model.specs.Seats.{is_busy}
 use Rattle.hp_model.specs.Waits.{Wait, is_disarming, is_waiting, wait_for_map, wait_for_registration, wait_to_begin, wait_to_register}
 use Rattle.hp_model.specs.RefusalsAtOnce.{Check, if_so, first_that_holds, is_state, refusals_at_once}
-use Rattle.hp_model.specs.Refusals.{one_online, refusals_after_waits, refusal}
+use Rattle.hp_files.specs.Writes.{unless_refused, refusals_of_target_value, has_callback_of, HasCallbacksOf}
+use Rattle.hp_model.specs.Calls.{number_found}
+use Rattle.hp_model.specs.Sequence.{target_of}
+use Rattle.hp_model.specs.Subsystems.{sub_numbered, has_callback}
+use Rattle.hp_model.specs.Refusals.{one_online, refusals_of_target, refusals_after_waits, refusal}
 use Rattle.hp_model.specs.Suspend.{disabled}
 use Rattle.hp_model.proofs.InFlight.{none_of}
 use Rattle.hp_model.proofs.Passing.{none_holds}
-use Rattle.hp_model.proofs.WaitLemmas.{first_waits, registration_waits, register_waits}
+use Rattle.hp_model.proofs.WaitLemmas.{is_writing, first_waits, registration_waits, register_waits}
 use Rattle.hp_locks.specs.declared.why.Why.{Why}
 use Rattle.hp_table.specs.Instances.{has_no_room, is_multi_at, has_instance}
+use Rattle.hp_table.specs.Named.{is_named as is_named_in}
 use Rattle.hp_table.specs.Slots.{IsLowestFree, IsFull}
 use Rattle.hp_table.specs.Step.{Step, step_at}
 use Rattle.hp_suspend.proofs.Places.{count_places, agree_below, passing}
 use Rattle.hp_ledger.specs.Locks.{why_of}
 use Rattle.hp_ledger.specs.Processors.{Standing, IsStanding, online_count}
-use Rattle.hp_ledger.specs.Table.{IsTableOf}
+use Rattle.hp_ledger.specs.Table.{IsTableOf, IsStepOf, registered_by}
 use Rattle.hp_model.specs.Refusals.{refusals_of_way}
-use Rattle.hp_ledger.proofs.TableSays.{says, count_alike, multi_alike, among_alike, insts_alike, asks_first, lowest_alike, full_alike}
+use Rattle.hp_ledger.proofs.TableSays.{says, named_alike, count_alike, multi_alike, among_alike, insts_alike, asks_first, lowest_alike, full_alike}
 
 -- how many pass a test, by what it says of each
 flags : (test : ℕ → Bool) (xs : List ℕ) → count_by test xs ≡ count_by (λ b. b) (map test xs)
@@ -88,7 +94,7 @@ way_down head es c to now d alone under dis one =
 -- a registration that waits for nothing finds no other
 pub none_registers : (es : List Event) → is_some (wait_to_register es) ≡ false → registration es ≡ None
 none_registers es h =
-    none_of (registration es) (or_parts (is_walking es) (is_registering es) (sym (register_waits es) ∙ h)).1
+    none_of (registration es) (or_parts (is_writing es) (is_registering es) (sym (register_waits es) ∙ h)).1
 
 -- a processor that isn't refused is one of the possible ones
 possible : (head : Head) (c : ℕ) → not (ltb c head.possible) ≡ false → c < head.possible
@@ -220,3 +226,44 @@ ready_said es op h = go (wait_to_begin es op) h
     go : (w : Option Wait) → None ≡ option_map why_of w → is_some w ≡ false
     go None h = refl
     go (Some w) h = absurd (cc)
+
+-- a target that its value doesn't refuse is refused as its way is
+pub target_said : (head : Head) (es : List Event) (places : List (Option Step)) (c now state : ℕ) (v : ℤ) → registration es ≡ None →
+    IsTableOf head es places → is_state v ≡ true →
+    Ok state ≡ unless_refused (first_that_holds (refusals_of_target_value places v)) (target_of v) →
+    first_that_holds (refusals_of_way head es c state now) ≡ first_that_holds (refusals_of_target head es c (target_of v) now)
+target_said head es places c now state v idle t is h =
+    let h1 : Ok state ≡ unless_refused (cond (not (is_named_in places (target_of v))) (Some EINVAL)
+    (cond (not (is_stop (target_of v))) (Some EINVAL) None)) (target_of v) = rw is at h in
+    rw (named_alike head es places (target_of v) idle t) (go (is_named_in places (target_of v)) (is_stop (target_of v)) h1)
+  where
+    same : (n : ℕ) → ◌≡◌ {A = Result ℕ ℕ} (Ok state) (Ok n) → state ≡ n
+    same n e = cc
+
+    other : (n : ℕ) → ◌≡◌ {A = Result ℕ ℕ} (Ok state) (Err n) → ⊥
+    other n e = cc
+
+    go : (named stop : Bool) →
+        Ok state ≡ unless_refused (cond (not named) (Some EINVAL) (cond (not stop) (Some EINVAL) None)) (target_of v) →
+        first_that_holds (refusals_of_way head es c state now)
+        ≡ cond (not named) (Some EINVAL) (cond (not stop) (Some EINVAL) (first_that_holds (refusals_of_way head es c (target_of v) now)))
+    go true true h = ap (λ s. first_that_holds (refusals_of_way head es c s now)) (same (target_of v) h)
+    go true false h = absurd (other EINVAL h)
+    go false stop h = absurd (other EINVAL h)
+
+-- the states with callbacks are those of the table
+pub callbacks_alike : (head : Head) (es : List Event) (places : List (Option Step)) → registration es ≡ None → IsTableOf head es places →
+    HasCallbacksOf head es places
+callbacks_alike head es places idle t s = rw (says head es places s idle t) (go (step_at places s) (t.steps s))
+  where
+    go : (place : Option Step) → IfSome place (IsStepOf head es s) →
+        (has_callback (sub_numbered head (number_found (registered_by place))) Up
+        || has_callback (sub_numbered head (number_found (registered_by place))) Down)
+        ≡ has_callback_of place
+    go None is = refl
+    go (Some step) is = let k = is.sub_is in let u = is.up_is in let d = is.down_is in rw (k, u, d) refl
+
+-- the number by which an arming is refused
+pub arm_said : (found : Option ℕ) (v : ℤ) (r : Result ℤ ℕ) → r ≡ unless_refused found v → result_err r ≡ found
+arm_said None v r h = rw h refl
+arm_said (Some n) v r h = rw h refl

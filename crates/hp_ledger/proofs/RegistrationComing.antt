@@ -1,6 +1,7 @@
 -- What a registration in flight asks for is what is under way.
-use Rattle.std.proofs.Common.{◌≡◌, ℕ, zero, suc, Bool, true, false, not, ◌&&◌, cond, Option, Some, None, IfSome, List, [], ◌∷◌, refl, sym, ap, ◌∙◌, subst, inl, inr}
+use Rattle.std.proofs.Common.{◌≡◌, ℕ, zero, suc, Bool, true, false, not, ◌&&◌, cond, eqb, Option, Some, None, IfSome, List, [], ◌∷◌, refl, sym, ap, ◌∙◌, subst, inl, inr}
 use Rattle.std.specs.Prelude.{option_map, option_to_list}
+use Rattle.std.proofs.lemmas.Bool.{eqb-true}
 use Rattle.hp_states.specs.declared.dir.Dir.{Dir}
 use Rattle.hp_states.specs.declared.dir.Dir.TheVariants.{Up, Down}
 use Rattle.hp_states.specs.declared.place.Place.{Place}
@@ -13,6 +14,10 @@ use Rattle.hp_event.specs.declared.answer.Answer.{Answer}
 use Rattle.hp_event.specs.declared.head.Head.{Head}
 use Rattle.hp_event.specs.declared.event.Event.{Event}
 use Rattle.hp_event.specs.declared.event.Event.TheVariants as event
+use Rattle.hp_model.specs.Batch.{is_upmany}
+use Rattle.hp_model.specs.BatchTurn.{brings_up}
+use Rattle.hp_model.specs.Lawful.{IsLawful}
+use Rattle.hp_model.specs.MapLock.{Operation, operation}
 use Rattle.hp_model.specs.Registrations.{Registration, registration}
 use Rattle.hp_model.specs.Registered.{registered}
 use Rattle.hp_model.specs.RegistrationShape.{key_of}
@@ -24,6 +29,8 @@ use Rattle.hp_model.specs.How.{how_answered, answer_at, is_nocalls, how_in_regis
 use Rattle.hp_model.specs.Caller.{caller, is_presumed}
 use Rattle.hp_model.specs.ApTurn.{IsApTurn}
 use Rattle.hp_model.specs.UnderWay.{under_way, next_of_registration}
+use Rattle.hp_model.proofs.OneNext.{owners}
+use Rattle.hp_model.proofs.TurnLemmas.{single_held_up}
 use Rattle.hp_table.specs.Step.{Step, step_at}
 use Rattle.hp_reg.specs.Asked.{asked}
 use Rattle.hp_reg.specs.Concerned.{key_at, cpus_at, key_in, concerned}
@@ -34,6 +41,7 @@ use Rattle.hp_ledger.specs.declared.entry.Entry.{Entry}
 use Rattle.hp_ledger.specs.declared.entry.Means.{Means}
 use Rattle.hp_ledger.specs.declared.entry.Means.TheVariants as means
 use Rattle.hp_ledger.specs.declared.coming.Coming.TheVariants as coming
+use Rattle.hp_ledger.specs.declared.coming.Ending.TheVariants as ending
 use Rattle.hp_ledger.specs.Entries.{entry_event, how_of_means}
 use Rattle.hp_ledger.specs.Coming.{IsComing, IsInFlightOf, has_callback_by}
 use Rattle.hp_ledger.specs.Registering.{IsRegistering}
@@ -83,7 +91,7 @@ in_flight head es g r = inr (r.of, r.in_flight, sym r.seat_is, r.no_walk)
 pub comes_to_end : (head : Head) (es : List Event) (places : List (Option Step)) (p : Standing) (g : Registering) →
     IsRegistering head es g → IsTableOf head es places → IsStanding head es p → (answer : Answer) →
     regstep.Ended answer ≡ asked (key_at places g.reg) (cpus_at p.settled head.absent g.reg) g.reg →
-    IsComing head es (coming.End (event.RegEnd g.seat answer))
+    IsComing head es (coming.End (ending.Registration g.seat answer))
 comes_to_end head es places p g r t standing answer asks =
     let next = end_next head es g r answer (sym (asks ∙ asked_alike head es places p g r t standing)) in
     record {
@@ -133,9 +141,10 @@ caller_is : (head : Head) (es : List Event) (op : Op) (c s i client : ℕ) (d : 
 caller_is head es op c s i client d place thread is = rw (presumed_is head es op c s i d place, is) refl
 
 -- by whom it is made, where that isn't the client
-thread_turn : (head : Head) (es : List Event) (r : Registration) (c : ℕ) (key : Key) (d : Dir) (place : Place) →
-    EntryNext head es r c key d place → is_ap_state key.state && not (is_nocalls r.op) ≡ true → IsApTurn head es r.seat c
-thread_turn head es r c key d place n by =
+thread_turn : (head : Head) (es : List Event) (r : Registration) (c : ℕ) (key : Key) (d : Dir) (place : Place) → IsLawful head es →
+    registration es ≡ Some r → EntryNext head es r c key d place → is_ap_state key.state && not (is_nocalls r.op) ≡ true →
+    IsApTurn head es r.seat c
+thread_turn head es r c key d place lawful there n by =
     record {
       state = key.state;
       inst = key.inst;
@@ -143,29 +152,34 @@ thread_turn head es r c key d place n by =
       how = how_in_registration head es r.op c key.state key.inst d place;
       entry = inr (n.entry, n.seat_is);
       by_thread = rw (presumed_is head es r.op c key.state key.inst d place) by;
+      held_up = single_held_up head es r.seat c (no_batch (operation es) refl);
     }
+  where
+    -- the seat that registers has no upmany in flight
+    no_batch : (o : Option Operation) → operation es ≡ o → brings_up r.seat o ≡ false
+    no_batch None at = refl
+    no_batch (Some o) at = go (eqb o.seat r.seat) refl
+      where
+        go : (b : Bool) → eqb o.seat r.seat ≡ b → (b && is_upmany o.op) ≡ false
+        go true same = absurd ((owners head es lawful).apart o r at there (eqb-true o.seat r.seat same))
+        go false other = refl
 
 -- the entry that it asks for, by who makes it
 abbrev pub entry_by : (cpu : ℕ) → Key → Dir → Place → Means → Option ℕ → Option Entry
 entry_by c key d place by seat =
     option_map (λ k. record { seat = k; cpu = c; key = key; dir = d; place = place; means = by }) seat
 
-pub comes_by_entry : (head : Head) (es : List Event) (places : List (Option Step)) (p : Standing) (roll : Roll) (g : Registering) →
-    IsRegistering head es g → IsTableOf head es places → IsStanding head es p → IsRoll head es roll →
-    (c : ℕ) (key : Key) (d : Dir) (place : Place) (by : Means) → key.state ≡ g.reg.state →
-    regstep.Call c key d place ≡ asked (key_at places g.reg) (cpus_at p.settled head.absent g.reg) g.reg →
+-- how the entry is made that it asks for, by what makes it
+pub registration_means : (head : Head) (es : List Event) (places : List (Option Step)) (g : Registering) (r : IsRegistering head es g) →
+    IsTableOf head es places → (c : ℕ) (key : Key) (d : Dir) (place : Place) (by : Means) → key.state ≡ g.reg.state →
     IfSome (step_at places key.state) (λ step. by ≡ means_of (is_nocalls g.reg.op) step.kept d) →
-    IsComing head es
-    (coming.Entry g.seat c (entry_by c key d place by (seat_by (is_nocalls g.reg.op) key.state (at_place roll.threads c) g.seat)))
-comes_by_entry head es places p roll g r t standing seated c key d place by at asks means_are =
-    go (is_ap_state key.state && not (is_nocalls g.reg.op)) refl
+    how_of_means by (how_answered (can_fail d key.state place) (answer_at head es c key.state key.inst d))
+    ≡ how_in_registration head es r.of.op c key.state key.inst d place
+registration_means head es places g r t c key d place by at means_are =
+    ap (λ m. how_of_means m (how_answered (can_fail d key.state place) (answer_at head es c key.state key.inst d)))
+    (by_is ∙ ap (λ o. means_of (is_nocalls o) h.step.kept d) r.op_is)
+    ∙ made_so head es r.of.op c key.state key.inst d place h.step kept sub
   where
-    n : EntryNext head es r.of c key d place
-    n = entry_next head es g r c key d place (sym (asks ∙ asked_alike head es places p g r t standing))
-
-    made : How
-    made = how_in_registration head es r.of.op c key.state key.inst d place
-
     h : HasRegistration head es places r.of
     h = in_flight_of head es places r.of r.in_flight t
 
@@ -178,12 +192,27 @@ comes_by_entry head es places p roll g r t standing seated c key d place by at a
     sub : sub_at head key.state es ≡ Some kept.sub
     sub = ap (λ s. sub_at head s es) (at ∙ r.state_is) ∙ h.sub_is ∙ kept.sub_is
 
+    by_is : by ≡ means_of (is_nocalls g.reg.op) h.step.kept d
+    by_is = rw there at means_are
+
+pub comes_by_entry : (head : Head) (es : List Event) (places : List (Option Step)) (p : Standing) (roll : Roll) (g : Registering) →
+    IsLawful head es → IsRegistering head es g → IsTableOf head es places → IsStanding head es p → IsRoll head es roll →
+    (c : ℕ) (key : Key) (d : Dir) (place : Place) (by : Means) → key.state ≡ g.reg.state →
+    regstep.Call c key d place ≡ asked (key_at places g.reg) (cpus_at p.settled head.absent g.reg) g.reg →
+    IfSome (step_at places key.state) (λ step. by ≡ means_of (is_nocalls g.reg.op) step.kept d) →
+    IsComing head es
+    (coming.Entry g.seat c (entry_by c key d place by (seat_by (is_nocalls g.reg.op) key.state (at_place roll.threads c) g.seat)))
+comes_by_entry head es places p roll g lawful r t standing seated c key d place by at asks means_are =
+    go (is_ap_state key.state && not (is_nocalls g.reg.op)) refl
+  where
+    n : EntryNext head es r.of c key d place
+    n = entry_next head es g r c key d place (sym (asks ∙ asked_alike head es places p g r t standing))
+
+    made : How
+    made = how_in_registration head es r.of.op c key.state key.inst d place
+
     how_is : how_of_means by (how_answered (can_fail d key.state place) (answer_at head es c key.state key.inst d)) ≡ made
-    how_is =
-        let by_is : by ≡ means_of (is_nocalls g.reg.op) h.step.kept d = rw there at means_are in
-        ap (λ m. how_of_means m (how_answered (can_fail d key.state place) (answer_at head es c key.state key.inst d)))
-        (by_is ∙ ap (λ o. means_of (is_nocalls o) h.step.kept d) r.op_is)
-        ∙ made_so head es r.of.op c key.state key.inst d place h.step kept sub
+    how_is = registration_means head es places g r t c key d place by at means_are
 
     event_of : (k : ℕ) → Event
     event_of k = event.Call k c key.state key.inst d made
@@ -210,7 +239,7 @@ comes_by_entry head es places p roll g r t standing seated c key d place by at a
     turn : is_ap_state key.state && not (is_nocalls g.reg.op) ≡ true → IsApTurn head es g.seat c
     turn b =
         subst (λ k. IsApTurn head es k c) (sym r.seat_is)
-        (thread_turn head es r.of c key d place n (ap (λ o. is_ap_state key.state && not (is_nocalls o)) (sym r.op_is) ∙ b))
+        (thread_turn head es r.of c key d place lawful r.in_flight n (ap (λ o. is_ap_state key.state && not (is_nocalls o)) (sym r.op_is) ∙ b))
 
     by_thread : (thread : Option ℕ) → at_place roll.threads c ≡ thread →
         next_of_registration head es (registration es) ≡ option_map event_of thread →

@@ -30,6 +30,7 @@ use Rattle.hp_model.specs.StandsRegistrations.{RegBegins}
 use Rattle.hp_model.specs.Lawful.{Comes}
 use Rattle.hp_model.proofs.Laws.{registration_push, registration_entries_push, settled_push, walking_push}
 use Rattle.hp_model.proofs.InFlight.{walk_none, empty_of}
+use Rattle.hp_model.proofs.Owners.{Owners}
 use Rattle.hp_model.proofs.Passing.{begins_alone}
 use Rattle.hp_model.proofs.WaitLemmas.{walks_alone}
 use Rattle.hp_model.proofs.HowLemmas.{registration_fails}
@@ -197,12 +198,12 @@ beside_entries es (Call seat c s i d how) h = elim h [ ]
 beside_entries es e h = registration_entries_push es e
 
 -- no walk begins or ends meanwhile
-beside_walking : (head : Head) (es : List Event) (g : Registering) (e : Event) → IsRegistering head es g → Comes head es e →
+beside_walking : (head : Head) (es : List Event) (g : Registering) (e : Event) → Owners es → IsRegistering head es g → Comes head es e →
     walking (es ++ e ∷ []) ≡ []
-beside_walking head es g (WalkBegin seat c from to) r comes =
-    absurd (true≢false (sym (rw r.in_flight refl) ∙ (walks_alone es comes.no_wait).1))
-beside_walking head es g (WalkEnd seat c answer) r comes = walking_push es (WalkEnd seat c answer) ∙ rw r.no_walk refl
-beside_walking head es g e r comes = walking_push es e ∙ r.no_walk
+beside_walking head es g (WalkBegin seat c from to) own r comes =
+    absurd (true≢false (sym (rw r.in_flight refl) ∙ (walks_alone es comes.no_wait own.batch_alone).1))
+beside_walking head es g (WalkEnd seat c answer) own r comes = walking_push es (WalkEnd seat c answer) ∙ rw r.no_walk refl
+beside_walking head es g e own r comes = walking_push es e ∙ r.no_walk
 
 beside_settled : (head : Head) (es : List Event) (g : Registering) (e : Event) → IsRegistering head es g → Comes head es e →
     (c : ℕ) → settled c (es ++ e ∷ []) ≡ settled c es
@@ -211,10 +212,10 @@ beside_settled head es g (WalkEnd seat c answer) r comes d =
 beside_settled head es g e r comes d = settled_push d es e
 
 -- it stays as it is
-pub registration_stays : (head : Head) (es : List Event) (flight : Option Registering) (e : Event) → Comes head es e →
+pub registration_stays : (head : Head) (es : List Event) (flight : Option Registering) (e : Event) → Owners es → Comes head es e →
     IsBesideRegistration e → IsRegisteringOf head es flight → IsRegisteringOf head (es ++ e ∷ []) flight
-registration_stays head es None e comes beside r = beside_flight es e beside ∙ r
-registration_stays head es (Some g) e comes beside r =
+registration_stays head es None e own comes beside r = beside_flight es e beside ∙ r
+registration_stays head es (Some g) e own comes beside r =
     record {
       of = r.of;
       in_flight = beside_flight es e beside ∙ r.in_flight;
@@ -223,7 +224,7 @@ registration_stays head es (Some g) e comes beside r =
       state_is = r.state_is;
       registers = r.registers;
       still = λ c. r.still c ∙ sym (beside_settled head es g e r comes c);
-      no_walk = beside_walking head es g e r comes;
+      no_walk = beside_walking head es g e own r comes;
       after = rw (beside_entries es e beside) r.after;
       left_is = rw (beside_entries es e beside) r.left_is;
     }

@@ -14,6 +14,7 @@ use Rattle.hp_model.specs.RegistrationShape.{key_of, is_adding}
 use Rattle.hp_model.specs.Processors.{processors}
 use Rattle.hp_model.specs.How.{how_in_registration}
 use Rattle.hp_model.specs.Caller.{caller}
+use Rattle.hp_model.specs.StandsRegistrations.{RegEnds}
 use Rattle.hp_model.specs.StandsCalls.{RegistrationEntry}
 use Rattle.hp_model.specs.Trees.{Tree, step, registration_tree}
 use Rattle.hp_model.specs.Runs.{Runs}
@@ -99,12 +100,15 @@ entry_next head es g r cpu key d place asks = go (key_of head r.of) refl asks
     go None is h = absurd (cc)
     go (Some i) is h = left i (cpus_left g.reg.phase cpus) is refl h
 
--- the end stands, and is what comes next
+-- the end stands
+pub end_stands : (head : Head) (es : List Event) (g : Registering) (r : IsRegistering head es g) (answer : Answer) →
+    asked (key_in_flight head r.of) (cpus_in_flight head r.of) g.reg ≡ Ended answer → RegEnds head es g.seat answer
+end_stands head es g r answer asks =
+    reg_ends head es r.of g.reg g.seat answer r.in_flight (sym r.seat_is) r.op_is r.state_is
+    (goes_on_by (key_of head r.of) (processors head r.of.state r.of.before) (registration_entries es) g.reg (Ended answer) (sym asks) r.after)
+
+-- and is what comes next
 pub end_next : (head : Head) (es : List Event) (g : Registering) (r : IsRegistering head es g) (answer : Answer) →
     asked (key_in_flight head r.of) (cpus_in_flight head r.of) g.reg ≡ Ended answer →
     next_of_registration head es (registration es) ≡ Some (event.RegEnd g.seat answer)
-end_next head es g r answer asks =
-    gives_end head es g.seat answer
-    (reg_ends head es r.of g.reg g.seat answer r.in_flight (sym r.seat_is) r.op_is r.state_is
-    (goes_on_by (key_of head r.of) (processors head r.of.state r.of.before) (registration_entries es) g.reg (Ended answer) (sym asks)
-    r.after))
+end_next head es g r answer asks = gives_end head es g.seat answer (end_stands head es g r answer asks)

@@ -11,7 +11,7 @@ use Rattle.hp_event.specs.declared.how.How.TheVariants as how
 use Rattle.hp_event.specs.declared.key.Key.{Key}
 use Rattle.hp_event.specs.declared.head.Head.{Head}
 use Rattle.hp_event.specs.declared.event.Event.{Event}
-use Rattle.hp_event.specs.declared.event.Event.TheVariants.{Call}
+use Rattle.hp_event.specs.declared.event.Event.TheVariants.{Call, WalkEnd}
 use Rattle.hp_model.specs.Armed.{armed}
 use Rattle.hp_model.specs.Caller.{is_presumed, is_made_by_ap, caller}
 use Rattle.hp_model.specs.Calls.{sub_at}
@@ -22,14 +22,15 @@ use Rattle.hp_model.specs.Plan.{direction, plan}
 use Rattle.hp_model.specs.Registered.{registered, keys}
 use Rattle.hp_model.specs.Registrations.{registration}
 use Rattle.hp_model.specs.StandsCalls.{IsNextInWalk, WalkEntry}
-use Rattle.hp_model.specs.StandsOperations.{WalkEnds}
 use Rattle.hp_model.specs.Subsystems.{has_callback}
 use Rattle.hp_model.specs.Trees as tree
 use Rattle.hp_model.specs.Trees.{walk_tree}
 use Rattle.hp_model.specs.UnderWay.{entry, walk_left, event_of_walk, next_of_walk}
 use Rattle.hp_model.specs.Walks.{Walk, walk, walk_entries}
+use Rattle.hp_model.specs.WalkShape.{IsWholeWalk}
 use Rattle.hp_model.proofs.HowLemmas.{walk_fails}
 use Rattle.hp_model.proofs.NextSlot.{shape_follows}
+use Rattle.hp_model.proofs.WalkGives.{gives_whole}
 use Rattle.hp_model.proofs.Remains.{remains}
 use Rattle.hp_model.proofs.Remains.{step_at as step_of}
 use Rattle.hp_table.specs.Step.{Step}
@@ -97,19 +98,24 @@ entry_asked head events c f key d place first b asks_for =
       sym b.seat_is,
     )
 
--- where it asks for no entry it ends, with that answer
+-- where it asks for no entry the walk is whole, with that answer
 pub end_asked : (head : Head) (events : List Event) (c : ℕ) (f : Flight) (answer : Answer) (b : IsFlight head events c f) →
-    asked (keys head b.of.before) f.walk ≡ ask.Ended answer → WalkEnds head events f.seat c answer
+    asked (keys head b.of.before) f.walk ≡ ask.Ended answer →
+    IsWholeWalk c (keys head b.of.before) (direction b.of.from b.of.to) (plan (keys head b.of.before) b.of.from b.of.to)
+    (walk_entries c events) answer
 end_asked head events c f answer b ended =
     let K = keys head b.of.before in
     let whole : Asks K (walk_entries c events) f.walk (ask.Ended answer) =
     subst (Asks K (walk_entries c events) f.walk) ended (asks K (walk_entries c events) f.walk b.after) in
-    record {
-      of = b.of;
-      in_flight = b.in_flight;
-      seat_is = sym b.seat_is;
-      whole = rw (b.walk_is.0, b.walk_is.1, b.walk_is.2) at whole;
-    }
+    rw (b.walk_is.0, b.walk_is.1, b.walk_is.2) at whole
+
+-- so its end comes next there, whether it is its turn or not
+pub end_gives : (head : Head) (events : List Event) (c : ℕ) (f : Flight) (answer : Answer) (b : IsFlight head events c f) →
+    asked (keys head b.of.before) f.walk ≡ ask.Ended answer →
+    next_of_walk head events c (walk c events) ≡ Some (WalkEnd f.seat c answer)
+end_gives head events c f answer b ended =
+    gives_whole head events c b.of answer b.in_flight (end_asked head events c f answer b ended)
+    ∙ ap (λ z. Some (WalkEnd z c answer)) (sym b.seat_is)
 
 entry_of_slot : (events : List Event) (client : ℕ) (x : Slot) (made : How) (c s i : ℕ) (d : Dir) (how : How) → c ≡ x.cpu → s ≡ x.state →
     i ≡ x.inst → d ≡ x.dir → how ≡ made →

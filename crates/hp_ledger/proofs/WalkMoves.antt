@@ -6,12 +6,13 @@ use Rattle.std.proofs.lemmas.Bool.{true≢false, eqb-true, eqb-false, and_parts,
 use Rattle.std.proofs.lemmas.Bool.Decides.{nat_tests}
 use Rattle.hp_states.specs.declared.limits.TheConstants.{ONLINE}
 use Rattle.hp_event.specs.declared.op.Op.{Op}
-use Rattle.hp_event.specs.declared.op.Op.TheVariants.{Up, Down, Target, Boot, Disable, Enable, Freeze, Thaw}
+use Rattle.hp_event.specs.declared.op.Op.TheVariants.{Up, Down, Target, Boot, Disable, Enable, Freeze, Thaw, UpMany}
 use Rattle.hp_event.specs.declared.answer.Answer.{Answer}
 use Rattle.hp_event.specs.declared.answer.Answer.TheVariants.{Ok}
 use Rattle.hp_event.specs.declared.head.Head.{Head}
 use Rattle.hp_event.specs.declared.event.Event.{Event}
 use Rattle.hp_event.specs.declared.event.Event.TheVariants.{Enter, WalkBegin, WalkEnd, OpEnd}
+use Rattle.hp_model.specs.Batch.{is_upmany}
 use Rattle.hp_model.specs.Journal.{EachAfter}
 use Rattle.hp_model.specs.Lawful.{Comes, Stands, IsLawful}
 use Rattle.hp_model.specs.Lists.{among, numbers, occurs}
@@ -23,9 +24,11 @@ use Rattle.hp_model.specs.Settled.{settled, is_online}
 use Rattle.hp_model.specs.StandsOperations.{WalkBegins}
 use Rattle.hp_model.specs.Suspend.{frozen, wakeup_pending}
 use Rattle.hp_model.specs.Walks.{Walk, walk}
+use Rattle.hp_model.proofs.BatchLemmas.{begins_below}
 use Rattle.hp_model.proofs.Counts.{occurs-append}
 use Rattle.hp_model.proofs.Induction.{Held, held_none, held_from}
 use Rattle.hp_model.proofs.Laws.{operation_push, begun_push, settled_push, walk_push}
+use Rattle.hp_model.proofs.OneNext.{owners}
 use Rattle.hp_model.proofs.Operations.{Entered, not_walk, not_nothing, single_walk, boot_walk, freeze_walk, first_walk, in_filter, walk_present}
 use Rattle.hp_model.proofs.Owners.{Owners, owners_none, owners_step, same_some, none_some, map_free}
 use Rattle.hp_model.proofs.Passing.{none_holds, passed}
@@ -146,17 +149,18 @@ closed false h = refl
 up_moves : (now to : ℕ) → ONLINE ≡ to → now < ONLINE → IsMove now to
 up_moves now to goes below = record { moves = λ e. absurd (omega (arith, goes, below, e)); to_most = omega (arith, goes) }
 
+-- of an operation that isn't an upmany
 moves_by : (head : Head) (xs : List Event) (o : Operation) (cpu to : ℕ) → Rested xs → operation xs ≡ Some o → (op : Op) →
-    first_that_holds (refusals_at_once head o.before o.seat op) ≡ None → next head xs o.before op ≡ walks cpu to →
-    IsMove (settled cpu xs) to
-moves_by head xs o cpu to r held (Up c) passes h =
+    is_upmany op ≡ false → first_that_holds (refusals_at_once head o.before o.seat op) ≡ None →
+    next head xs o.before op ≡ walks cpu to → IsMove (settled cpu xs) to
+moves_by head xs o cpu to r held (Up c) single passes h =
     single_moves c 200 (settled c xs) (answers xs) cpu to (λ d. settled d xs) refl (omega arith) h
-moves_by head xs o cpu to r held (Down c) passes h =
+moves_by head xs o cpu to r held (Down c) single passes h =
     single_moves c 0 (settled c xs) (answers xs) cpu to (λ d. settled d xs) refl (omega arith) h
-moves_by head xs o cpu to r held (Target c v) passes h =
+moves_by head xs o cpu to r held (Target c v) single passes h =
     let p = none_holds (refusals_at_once head o.before o.seat (Target c v)) passes in
     single_moves c (target_of v) (settled c xs) (answers xs) cpu to (λ d. settled d xs) refl (target_most v p.1.1.0) h
-moves_by head xs o cpu to r held (Boot n) passes h =
+moves_by head xs o cpu to r held (Boot n) single passes h =
     let enough : Bool = leb n (length (online head xs)) in
     let w = boot_walk enough (to_boot head xs) (length (failures (answers xs))) cpu to h in
     let p = in_filter (λ c. is_present head c && (not (is_online c xs) && not (among c (begun xs)))) cpu (numbers head.possible) w in
@@ -164,7 +168,7 @@ moves_by head xs o cpu to r held (Boot n) passes h =
     let off : ltb 100 (settled cpu xs) ≡ false = closed (is_online cpu xs) (and_parts (not (is_online cpu xs)) (not (among cpu (begun xs))) q.1).0 in
     let low = ltb-false 100 (settled cpu xs) off in
     up_moves (settled cpu xs) to (boot_to enough (to_boot head xs) (length (failures (answers xs))) cpu to h) (omega (arith, low))
-moves_by head xs o cpu to r held (Freeze q) passes h =
+moves_by head xs o cpu to r held (Freeze q) single passes h =
     let w = freeze_walk (wakeup_pending xs) (failures (answers xs)) (to_freeze head q o.before xs) cpu to h in
     let goes = freeze_to (wakeup_pending xs) (failures (answers xs)) (to_freeze head q o.before xs) cpu to h in
     let p = in_filter (λ c. not (eqb c (primary_of q (online head o.before))) && not (among c (begun xs))) cpu (online head o.before) w in
@@ -174,14 +178,15 @@ moves_by head xs o cpu to r held (Freeze q) passes h =
     closed (among cpu (begun xs)) (and_parts (not (eqb cpu (primary_of q (online head o.before)))) (not (among cpu (begun xs))) p.0).1 in
     let same = (r o held cpu fresh).0 in
     record { moves = λ e. absurd (omega (arith, goes, up, same, e)); to_most = omega (arith, goes) }
-moves_by head xs o cpu to r held Thaw passes h =
+moves_by head xs o cpu to r held Thaw single passes h =
     let w = first_walk 200 (to_thaw xs) (Ok (pos (length (failures (answers xs))))) cpu to h in
     let p = in_filter (λ c. ltb (settled c xs) 200 && not (among c (begun xs))) cpu (frozen xs) w in
     let below = ltb-true (settled cpu xs) 200 (and_parts (ltb (settled cpu xs) 200) (not (among cpu (begun xs))) p.0).0 in
     up_moves (settled cpu xs) to (first_to 200 (to_thaw xs) (Ok (pos (length (failures (answers xs))))) cpu to h) below
-moves_by head xs o cpu to r held Disable passes h = absurd (not_walk (Ok (pos 0)) cpu to h)
-moves_by head xs o cpu to r held Enable passes h = absurd (not_walk (Ok (pos 0)) cpu to h)
-moves_by head xs o cpu to r held op passes h = absurd (not_nothing cpu to h)
+moves_by head xs o cpu to r held Disable single passes h = absurd (not_walk (Ok (pos 0)) cpu to h)
+moves_by head xs o cpu to r held Enable single passes h = absurd (not_walk (Ok (pos 0)) cpu to h)
+moves_by head xs o cpu to r held (UpMany set) single passes h = absurd (true≢false single)
+moves_by head xs o cpu to r held op single passes h = absurd (not_nothing cpu to h)
 
 -- what begins a walk: a processor of the machine, which moves
 pub record IsWalkBegin (head : Head) (cpu from to : ℕ) : Type 0 where
@@ -196,9 +201,17 @@ walk_begins head xs seat cpu from to lawful h =
     let e : Entered head h.of = rw h.held at k.operations.entered in
     let there = walk_present head xs seat cpu from to h k.operations k.kept in
     let once = (passed head h.of.before h.of.seat h.of.op e.enters.free.idle e.enters.passes.not_waiting e.enters.passes.not_refused).0 in
-    let m = moves_by head xs h.of cpu to (rested head xs lawful) h.held h.of.op once h.gives in
+    let m : IsMove from to = moved once (is_upmany h.of.op) refl in
     record {
       inside = ltb-true cpu head.possible (and_parts (ltb cpu head.possible) (not (among cpu head.absent)) there).0;
-      moves = λ same. m.moves (sym h.from_is ∙ same);
+      moves = m.moves;
       to_most = m.to_most;
     }
+  where
+    -- a walk of an upmany begins below the top, and goes there
+    moved : first_that_holds (refusals_at_once head h.of.before h.of.seat h.of.op) ≡ None → (b : Bool) → is_upmany h.of.op ≡ b → IsMove from to
+    moved once true u =
+        let b = begins_below head xs seat cpu from to (owners head xs lawful) h u in up_moves from to (sym b.1) b.0
+    moved once false u =
+        let m = moves_by head xs h.of cpu to (rested head xs lawful) h.held h.of.op u once h.gives in
+        record { moves = λ same. m.moves (sym h.from_is ∙ same); to_most = m.to_most }

@@ -7,6 +7,7 @@ use Rattle.hp_ledger.specs.Seats.{IsRoll}
 use Rattle.hp_ledger.specs.Locks.{IsLocks}
 use Rattle.hp_ledger.specs.Processors.{IsStanding}
 use Rattle.hp_ledger.specs.Operations.{IsHeldBy}
+use Rattle.hp_ledger.specs.BatchTurns.{IsTurns, AreAwaited, is_batch}
 use Rattle.hp_ledger.specs.Flights.{IsFlights}
 use Rattle.hp_ledger.specs.Registering.{IsRegisteringOf}
 use Rattle.hp_ledger.specs.Suspended.{IsSuspended}
@@ -19,3 +20,5 @@ pub record IsAccount (head : Head) (events : List Event) (p : Parts) : Type 0 wh
   pub flights : IsFlights head events p.flights
   pub registration : IsRegisteringOf head events p.registration
   pub suspended : IsSuspended head events p.suspended
+  pub turns : IsTurns head events p.turns
+  pub awaited : AreAwaited (is_batch p.operation) p.flights p.turns p.awaited

@@ -1,5 +1,5 @@
 -- What one event more makes of the parts of the account that are plain folds. This project's own.
-use Rattle.std.specs.Prelude.{ℕ, true, false, Some, None, [], ◌∷◌, ◌++◌, slice_index}
+use Rattle.std.specs.Prelude.{ℕ, Bool, if◌then◌else◌, true, false, Some, None, [], ◌∷◌, ◌++◌, slice_index}
 use Rattle.hp_event.specs.Leaves.{leaves_at}
 use Rattle.hp_event.specs.declared.op.Op.{Op}
 use Rattle.hp_event.specs.declared.how.How.{How}
@@ -36,15 +36,16 @@ suspension_after op (OpEnd seat answer) s = ended op s
 suspension_after op (Wakeup seat) s = woken s
 suspension_after op _ s = s
 
-abbrev pub holders_after : Event → Holders → Holders
-holders_after (Admit seat role) h =
+-- an upmany (`batch`) keeps the write side from its first walk to its end
+abbrev pub holders_after : (batch : Bool) → Event → Holders → Holders
+holders_after batch (Admit seat role) h =
     record { map = h.map; writer = h.writer; registrar = h.registrar; reading = h.reading ++ false ∷ [] }
-holders_after (Enter seat op) h = with_map (Some seat) h
-holders_after (OpEnd seat answer) h = with_map None h
-holders_after (WalkBegin seat cpu from to) h = with_writer (Some seat) h
-holders_after (WalkEnd seat cpu answer) h = with_writer None h
-holders_after (RegBegin seat state op) h = with_registrar (Some seat) h
-holders_after (RegEnd seat answer) h = with_registrar None h
-holders_after (ReadLock seat) h = with_reader seat true h
-holders_after (ReadUnlock seat) h = with_reader seat false h
-holders_after _ h = h
+holders_after batch (Enter seat op) h = with_map (Some seat) h
+holders_after batch (OpEnd seat answer) h = with_map None (with_writer None h)
+holders_after batch (WalkBegin seat cpu from to) h = with_writer (Some seat) h
+holders_after batch (WalkEnd seat cpu answer) h = if batch then h else with_writer None h
+holders_after batch (RegBegin seat state op) h = with_registrar (Some seat) h
+holders_after batch (RegEnd seat answer) h = with_registrar None h
+holders_after batch (ReadLock seat) h = with_reader seat true h
+holders_after batch (ReadUnlock seat) h = with_reader seat false h
+holders_after batch _ h = h

@@ -1,6 +1,6 @@
 -- What one event more needs of a part of the account, and what becomes of it. This project's own.
-use Rattle.std.specs.Prelude.{◌≡◌, ◌<◌, ◌≤◌, ◌≢◌, ◌+◌, ◌-◌, ℕ, [], ◌∷◌, ◌++◌, true, false, Option, None, Some, IsSome, List, length, option_map}
-use Rattle.hp_states.specs.declared.limits.TheConstants.{MAX_CPUS, MAX_EVENTS, MAX_SEATS, ONLINE}
+use Rattle.std.specs.Prelude.{◌≡◌, ◌<◌, ◌≤◌, ◌≢◌, ◌+◌, ◌-◌, ◌*◌, ℕ, [], ◌∷◌, ◌++◌, Bool, if◌then◌else◌, true, false, Option, None, Some, IsSome, List, length, option_map, ◌⊎◌}
+use Rattle.hp_states.specs.declared.limits.TheConstants.{MAX_CPUS, MAX_CPU_SET, MAX_EVENTS, MAX_SEATS, ONLINE}
 use Rattle.hp_event.specs.declared.op.Op.{Op}
 use Rattle.hp_event.specs.declared.how.How.{How}
 use Rattle.hp_event.specs.declared.event.Role.{Role}
@@ -9,7 +9,8 @@ use Rattle.hp_event.specs.declared.event.Event.{Event}
 use Rattle.hp_event.specs.declared.event.Event.TheVariants.{Admit, Leave, Enter, WalkBegin, Call, WalkEnd, OpEnd, RegBegin, RegEnd, ReadLock, ReadUnlock, Armed}
 use Rattle.hp_event.specs.Ops.{is_map_op}
 use Rattle.hp_model.specs.Events.{is_registration_op}
-use Rattle.hp_suspend.specs.Tables.{AreOnline}
+use Rattle.hp_model.specs.Lawful.{Comes, IsLawful}
+use Rattle.hp_model.specs.Plan.{keys_on}
 use Rattle.hp_locks.specs.declared.locks.TheConstants.{MAX_LOCKED}
 use Rattle.hp_locks.specs.Holders.{Holders, reads}
 use Rattle.hp_locks.specs.Waits.{wait_for_map, wait_for_writer, wait_to_write, wait_to_register}
@@ -17,22 +18,25 @@ use Rattle.hp_walk.specs.Cursor.{to_of}
 use Rattle.hp_ledger.specs.declared.flights.Flights.{Flights}
 use Rattle.hp_ledger.specs.declared.operation.Held.{Held}
 use Rattle.hp_ledger.specs.declared.registering.Registering.{Registering}
-use Rattle.hp_ledger.specs.FlightChanges.{IfWalks, CanGoOn, Begun, WentOn, Ended}
+use Rattle.hp_ledger.specs.declared.flights.Flight.{Flight}
+use Rattle.hp_ledger.specs.BatchTurns.{is_batch, CanTurn, Turned, HasPlaceInSet, Awaited}
+use Rattle.hp_ledger.specs.FlightChanges.{IfWalks, IfFlies, CanGoOn, Begun, WentOn, Ended}
 use Rattle.hp_ledger.specs.Operations.{HasCounts, IsHeldBy}
 use Rattle.hp_ledger.specs.Places.{at_place}
-use Rattle.hp_ledger.specs.Processors.{Standing, online_flags}
+use Rattle.hp_ledger.specs.Processors.{Standing, IsStanding}
 use Rattle.hp_ledger.specs.RegisteringChanges.{HasBegun, WentOnBy}
 use Rattle.hp_ledger.specs.declared.parts.Parts.{Parts}
 use Rattle.hp_ledger.specs.After.{roll_after, holders_after, standing_after, suspension_after}
 use Rattle.hp_ledger.specs.Seats.{Roll, HasPlace, HasNoThread, with_seat}
 use Rattle.hp_ledger.specs.Suspended.{Suspension}
 
--- a lock that an event takes is free, and one that it gives back is held by its seat
+-- a lock that an event takes is free, and one that it gives back is held by its seat; a later walk of an upmany has the write side
 abbrev pub CanHold : Event → Holders → Type 0
 CanHold (Admit seat role) h = ⊥
 CanHold (Enter seat op) h = (seat < length h.reading) × (wait_for_map h ≡ None)
-CanHold (OpEnd seat answer) h = h.map ≡ Some seat
-CanHold (WalkBegin seat cpu from to) h = (h.map ≡ Some seat) × (h.writer ≡ None) × (wait_to_write h ≡ None)
+CanHold (OpEnd seat answer) h = (h.map ≡ Some seat) × ((h.writer ≡ None) ⊎ (h.writer ≡ Some seat))
+CanHold (WalkBegin seat cpu from to) h =
+    (h.map ≡ Some seat) × (((h.writer ≡ None) × (wait_to_write h ≡ None)) ⊎ (h.writer ≡ Some seat))
 CanHold (WalkEnd seat cpu answer) h = h.writer ≡ Some seat
 CanHold (RegBegin seat state op) h = (seat < length h.reading) × (wait_to_register h ≡ None)
 CanHold (RegEnd seat answer) h = h.registrar ≡ Some seat
@@ -66,6 +70,7 @@ HasCountsIf (Some held) = HasCounts held.sequence
 -- what takes the map lock is an operation of it, and the walks of one that holds it are counted
 abbrev pub CanOperate : Event → Option Held → Type 0
 CanOperate (Enter seat op) held = is_map_op op ≡ true
+CanOperate (WalkBegin seat cpu from to) held = cpu < MAX_CPUS
 CanOperate (WalkEnd seat cpu answer) held = HasCountsIf held
 CanOperate _ held = Unit {0}
 
@@ -78,24 +83,30 @@ abbrev pub WentTo : Event → (to : ℕ) → Flights → Type 0
 WentTo (WalkEnd seat cpu answer) to f = IfWalks (at_place f.by_cpu.items cpu) (λ flight. to_of flight.walk ≡ to)
 WentTo _ to f = Unit {0}
 
+-- the room that the walk takes which begins: what its event took, or in an upmany its part of that
+abbrev pub room_of_walk : (keys : ℕ → List ℕ) → (batch : Bool) → (need : ℕ) → Event → ℕ
+room_of_walk keys batch need (WalkBegin seat cpu from to) = if batch then 3 * keys_on keys from to + 4 else need
+room_of_walk keys batch need _ = need
+
 -- the walk that begins, goes on or ends can
 abbrev pub CanFly : (keys : ℕ → List ℕ) → (need : ℕ) → Event → Flights → Type 0
 CanFly keys need (WalkBegin seat cpu from to) f =
-    (cpu < length f.by_cpu.items) × ((from ≤ ONLINE) × (to ≤ ONLINE) × (from ≢ to)) × (0 < need)
-CanFly keys need (Call seat cpu state inst dir how) f =
-    (n : ℕ) → f.walking ≡ Some n → (cpu < length f.by_cpu.items) × IfWalks (at_place f.by_cpu.items cpu) (CanGoOn keys how)
+    (cpu < length f.by_cpu.items) × (cpu < MAX_CPU_SET) × ((from ≤ ONLINE) × (to ≤ ONLINE) × (from ≢ to)) × (0 < need)
+CanFly keys need (Call seat cpu state inst dir how) f = IfFlies (at_place f.by_cpu.items cpu) (CanGoOn keys how)
 CanFly keys need (WalkEnd seat cpu answer) f =
-    (cpu < length f.by_cpu.items) × IfWalks (at_place f.by_cpu.items cpu) (λ flight. 0 < flight.left)
+    (cpu < length f.by_cpu.items) × (cpu < MAX_CPU_SET) × IfWalks (at_place f.by_cpu.items cpu) (λ flight. 0 < flight.left)
 CanFly keys need _ f = Unit {0}
 
-abbrev pub WentOnIf : (walking : Option ℕ) → (keys : ℕ → List ℕ) → (cpu : ℕ) → How → (old new : Flights) → Type 0
+-- the walk of the processor, if it walks, has gone on
+abbrev pub WentOnIf : (flight : Option Flight) → (keys : ℕ → List ℕ) → (cpu : ℕ) → How → (old new : Flights) → Type 0
 WentOnIf None keys cpu how old new = new ≡ old
-WentOnIf (Some n) keys cpu how old new = WentOn keys cpu how old new
+WentOnIf (Some flight) keys cpu how old new = WentOn keys cpu how old new
 
 -- it has begun, gone on or ended, and this much of its room is given back
 abbrev pub Flew : (keys : ℕ → List ℕ) → (need freed : ℕ) → Event → (old new : Flights) → Type 0
 Flew keys need freed (WalkBegin seat cpu from to) old new = Begun keys seat cpu from to need old new × (freed ≡ 0)
-Flew keys need freed (Call seat cpu state inst dir how) old new = WentOnIf old.walking keys cpu how old new × (freed ≡ 0)
+Flew keys need freed (Call seat cpu state inst dir how) old new =
+    WentOnIf (at_place old.by_cpu.items cpu) keys cpu how old new × (freed ≡ 0)
 Flew keys need freed (WalkEnd seat cpu answer) old new = Ended cpu freed old new
 Flew keys need freed _ old new = (new ≡ old) × (freed ≡ 0)
 
@@ -139,35 +150,45 @@ pub record CanAppend (keys : ℕ → List ℕ) (need : ℕ) (event : Event) (p :
   pub processors : HasPlaceFor event p.processors
   pub suspended : HasRoomFor event p.suspended
   pub operation : CanOperate event p.operation
-  pub flights : CanFly keys need event p.flights
+  pub flights : CanFly keys (room_of_walk keys (is_batch p.operation) need event) event p.flights
   pub registration : CanRegister event
+  pub turns : (freed : ℕ) (new : Flights) →
+      Flew keys (room_of_walk keys (is_batch p.operation) need event) freed event p.flights new →
+      CanTurn keys (is_batch p.operation) event new p.turns
+  pub place_in_set : HasPlaceInSet event
 
 -- each part has
 pub record Appended (keys : ℕ → List ℕ) (need freed : ℕ) (event : Event) (old new : Parts) : Type 0 where
   pub seats : new.seats ≡ roll_after event old.seats
-  pub locks : new.locks ≡ holders_after event old.locks
+  pub locks : new.locks ≡ holders_after (is_batch old.operation) event old.locks
   pub to : ℕ
   pub to_is : WentTo event to old.flights
   pub processors : new.processors ≡ standing_after to event old.processors
   pub suspended : (op : Op) → IsOpOf event old.operation op → new.suspended ≡ suspension_after op event old.suspended
   pub operation :
-      (head : Head) (events : List Event) → AreOnline head events (online_flags old.processors) → IsHeldBy head events old.operation →
+      (head : Head) (events : List Event) → IsLawful head events → Comes head events event →
+      IsStanding head events old.processors → IsHeldBy head events old.operation →
       IsHeldBy head (events ++ event ∷ []) new.operation
   pub freed_by_walk : ℕ
   pub freed_by_registration : ℕ
-  pub flights : Flew keys need freed_by_walk event old.flights new.flights
+  pub flights :
+      Flew keys (room_of_walk keys (is_batch old.operation) need event) freed_by_walk event old.flights new.flights
   pub registration : Registered need freed_by_registration event old.registration new.registration
   pub freed_is : freed ≡ freed_by_walk + freed_by_registration
+  pub turns : Turned keys (is_batch old.operation) event new.flights old.turns new.turns
+  pub awaited : Awaited keys (is_batch old.operation) event new.flights old.awaited new.awaited
 
 -- a seat has come in, and nothing else has changed
 pub record Admitted (role : Role) (old new : Parts) : Type 0 where
   pub seats : new.seats ≡ with_seat role old.seats
-  pub locks : new.locks ≡ holders_after (Admit (length old.seats.roles) role) old.locks
+  pub locks : new.locks ≡ holders_after false (Admit (length old.seats.roles) role) old.locks
   pub processors : new.processors ≡ old.processors
   pub operation : new.operation ≡ old.operation
   pub flights : new.flights ≡ old.flights
   pub registration : new.registration ≡ old.registration
   pub suspended : new.suspended ≡ old.suspended
+  pub turns : new.turns ≡ old.turns
+  pub awaited : new.awaited ≡ old.awaited
 
 -- there is a number for one seat more, and where it is a thread its processor is one of these, and has none
 pub record CanAdmit (role : Role) (p : Parts) : Type 0 where

@@ -12,8 +12,8 @@ use Rattle.hp_model.specs.Plan.{keys_on}
 use Rattle.hp_model.specs.Promised.{promised}
 use Rattle.hp_model.specs.Registered.{keys}
 use Rattle.hp_model.specs.Sequence.{Next, next}
-use Rattle.hp_model.specs.UnderWay.{under_way}
 use Rattle.hp_model.specs.Walks.{walking}
+use Rattle.hp_model.specs.UnderWay.{under_way}
 use Rattle.hp_table.specs.Keys.{keys_by}
 use Rattle.hp_table.specs.Step.{Step}
 use Rattle.hp_ledger.specs.declared.parts.Parts.{Parts}
@@ -40,8 +40,8 @@ pub record Gives (head : Head) (events : List Event) (seat : ℕ) (what : Next) 
   pub between : IsBetween head events seat
   pub what_is : next head events between.of.before between.of.op ≡ what
 
--- a walk crosses as many keys of the table as are registered
+-- walks cross as many keys of the table as are registered
 abbrev pub CountsKeys : Head → List Event → (places : List (Option Step)) → Event → Type 0
 CountsKeys head events places (WalkBegin seat cpu from to) =
-    keys_on (keys_by places) from to ≡ keys_on (keys head events) from to
+    (low high : ℕ) → keys_on (keys_by places) low high ≡ keys_on (keys head events) low high
 CountsKeys head events places _ = Unit {0}

@@ -1,12 +1,13 @@
 -- What it means that this comes next in a walk or a registration in flight: that it is what is under way, and nothing else is.
 -- This project's own.
-use Rattle.std.specs.Prelude.{◌≡◌, ◌⊎◌, ◌&&◌, if◌then◌else◌, ℕ, Bool, false, Option, Some, None, List, [], ◌∷◌}
+use Rattle.std.specs.Prelude.{◌≡◌, ◌==◌, ◌⊎◌, ◌&&◌, not, if◌then◌else◌, nat_le, ℕ, Bool, false, Option, Some, None, List, [], ◌∷◌}
 use Rattle.hp_states.specs.declared.dir.Dir.{Dir}
 use Rattle.hp_states.specs.declared.dir.Dir.TheVariants.{Up, Down}
 use Rattle.hp_states.specs.declared.place.Place.{Place}
 use Rattle.hp_states.specs.Sections.{can_fail}
 use Rattle.hp_event.specs.declared.head.Head.{Head}
 use Rattle.hp_event.specs.declared.event.Event.{Event}
+use Rattle.hp_event.specs.declared.event.Event.TheVariants.{WalkEnd, RegEnd}
 use Rattle.hp_model.specs.Armed.{is_armed_at}
 use Rattle.hp_model.specs.Events.{seat_of, is_call}
 use Rattle.hp_model.specs.Seats.{ap_seat}
@@ -21,6 +22,8 @@ use Rattle.hp_ledger.specs.declared.entry.Means.TheVariants.{Empty, Injected, Ho
 use Rattle.hp_ledger.specs.declared.entry.Entry.{Entry}
 use Rattle.hp_ledger.specs.declared.coming.Coming.{Coming}
 use Rattle.hp_ledger.specs.declared.coming.Coming.TheVariants as coming
+use Rattle.hp_ledger.specs.declared.coming.Ending.{Ending}
+use Rattle.hp_ledger.specs.declared.coming.Ending.TheVariants as ending
 use Rattle.hp_ledger.specs.Entries.{entry_event}
 
 -- whether what is registered has a callback of a direction
@@ -68,7 +71,34 @@ pub record ComesToEnd (head : Head) (events : List Event) (e : Event) : Type 0 w
   pub takes_none : need head events e ≡ None
   pub of_client : IsInFlightOf events (seat_of e)
 
+-- the event of an end
+abbrev pub end_event : Ending → Event
+end_event (ending.Walk k c answer) = WalkEnd k c answer
+end_event (ending.Registration k answer) = RegEnd k answer
+
+-- the processor whose thread the client waits for
+abbrev pub waits_unless_made : (seat cpu : ℕ) → Option Entry → Option ℕ
+waits_unless_made k c None = Some c
+waits_unless_made k c (Some x) = if x.seat == k then None else Some c
+
+abbrev pub waits_by : (seat : ℕ) → Coming → Option ℕ
+waits_by k (coming.Entry client c entry) = if client == k then waits_unless_made k c entry else None
+waits_by k (coming.End e) = None
+
+-- the processor of its entry, from one on, and the seat that makes it
+abbrev pub due_beyond : (from : ℕ) → Coming → Option (ℕ × ℕ)
+due_beyond from (coming.Entry client c None) = None
+due_beyond from (coming.Entry client c (Some x)) = if nat_le from x.cpu then Some (x.cpu, x.seat) else None
+due_beyond from (coming.End e) = None
+
+-- the same where a thread makes it
+abbrev pub thread_due_beyond : (from : ℕ) → Coming → Option (ℕ × ℕ)
+thread_due_beyond from (coming.Entry client c None) = None
+thread_due_beyond from (coming.Entry client c (Some x)) =
+    if not (x.seat == client) && nat_le from x.cpu then Some (x.cpu, x.seat) else None
+thread_due_beyond from (coming.End e) = None
+
 abbrev pub IsComing : Head → List Event → Coming → Type 0
 IsComing head events (coming.Entry client cpu None) = Awaits head events client cpu
 IsComing head events (coming.Entry client cpu (Some x)) = ComesByEntry head events client cpu x
-IsComing head events (coming.End e) = ComesToEnd head events e
+IsComing head events (coming.End e) = ComesToEnd head events (end_event e)

@@ -1,5 +1,6 @@
 -- What becomes of the walks in flight where one begins, goes on past an entry, or ends. This project's own.
-use Rattle.std.specs.Prelude.{◌≡◌, ◌<◌, ◌-◌, ℕ, Option, Some, None, List, [], slice_set, replicate}
+use Rattle.std.specs.Prelude.{◌≡◌, ◌<◌, ◌-◌, ◌==◌, ◌&&◌, ◌||◌, not, false, ℕ, Option, Some, None, List, [], slice_set, replicate}
+use Rattle.hp_states.specs.CpuSets.{has}
 use Rattle.hp_event.specs.declared.how.How.{How}
 use Rattle.hp_walk.specs.Cursor.{cpu_of, from_of, to_of}
 use Rattle.hp_walk.specs.After.{IsAfter, IsWithin}
@@ -12,17 +13,17 @@ use Rattle.hp_ledger.specs.Places.{at_place}
 -- no processor of so many walks
 pub record IsStill (cpus : ℕ) (f : Flights) : Type 0 where
   pub by_cpu_is : f.by_cpu.items ≡ replicate cpus None
-  pub walking_is : f.walking ≡ None
+  pub walking_is : (c : ℕ) → has f.walking c ≡ false
 
--- the walk of one processor is this, those of all others are as they were, and this processor walks or none does
-pub record IsWith (cpu : ℕ) (flight : Option Flight) (walking : Option ℕ) (old new : Flights) : Type 0 where
+-- the walk of one processor is this, and those of all others are as they were
+pub record IsWith (cpu : ℕ) (flight : Option Flight) (old new : Flights) : Type 0 where
   pub by_cpu_is : new.by_cpu.items ≡ slice_set old.by_cpu.items cpu flight
-  pub walking_is : new.walking ≡ walking
 
 -- a walk has begun, with no entry made, and one event of its room is taken
 pub record Begun (keys : ℕ → List ℕ) (seat cpu from to need : ℕ) (old new : Flights) : Type 0 where
   pub flight : Flight
-  pub with_it : IsWith cpu (Some flight) (Some cpu) old new
+  pub with_it : IsWith cpu (Some flight) old new
+  pub walking_is : (c : ℕ) → has new.walking c ≡ (c == cpu || has old.walking c)
   pub seat_is : flight.seat ≡ seat
   pub walk_is : (cpu_of flight.walk ≡ cpu) × (from_of flight.walk ≡ from) × (to_of flight.walk ≡ to)
   pub after : IsAfter keys [] flight.walk
@@ -38,6 +39,10 @@ pub record CanGoOn (keys : ℕ → List ℕ) (how : How) (flight : Flight) : Typ
   pub going : IsGoing keys flight
   pub asks : FitsStep (asked keys flight.walk) how
 
+abbrev pub IfFlies : Option Flight → (Flight → Type 0) → Type 0
+IfFlies None P = Unit {0}
+IfFlies (Some flight) P = P flight
+
 abbrev pub IfWalks : Option Flight → (Flight → Type 0) → Type 0
 IfWalks None P = ⊥
 IfWalks (Some flight) P = P flight
@@ -47,7 +52,8 @@ pub record WentOn (keys : ℕ → List ℕ) (cpu : ℕ) (how : How) (old new : F
   pub flight : Flight
   pub was : at_place old.by_cpu.items cpu ≡ Some flight
   pub now : Flight
-  pub with_it : IsWith cpu (Some now) old.walking old new
+  pub with_it : IsWith cpu (Some now) old new
+  pub walking_is : new.walking ≡ old.walking
   pub seat_is : now.seat ≡ flight.seat
   pub took : Took keys how flight.walk now.walk
   pub left_is : now.left ≡ flight.left - 1
@@ -56,5 +62,6 @@ pub record WentOn (keys : ℕ → List ℕ) (cpu : ℕ) (how : How) (old new : F
 pub record Ended (cpu freed : ℕ) (old new : Flights) : Type 0 where
   pub flight : Flight
   pub was : at_place old.by_cpu.items cpu ≡ Some flight
-  pub with_it : IsWith cpu None None old new
+  pub with_it : IsWith cpu None old new
+  pub walking_is : (c : ℕ) → has new.walking c ≡ (not (c == cpu) && has old.walking c)
   pub freed_is : freed ≡ flight.left - 1

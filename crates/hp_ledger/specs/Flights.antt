@@ -1,7 +1,9 @@
 -- That walks in flight stand where a journal's entries lead. This project's own.
-use Rattle.std.specs.Prelude.{◌≡◌, ℕ, Option, Some, None, option_to_list, List, length}
+use Rattle.std.specs.Prelude.{◌≡◌, ℕ, Option, Some, None, List, length}
+use Rattle.hp_states.specs.CpuSets.{has}
 use Rattle.hp_event.specs.declared.head.Head.{Head}
 use Rattle.hp_event.specs.declared.event.Event.{Event}
+use Rattle.hp_model.specs.Lists.{among}
 use Rattle.hp_model.specs.Walks.{Walk, walk, walk_entries, walking}
 use Rattle.hp_model.specs.Registered.{registered, keys}
 use Rattle.hp_model.specs.Promised.{promised_to_walk}
@@ -29,4 +31,4 @@ IsFlightOf head events c (Some f) = IsFlight head events c f
 pub record IsFlights (head : Head) (events : List Event) (f : Flights) : Type 0 where
   pub cpus : length f.by_cpu.items ≡ head.possible
   pub each : (c : ℕ) → IsFlightOf head events c (at_place f.by_cpu.items c)
-  pub walking_is : option_to_list f.walking ≡ walking events
+  pub walking_is : (c : ℕ) → has f.walking c ≡ among c (walking events)

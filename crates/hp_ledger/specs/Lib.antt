@@ -5,12 +5,14 @@ pub mod Processors
 pub mod Suspended
 pub mod Locks
 pub mod Flights
+pub mod BatchTurns
 pub mod FlightChanges
 pub mod Registering
 pub mod RegisteringChanges
 pub mod Table
 pub mod Entries
 pub mod Coming
+pub mod WalkComing
 pub mod UnderWay
 pub mod Walking
 pub mod Next
@@ -26,6 +28,7 @@ pub mod CanShow
 pub mod First
 pub mod NamedIn
 pub mod Between
+pub mod Batches
 pub mod Machine
 pub mod Leaving
 pub mod Clients

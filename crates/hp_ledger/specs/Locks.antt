@@ -1,6 +1,7 @@
 -- That the locks are held as a journal says, and that the waits for them are those of its definitions. This project's own.
-use Rattle.std.specs.Prelude.{◌≡◌, ℕ, Option, None, option_map, List, [], ◌∷◌, length}
+use Rattle.std.specs.Prelude.{◌≡◌, ℕ, if◌then◌else◌, Option, None, option_map, List, [], ◌∷◌, length}
 use Rattle.hp_event.specs.declared.event.Event.{Event}
+use Rattle.hp_model.specs.Batch.{is_batch_begun}
 use Rattle.hp_model.specs.MapLock.{operation}
 use Rattle.hp_model.specs.Walks.{walk, walking}
 use Rattle.hp_model.specs.Registrations.{registration}
@@ -12,9 +13,9 @@ use Rattle.hp_locks.specs.Holders.{readers as count_of_readers}
 use Rattle.hp_locks.specs.declared.why.Why.{Why}
 use Rattle.hp_locks.specs.declared.why.Why.TheVariants.{MapsHeld, WriterIn, ReadersIn, RegIn}
 
--- the seat of the walk of the first of some processors
+-- the seat that holds the write side: that of the walk of the first of some processors, or of an upmany that has begun a walk
 abbrev pub writer_of : (cpus : List ℕ) → List Event → Option ℕ
-writer_of [] events = None
+writer_of [] events = if is_batch_begun events then option_map (λ o. o.seat) (operation events) else None
 writer_of (c ∷ cs) events = option_map (λ w. w.seat) (walk c events)
 
 pub record IsLocks (events : List Event) (h : Holders) : Type 0 where

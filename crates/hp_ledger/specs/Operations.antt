@@ -13,10 +13,11 @@ use Rattle.hp_model.specs.MapLock.{Operation, operation}
 use Rattle.hp_model.specs.Sequence.{Next, walks, ends, answers, target_of}
 use Rattle.hp_suspend.specs.Freezing.{IsFreezing}
 use Rattle.hp_suspend.specs.Thawing.{IsThawing}
+use Rattle.hp_suspend.specs.Batching.{IsBatching}
 use Rattle.hp_suspend.specs.Booting.{IsBooting}
 use Rattle.hp_ledger.specs.declared.operation.OneWalk.{OneWalk}
 use Rattle.hp_ledger.specs.declared.operation.Sequence.{Sequence}
-use Rattle.hp_ledger.specs.declared.operation.Sequence.TheVariants.{Single, Freeze, Thaw, Boot, NoWalk}
+use Rattle.hp_ledger.specs.declared.operation.Sequence.TheVariants.{Single, Freeze, Thaw, Boot, Batch, NoWalk}
 use Rattle.hp_ledger.specs.declared.operation.Held.{Held}
 
 -- one walk, and its answer once it has ended
@@ -38,6 +39,7 @@ IsSequence head entered events (op.Target c v) (Single w) = IsSingle c (target_o
 IsSequence head entered events (op.Boot n) (Boot b) = IsBooting n events b
 IsSequence head entered events (op.Freeze p) (Freeze f) = IsFreezing head entered events p f
 IsSequence head entered events op.Thaw (Thaw t) = IsThawing events t
+IsSequence head entered events (op.UpMany set) (Batch b) = IsBatching head entered events set b
 IsSequence head entered events op.Disable NoWalk = Unit {0}
 IsSequence head entered events op.Enable NoWalk = Unit {0}
 IsSequence head entered events op sequence = ⊥
@@ -46,12 +48,14 @@ IsSequence head entered events op sequence = ⊥
 abbrev pub HasCounts : Sequence → Type 0
 HasCounts (Thaw t) = t.failed < MAX_EVENTS
 HasCounts (Boot b) = (b.failed < MAX_EVENTS) × (b.turned_back < MAX_EVENTS)
+HasCounts (Batch b) = b.failed < MAX_EVENTS
 HasCounts _ = Unit {0}
 
 -- its counts are of no more walks than a journal has events
 abbrev pub IsFew : Sequence → Type 0
 IsFew (Thaw t) = t.failed ≤ MAX_EVENTS
 IsFew (Boot b) = b.failed ≤ MAX_EVENTS
+IsFew (Batch b) = b.failed ≤ MAX_EVENTS
 IsFew _ = Unit {0}
 
 pub record IsHeld (head : Head) (events : List Event) (h : Held) : Type 0 where

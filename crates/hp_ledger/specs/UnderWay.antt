@@ -1,19 +1,29 @@
--- What is under way in a machine, as the account says it: the walk in flight or the registration in flight, or nothing; and the
--- entry of it that a seat makes. This project's own.
-use Rattle.std.specs.Prelude.{◌≡◌, ◌==◌, if◌then◌else◌, ℕ, Option, Some, None, option_map, List, []}
+-- What is under way in a machine, as the account keeps it: the one walk in flight or the registration in flight, or nothing; of an
+-- upmany that walks nothing is kept. And the entry of it that a seat makes. This project's own.
+use Rattle.std.specs.Prelude.{◌≡◌, ◌==◌, ◌<◌, ◌≤◌, ◌&&◌, if◌then◌else◌, ℕ, Bool, true, Option, Some, None, List, [], ◌⊎◌}
+use Rattle.hp_event.specs.Hows.{is_called}
+use Rattle.hp_event.specs.declared.how.How.{How}
 use Rattle.hp_event.specs.declared.head.Head.{Head}
 use Rattle.hp_event.specs.declared.event.Event.{Event}
+use Rattle.hp_model.specs.Batch.{is_upmany}
 use Rattle.hp_model.specs.Events.{seat_of}
+use Rattle.hp_model.specs.Lent.{cpu_of}
+use Rattle.hp_model.specs.MapLock.{operation}
+use Rattle.hp_model.specs.NextEvent.{due_entry}
 use Rattle.hp_model.specs.Registrations.{registration}
+use Rattle.hp_model.specs.Seats.{ap_seat}
 use Rattle.hp_model.specs.UnderWay.{under_way}
-use Rattle.hp_model.specs.Walks.{walking}
+use Rattle.hp_model.specs.Suspend.{held_by}
+use Rattle.hp_model.specs.Walks.{walking, is_walking}
 use Rattle.hp_ledger.specs.declared.coming.Coming.{Coming}
 use Rattle.hp_ledger.specs.declared.coming.Coming.TheVariants as coming
 use Rattle.hp_ledger.specs.declared.entry.Entry.{Entry}
+use Rattle.hp_ledger.specs.declared.entry.Means.{Means}
+use Rattle.hp_ledger.specs.declared.entry.Means.TheVariants.{Hook}
 use Rattle.hp_ledger.specs.declared.next.Next.{Next}
 use Rattle.hp_ledger.specs.declared.next.Next.TheVariants as next
 use Rattle.hp_locks.specs.declared.why.Why.TheVariants.{ApTurn}
-use Rattle.hp_ledger.specs.Coming.{IsComing}
+use Rattle.hp_ledger.specs.Coming.{IsComing, end_event}
 
 -- nothing walks, and no registration is in flight
 pub record NothingUnderWay (head : Head) (events : List Event) : Type 0 where
@@ -21,8 +31,12 @@ pub record NothingUnderWay (head : Head) (events : List Event) : Type 0 where
   pub no_walk : walking events ≡ []
   pub no_registration : registration events ≡ None
 
+-- whether an upmany is in flight, and a processor walks
+abbrev pub is_batch_walking : List Event → Bool
+is_batch_walking events = held_by is_upmany (operation events) && is_walking events
+
 abbrev pub IsUnderWay : Head → List Event → Option Coming → Type 0
-IsUnderWay head events None = NothingUnderWay head events
+IsUnderWay head events None = NothingUnderWay head events ⊎ (is_batch_walking events ≡ true)
 IsUnderWay head events (Some what) = IsComing head events what
 
 -- the entry, where it is this seat's to make
@@ -33,18 +47,39 @@ entry_of k (Some x) = if x.seat == k then Some x else None
 abbrev pub due_by : (seat : ℕ) → Option Coming → Option Entry
 due_by k None = None
 due_by k (Some (coming.Entry client cpu entry)) = entry_of k entry
-due_by k (Some (coming.End event)) = None
+due_by k (Some (coming.End e)) = None
 
--- the seat that makes the entry, if one does
-abbrev pub due_seat_by : Option Coming → Option ℕ
-due_seat_by None = None
-due_seat_by (Some (coming.Entry client cpu entry)) = option_map (λ x. x.seat) entry
-due_seat_by (Some (coming.End event)) = None
+-- an entry of a processor is due from a seat
+pub record IsDueOn (head : Head) (events : List Event) (cpu seat : ℕ) : Type 0 where
+  pub entry : Event
+  pub due : due_entry head events seat ≡ Some entry
+  pub cpu_is : cpu_of entry ≡ cpu
+
+-- and none is of a processor from one number on up to another
+abbrev pub NoneDue : Head → List Event → (from to : ℕ) → Type 0
+NoneDue head events from to = (cpu seat : ℕ) → from ≤ cpu → cpu < to → IsDueOn head events cpu seat → ⊥
+
+-- an entry of a processor is due from its thread
+pub record IsThreadDue (head : Head) (events : List Event) (cpu seat : ℕ) : Type 0 where
+  pub thread_is : ap_seat cpu events ≡ Some seat
+  pub due : IsDueOn head events cpu seat
+
+abbrev pub NoThreadDue : Head → List Event → (from to : ℕ) → Type 0
+NoThreadDue head events from to = (cpu seat : ℕ) → from ≤ cpu → cpu < to → IsThreadDue head events cpu seat → ⊥
 
 -- what comes next of a seat in what is under way: its event, its entry, or that the client waits for a processor's thread
 abbrev pub next_by : (seat : ℕ) → Option Coming → Option Next
 next_by k None = None
-next_by k (Some (coming.End e)) = if seat_of e == k then Some (next.Event e 0) else None
+next_by k (Some (coming.End e)) = if seat_of (end_event e) == k then Some (next.Event (end_event e) 0) else None
 next_by k (Some (coming.Entry client cpu None)) = if client == k then Some (next.Wait (ApTurn cpu)) else None
 next_by k (Some (coming.Entry client cpu (Some x))) =
     if x.seat == k then Some (next.Entry x) else (if client == k then Some (next.Wait (ApTurn cpu)) else None)
+
+-- the state whose hook an entry calls that is made so, if it calls one
+abbrev pub hook_asked : (state : ℕ) → How → Option ℕ
+hook_asked s how = if is_called how then Some s else None
+
+-- the state whose hook an entry calls that is made by this, if it calls one
+abbrev pub hook_by : (state : ℕ) → Means → Option ℕ
+hook_by s Hook = Some s
+hook_by s means = None

@@ -30,7 +30,8 @@ impl Ledger {
     ///
     /// - `Entry` where the entry that comes next is the seat's to make.
     /// - `Event` with the room that it takes: the end of its walk or its registration, or, while nothing
-    ///   walks, the begin of its next walk or its end, with `LogFull` where there is no room for a walk.
+    ///   walks or more walks of an upmany are to begin, the begin of its next walk or its end, with `LogFull`
+    ///   where there is no room for a walk.
     /// - `Wait` where the thread of a processor has to make the next entry, or readers or a registration
     ///   keep out the next walk.
     pub(crate) fn goes_on<H: Hook>(&self, table: &Table<H>, seat: u32) -> Next
@@ -38,11 +39,15 @@ impl Ledger {
         requires busy { is_busy seat self.now.events ≡ true }
         ensures { (op : AnOp) → IsNext self.now.head self.now.events seat op result }
     {
-        if let Some(next) = next_from(self.coming, seat) {
+        if let Some(next) = next_from(&self.coming, seat) {
             return next;
         }
-        match &self.parts.operation {
-            Some(held) => self.parts.next_of_holder(table, held, self.room()),
+        let parts = &self.parts;
+        if let Some((batch, lowest)) = parts.batch_walking() {
+            return parts.next_in_batch(table, seat, batch, lowest);
+        }
+        match &parts.operation {
+            Some(held) => parts.next_of_holder(table, held, self.room()),
             None => unreachable!(),
         }
     }
@@ -80,7 +85,7 @@ impl Parts {
             from,
             to: ask.to,
         };
-        let need = self.need(table, event);
+        let need = self.need(table, &event);
         if need <= room {
             Next::Event { event, need }
         } else {
@@ -91,16 +96,23 @@ impl Parts {
 
 /// What comes next of a seat in what is under way: its event, its entry, or that its client waits for
 /// the thread of a processor.
-fn next_from(coming: Option<Coming>, seat: u32) -> Option<Next>
-    ensures { result ≡ next_by seat coming }
+pub(crate) fn next_from(coming: &Option<Coming>, seat: u32) -> Option<Next>
+    ensures { result ≡ next_by seat coming.now }
 {
-    match coming? {
-        Coming::End(event) if event.seat() == seat => Some(Next::Event { event, need: 0 }),
-        Coming::Entry {
-            entry: Some(entry),
-            ..
-        } if entry.seat == seat => Some(Next::Entry(entry)),
-        Coming::Entry { client, cpu, .. } if client == seat => Some(Next::Wait(Why::ApTurn(cpu))),
+    match coming {
+        Some(Coming::End(ending)) if ending.seat() == seat => Some(Next::Event {
+            event: ending.event(),
+            need: 0,
+        }),
+        Some(
+            Coming::Entry {
+                entry: Some(entry),
+                ..
+            },
+        ) if entry.seat == seat => Some(Next::Entry(*entry)),
+        Some(Coming::Entry { client, cpu, .. }) if *client == seat => {
+            Some(Next::Wait(Why::ApTurn(*cpu)))
+        }
         _ => None,
     }
 }

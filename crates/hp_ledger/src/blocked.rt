@@ -29,21 +29,21 @@ impl Parts {
     /// - `Refused` where it is refused: at once, or where nothing keeps it waiting after the waits.
     /// - `Waits` where it isn't refused at once, and something keeps it waiting.
     ///
-    /// There is no condition. Takes no memory, and time for the state's instances or the range. After
-    /// the calls of `kernel/cpu.c`; that what is refused at once doesn't wait first is this project's
-    /// own.
+    /// There is no condition. Takes no memory, and time for the state's instances, the range or the
+    /// absent processors. After the calls of `kernel/cpu.c`; that what is refused at once doesn't wait
+    /// first is this project's own.
     pub fn refusal<H: Hook>(
         &self,
         head: &Head,
         table: &Table<H>,
         seat: u32,
-        op: Op,
+        op: &Op,
     ) -> Result<(), Blocked>
         ensures passes { OnOk result ((events : List Event) → IsAccount head.now events self.now →
-            IsTableOf head.now events table.now → is_busy seat events ≡ false → Passes head.now events seat op) }
+            IsTableOf head.now events table.now → is_busy seat events ≡ false → Passes head.now events seat op.now) }
         ensures blocked { IfErr result (λ blocked. (events : List Event) → IsAccount head.now events self.now →
             IsTableOf head.now events table.now → is_busy seat events ≡ false →
-            IsBlockedBy head.now events seat op blocked) }
+            IsBlockedBy head.now events seat op.now blocked) }
     {
         if let Some(errno) = self.refusal_at_once(head, seat, op) {
             return Err(Blocked::Refused(errno));

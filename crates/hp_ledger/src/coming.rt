@@ -2,10 +2,11 @@
 
 ghost use Rattle.std.specs.Prelude.{◌≡◌, IfSome, IsSome};
 ghost use Rattle.hp_table.specs.Step.{step_at};
-ghost use Rattle.hp_ledger.specs.Coming.{has_callback_by, means_in_walk};
+ghost use Rattle.hp_model.specs.Events.{seat_of};
+ghost use Rattle.hp_ledger.specs.Coming.{due_beyond, thread_due_beyond, end_event, has_callback_by, means_in_walk, waits_by};
 
 use crate::entry::{Entry, Means};
-use hp_event::{Event, Key};
+use hp_event::{Answer, Event, Key};
 use hp_hook::Hook;
 use hp_states::{Dir, Place, may_fail};
 use hp_table::Table;
@@ -24,8 +25,86 @@ pub enum Coming {
         cpu: u32,
         entry: Option<Entry>,
     },
-    /// Its end: this event, of the client.
-    End(Event),
+    /// Its end.
+    End(Ending),
+}
+
+/// The end of a walk or of a registration in flight, with its answer.
+///
+/// Plain data, which takes no memory.
+#[derive(Clone, Copy)]
+pub enum Ending {
+    /// The end of the walk of a processor, for an operation of the seat.
+    Walk { seat: u32, cpu: u32, answer: Answer },
+    /// The end of the registration of the seat.
+    Registration { seat: u32, answer: Answer },
+}
+
+impl Ending {
+    /// The seat that ends it. Takes no memory.
+    pub(crate) fn seat(&self) -> u32
+        ensures { result ≡ seat_of (end_event self.now) }
+    {
+        match self {
+            Ending::Walk { seat, .. } | Ending::Registration { seat, .. } => *seat,
+        }
+    }
+
+    /// The event that it is. Takes no memory.
+    pub(crate) fn event(&self) -> Event
+        ensures { result ≡ end_event self.now }
+    {
+        match *self {
+            Ending::Walk { seat, cpu, answer } => Event::WalkEnd { seat, cpu, answer },
+            Ending::Registration { seat, answer } => Event::RegEnd { seat, answer },
+        }
+    }
+}
+
+impl Coming {
+    /// The processor whose thread has to make the entry, where this seat is the client that waits for it.
+    pub(crate) fn waits_of(&self, seat: u32) -> Option<u32>
+        ensures { result ≡ waits_by seat self.now }
+    {
+        match self {
+            Coming::Entry { client, cpu, entry } if *client == seat => match entry {
+                Some(entry) if entry.seat == seat => None,
+                _ => Some(*cpu),
+            },
+            _ => None,
+        }
+    }
+
+    /// The processor of the entry, and the seat that makes it, where one makes it and the processor is this one
+    /// or a later one.
+    pub(crate) fn due_beyond(&self, from: u32) -> Option<(u32, u32)>
+        ensures { result ≡ due_beyond from self.now }
+    {
+        match self {
+            Coming::Entry {
+                entry: Some(entry),
+                ..
+            } if entry.cpu >= from => Some((entry.cpu, entry.seat)),
+            _ => None,
+        }
+    }
+}
+
+impl Coming {
+    /// The processor of the entry, and the seat that makes it, where that is a thread's and the processor is this
+    /// one or a later one.
+    pub(crate) fn thread_due_beyond(&self, from: u32) -> Option<(u32, u32)>
+        ensures { result ≡ thread_due_beyond from self.now }
+    {
+        match self {
+            Coming::Entry {
+                client,
+                entry: Some(entry),
+                ..
+            } if entry.seat != *client && entry.cpu >= from => Some((entry.cpu, entry.seat)),
+            _ => None,
+        }
+    }
 }
 
 /// Whether what is registered at a state has a callback of a direction.

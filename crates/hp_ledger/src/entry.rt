@@ -2,6 +2,7 @@
 
 ghost use Rattle.std.specs.Prelude.{◌≡◌};
 ghost use Rattle.hp_ledger.specs.Entries.{how_by, entry_made};
+ghost use Rattle.hp_ledger.specs.UnderWay.{hook_by};
 
 use hp_event::{Event, How, Key};
 use hp_states::{Dir, Place};
@@ -37,6 +38,18 @@ pub struct Entry {
     pub place: Place,
     /// What it is made by.
     pub means: Means,
+}
+
+impl Means {
+    /// The state whose hook makes it, which is this one, if a hook does.
+    pub(crate) fn hook_at(&self, state: u32) -> Option<u32>
+        ensures { result ≡ hook_by state self.now }
+    {
+        match self {
+            Means::Hook => Some(state),
+            _ => None,
+        }
+    }
 }
 
 impl Entry {

@@ -46,19 +46,19 @@ impl Parts {
         head: &Head,
         table: &Table<H>,
         seat: u32,
-        op: Op,
+        op: &Op,
         room: u32,
     ) -> Next
         ensures { (events : List AnEvent) → IsLawful head.now events → IsAccount head.now events self.now →
             IsTableOf head.now events table.now → room + length events + promised head.now events ≡ MAX_EVENTS →
-            role_of seat events ≡ Some Client → is_busy seat events ≡ false → names_sub head.now op ≡ true →
-            IsNext head.now events seat op result }
+            role_of seat events ≡ Some Client → is_busy seat events ≡ false → names_sub head.now op.now ≡ true →
+            IsNext head.now events seat op.now result }
     {
         let event = match self.first_event(head, table, seat, op) {
             Ok(event) => event,
             Err(why) => return Next::Wait(why),
         };
-        let need = self.need(table, event);
+        let need = self.need(table, &event);
         if need <= room {
             Next::Event { event, need }
         } else {
@@ -73,31 +73,35 @@ impl Parts {
         head: &Head,
         table: &Table<H>,
         seat: u32,
-        op: Op,
+        op: &Op,
     ) -> Result<Event, Why>
         ensures kind { IfOk result IsFirst }
         ensures event { IfOk result (λ event. (events : List AnEvent) → IsLawful head.now events →
             IsAccount head.now events self.now → IsTableOf head.now events table.now → IsFree events seat →
-            names_sub head.now op ≡ true → first_event head.now events seat op ≡ Some event) }
+            names_sub head.now op.now ≡ true → first_event head.now events seat op.now ≡ Some event) }
         ensures waits { IfErr result (λ why. (events : List AnEvent) → IsAccount head.now events self.now →
-            IsTableOf head.now events table.now → IsFree events seat → names_sub head.now op ≡ true →
-            IsKept head.now events seat op why) }
+            IsTableOf head.now events table.now → IsFree events seat → names_sub head.now op.now ≡ true →
+            IsKept head.now events seat op.now why) }
     {
         match self.refusal(head, table, seat, op) {
             Err(Blocked::Waits(why)) => Err(why),
-            Err(Blocked::Refused(errno)) => Ok(Event::Refused { seat, errno, op }),
+            Err(Blocked::Refused(errno)) => Ok(Event::Refused {
+                seat,
+                errno,
+                op: *op,
+            }),
             Ok(()) => Ok(self.begin(table, seat, op)),
         }
     }
 
     /// The event that an operation begins with that is neither refused nor kept waiting.
-    fn begin<H: Hook>(&self, table: &Table<H>, seat: u32, op: Op) -> Event
+    fn begin<H: Hook>(&self, table: &Table<H>, seat: u32, op: &Op) -> Event
         ensures kind { IsFirst result }
         ensures begins { (head : AHead) (events : List AnEvent) → IsLawful head events → IsAccount head events self.now →
-            IsTableOf head events table.now → is_busy seat events ≡ false → Passes head events seat op →
-            Some result ≡ begin_of head events seat op }
+            IsTableOf head events table.now → is_busy seat events ≡ false → Passes head events seat op.now →
+            Some result ≡ begin_of head events seat op.now }
     {
-        match op {
+        match *op {
             Op::Up(_)
             | Op::Down(_)
             | Op::Target(..)
@@ -105,10 +109,15 @@ impl Parts {
             | Op::Disable
             | Op::Enable
             | Op::Freeze(_)
-            | Op::Thaw => Event::Enter { seat, op },
+            | Op::Thaw
+            | Op::UpMany(_) => Event::Enter { seat, op: *op },
             Op::Setup { .. } | Op::Remove { .. } | Op::Add { .. } | Op::Del { .. } => {
                 let state = resolved(table, op).unwrap_or(OFFLINE);
-                Event::RegBegin { seat, state, op }
+                Event::RegBegin {
+                    seat,
+                    state,
+                    op: *op,
+                }
             }
             Op::Lock => Event::ReadLock { seat },
             Op::Unlock => Event::ReadUnlock { seat },
@@ -140,11 +149,11 @@ impl Parts {
 
 /// The state of a registration: for a setup of a range the lowest of its states without a name, if there
 /// is one, and else the state that is asked for.
-fn resolved<H: Hook>(table: &Table<H>, op: Op) -> Option<u32>
+fn resolved<H: Hook>(table: &Table<H>, op: &Op) -> Option<u32>
     ensures { (head : AHead) (events : List AnEvent) → IsTableOf head events table.now → registration events ≡ None →
-        result ≡ resolved head events op }
+        result ≡ resolved head events op.now }
 {
-    match op {
+    match *op {
         Op::Setup { state, .. } => match Range::asked_by(state) {
             Some(range) => table.slot(range).ok(),
             None => Some(state),

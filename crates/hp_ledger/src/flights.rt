@@ -1,22 +1,29 @@
 //! Walks in flight.
 
-ghost use Rattle.std.specs.Prelude.{◌≡◌, ◌≢◌, ◌<◌, ◌≤◌, ℕ, IfOk, IsSome, List, length};
+ghost use Rattle.std.specs.Prelude.{◌≡◌, ◌≢◌, ◌<◌, ◌≤◌, ℕ, true, false, is_some, IfOk, IfSome, IfNone, IsSome, Option, List, length};
+ghost use Rattle.hp_states.specs.CpuSets.{IsLowestFrom, HasNoneFrom};
+ghost use Rattle.hp_states.specs.declared.limits.TheConstants.{MAX_CPU_SET};
 ghost use Rattle.hp_event.specs.declared.head.Head.{Head};
 ghost use Rattle.hp_event.specs.declared.event.Event.{Event};
 ghost use Rattle.hp_walk.specs.After.{IsWithin};
 ghost use Rattle.hp_walk.specs.Cursor.{cpu_of, to_of};
 ghost use Rattle.hp_walk.specs.Keys.{keys_by};
-ghost use Rattle.hp_ledger.specs.Coming.{IsComing};
+ghost use Rattle.hp_states.specs.declared.dir.Dir.{Dir};
+ghost use Rattle.hp_event.specs.declared.how.How.{How};
+ghost use Rattle.hp_model.specs.StandsCalls.{WalkEntry};
+ghost use Rattle.hp_ledger.specs.UnderWay.{hook_asked};
+ghost use Rattle.hp_ledger.specs.WalkComing.{IsNextOn};
 ghost use Rattle.hp_ledger.specs.Places.{at_place};
 ghost use Rattle.hp_ledger.specs.Flights.{IsFlights};
 ghost use Rattle.hp_ledger.specs.Walking.{IsOneOf, IsBeside};
 ghost use Rattle.hp_ledger.specs.FlightChanges.{IsStill, Begun, IsGoing, CanGoOn, IfWalks, WentOn, Ended};
+ghost use Rattle.hp_ledger.specs.BatchTurns.{asks_own, asks_entry, FliesWithin};
 
-use crate::coming::{Coming, means_in_walk};
+use crate::coming::{Coming, Ending, means_in_walk};
 use crate::entry::Entry;
-use hp_event::{Event, How};
+use hp_event::How;
 use hp_hook::Hook;
-use hp_states::{NoMemory, ONLINE, is_ap};
+use hp_states::{CpuSet, NoMemory, ONLINE, is_ap};
 use hp_table::Table;
 use hp_walk::{Step, Walk};
 use std::alloc::Global;
@@ -41,10 +48,12 @@ impl Flight {
     /// entries of AP states, and the seat whose operation walks all others. Takes no memory, and a
     /// time that doesn't grow with the table. After `cpuhp_invoke_callback` and
     /// `cpuhp_invoke_ap_callback` of `kernel/cpu.c`.
+    #[inline(always)]
     pub fn next<H: Hook>(&self, table: &Table<H>, armed: Option<u32>, thread: Option<u32>) -> Coming
         requires { IsWithin (keys_by table.now) self.now.walk }
         ensures { (head : Head) (events : List Event) → IsOneOf head events self.now →
-            IsBeside head events table.now (cpu_of self.now.walk) armed thread → IsComing head events result }
+            IsBeside head events table.now (cpu_of self.now.walk) armed thread →
+            IsNextOn head events (cpu_of self.now.walk) result }
     {
         let cpu = self.walk.cpu();
         match self.walk.next(table) {
@@ -74,11 +83,35 @@ impl Flight {
                     entry,
                 }
             }
-            Step::Ended(answer) => Coming::End(Event::WalkEnd {
+            Step::Ended(answer) => Coming::End(Ending::Walk {
                 seat: self.seat,
                 cpu,
                 answer,
             }),
+        }
+    }
+}
+
+impl Flight {
+    /// The state whose hook the entry calls that comes next in the walk, if it is an entry and calls one.
+    ///
+    /// The keys of the table are those at the walk's begin, and `armed` is the state at which its processor is
+    /// armed. Takes no memory, and a time that doesn't grow with the table.
+    pub(crate) fn hook_asked<H: Hook>(&self, table: &Table<H>, armed: Option<u32>) -> Option<u32>
+        requires { IsWithin (keys_by table.now) self.now.walk }
+        ensures { (head : Head) (events : List Event) (thread : Option ℕ) → IsOneOf head events self.now →
+            IsBeside head events table.now (cpu_of self.now.walk) armed thread →
+            (s i : ℕ) (d : Dir) (how : How) → WalkEntry head events (cpu_of self.now.walk) s i d how →
+            result ≡ hook_asked s how }
+    {
+        match self.walk.next(table) {
+            Step::Call {
+                key,
+                dir,
+                place,
+                first,
+            } => means_in_walk(table, armed, key, dir, place, first).hook_at(key.state),
+            Step::Ended(_) => None,
         }
     }
 }
@@ -88,8 +121,8 @@ impl Flight {
 pub struct Flights {
     /// The walk of each possible processor, if it walks.
     pub(crate) by_cpu: Vec<Option<Flight>>,
-    /// The processor that walks: one at most does.
-    pub(crate) walking: Option<u32>,
+    /// The processors that walk: but in an upmany one at most does.
+    pub(crate) walking: CpuSet,
 }
 
 impl Flights {
@@ -105,7 +138,7 @@ impl Flights {
         }
         Ok(Flights {
             by_cpu,
-            walking: None,
+            walking: CpuSet::none(),
         })
     }
 
@@ -124,6 +157,7 @@ impl Flights {
         need: u32,
     )
         requires cpu { cpu < length self.old.by_cpu.items }
+        requires few { cpu < MAX_CPU_SET }
         requires states { (from ≤ ONLINE) × (to ≤ ONLINE) × (from ≢ to) }
         requires need { 0 < need }
         ensures { Begun (keys_by table.now) seat cpu from to need self.old self.new }
@@ -133,7 +167,7 @@ impl Flights {
             walk: Walk::begin(table, cpu, from, to),
             left: need - 1,
         });
-        self.walking = Some(cpu);
+        self.walking.put(cpu);
     }
 
     /// Goes on past the entry that the walk of a processor asks for: `how` says how it was made.
@@ -162,12 +196,13 @@ impl Flights {
     /// `cpus_write_unlock` of `kernel/cpu.c`, which ends it there.
     pub fn end(&mut self, cpu: u32) -> u32
         requires cpu { cpu < length self.old.by_cpu.items }
+        requires few { cpu < MAX_CPU_SET }
         requires walks { IfWalks (at_place self.old.by_cpu.items cpu) (λ flight. 0 < flight.left) }
         ensures { Ended cpu result self.old self.new }
     {
         match self.by_cpu[cpu as usize].take() {
             Some(flight) => {
-                self.walking = None;
+                self.walking.take(cpu);
                 flight.left - 1
             }
             None => unreachable!(),
@@ -187,17 +222,56 @@ impl Flights {
         }
     }
 
-    /// The processor that walks, if one does. Takes no memory. After `cpu_hotplug_lock` of
-    /// `kernel/cpu.c`, whose write side one walk holds.
-    pub fn walking(&self) -> Option<u32>
-        ensures { result ≡ self.now.walking }
+    /// The lowest processor from one on that walks, if one does. Takes no memory. After `cpumask_next` of
+    /// `linux/cpumask.h`.
+    pub fn walking_from(&self, from: u32) -> Option<u32>
+        ensures some { IfSome result (λ cpu. IsLowestFrom self.now.walking from cpu) }
+        ensures none { IfNone result (HasNoneFrom self.now.walking from) }
     {
-        self.walking
+        self.walking.first_from(from)
+    }
+
+    /// Whether a processor walks. There is no condition; a number that is no processor doesn't. Takes no memory.
+    pub(crate) fn walks(&self, cpu: u32) -> bool
+        ensures { result ≡ is_some (at_place self.now.by_cpu.items cpu) }
+    {
+        matches!(self.by_cpu.get(cpu as usize), Some(Some(_)))
+    }
+
+    /// Whether a processor walks whose next event is that of its operation's seat: the end of its walk, or an
+    /// entry at a state that no thread serves.
+    ///
+    /// Takes no memory, and a time that doesn't grow with the table.
+    #[inline(always)]
+    pub(crate) fn is_own<H: Hook>(&self, table: &Table<H>, cpu: u32) -> bool
+        requires { FliesWithin (keys_by table.now) (at_place self.now.by_cpu.items cpu) }
+        ensures { result ≡ asks_own (keys_by table.now) (at_place self.now.by_cpu.items cpu) }
+    {
+        match self.by_cpu.get(cpu as usize) {
+            Some(Some(flight)) => match flight.walk.next(table) {
+                Step::Call { key, .. } => !is_ap(key.state),
+                Step::Ended(_) => true,
+            },
+            _ => false,
+        }
+    }
+
+    /// Whether a processor walks whose next event is an entry. Takes no memory, and a time that doesn't grow
+    /// with the table.
+    pub(crate) fn has_entry<H: Hook>(&self, table: &Table<H>, cpu: u32) -> bool
+        requires { FliesWithin (keys_by table.now) (at_place self.now.by_cpu.items cpu) }
+        ensures { result ≡ asks_entry (keys_by table.now) (at_place self.now.by_cpu.items cpu) }
+    {
+        match self.by_cpu.get(cpu as usize) {
+            Some(Some(flight)) => matches!(flight.walk.next(table), Step::Call { .. }),
+            _ => false,
+        }
     }
 
     /// What comes next in the walk of a processor: as `Flight::next`.
     ///
     /// The processor walks. Takes no memory, and a time that doesn't grow with the table.
+    #[inline(always)]
     pub fn next<H: Hook>(
         &self,
         table: &Table<H>,
@@ -208,10 +282,32 @@ impl Flights {
         requires cpu { cpu < length self.now.by_cpu.items }
         requires walks { IfWalks (at_place self.now.by_cpu.items cpu) (λ flight. IsWithin (keys_by table.now) flight.walk) }
         ensures { (head : Head) (events : List Event) → IsFlights head events self.now →
-            IsBeside head events table.now cpu armed thread → IsComing head events result }
+            IsBeside head events table.now cpu armed thread → IsNextOn head events cpu result }
     {
         match &self.by_cpu[cpu as usize] {
             Some(flight) => flight.next(table, armed, thread),
+            None => unreachable!(),
+        }
+    }
+
+    /// The state whose hook the entry calls that comes next in the walk of a processor: as
+    /// `Flight::hook_asked`.
+    ///
+    /// The processor walks. Takes no memory, and a time that doesn't grow with the table.
+    pub(crate) fn hook_asked<H: Hook>(
+        &self,
+        table: &Table<H>,
+        cpu: u32,
+        armed: Option<u32>,
+    ) -> Option<u32>
+        requires cpu { cpu < length self.now.by_cpu.items }
+        requires walks { IfWalks (at_place self.now.by_cpu.items cpu) (λ flight. IsWithin (keys_by table.now) flight.walk) }
+        ensures { (head : Head) (events : List Event) (thread : Option ℕ) → IsFlights head events self.now →
+            IsBeside head events table.now cpu armed thread → (s i : ℕ) (d : Dir) (how : How) →
+            WalkEntry head events cpu s i d how → result ≡ hook_asked s how }
+    {
+        match &self.by_cpu[cpu as usize] {
+            Some(flight) => flight.hook_asked(table, armed),
             None => unreachable!(),
         }
     }

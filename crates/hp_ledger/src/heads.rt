@@ -17,14 +17,15 @@ pub fn are_absent(head: &Head) -> bool
     is_rising(absent) && are_below(absent, head.possible)
 }
 
-/// Whether an operation speaks of subsystems of a head alone.
+/// Whether an operation speaks of subsystems of a head alone, and an upmany of a processor.
 ///
 /// There is no condition. Takes no memory. This project's own.
-pub fn names_sub(head: &Head, op: Op) -> bool
-    ensures { result ≡ names_sub head.now op }
+pub fn names_sub(head: &Head, op: &Op) -> bool
+    ensures { result ≡ names_sub head.now op.now }
 {
-    match op {
+    match *op {
         Op::Setup { sub, .. } => head.sub(sub).is_some(),
+        Op::UpMany(ref set) => !set.is_empty(),
         _ => true,
     }
 }

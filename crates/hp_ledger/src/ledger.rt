@@ -1,6 +1,6 @@
 //! The ledger.
 
-ghost use Rattle.std.specs.Prelude.{◌≡◌, ◌+◌, ◌<◌, ◌↔◌, ◌++◌, ◌∷◌, [], true, false, Option, None, Some, IfOk, IfSome, OnOk, OnErr, IsErrOf, List, length, option_map, IsSome, ℕ};
+ghost use Rattle.std.specs.Prelude.{◌≡◌, ◌+◌, ◌<◌, ◌≤◌, ◌↔◌, ◌++◌, ◌∷◌, [], true, false, Option, None, Some, IfOk, IfSome, IfNone, OnOk, OnErr, IsErrOf, List, length, option_map, ℕ};
 ghost use Rattle.hp_states.specs.declared.limits.TheConstants.{MAX_EVENTS};
 ghost use Rattle.hp_event.specs.declared.event.Event.TheVariants.{Admit};
 ghost use Rattle.hp_event.specs.declared.event.Role.TheVariants.{Client};
@@ -12,7 +12,7 @@ ghost use Rattle.hp_model.specs.Lawful.{Stands};
 ghost use Rattle.hp_model.specs.Lists.{among};
 ghost use Rattle.hp_model.specs.MapLock.{Operation, operation};
 ghost use Rattle.hp_model.specs.Needs.{need, taken};
-ghost use Rattle.hp_model.specs.NextEvent.{due_entry};
+ghost use Rattle.hp_model.specs.ApTurn.{IsApTurn};
 ghost use Rattle.hp_model.specs.Pending.{IsInFlight};
 ghost use Rattle.hp_model.specs.Promised.{promised};
 ghost use Rattle.hp_model.specs.Readers.{is_reading};
@@ -26,12 +26,13 @@ ghost use Rattle.hp_ledger.specs.Leaving.{can_leave};
 ghost use Rattle.hp_ledger.specs.Ledger.{NoAdmission};
 ghost use Rattle.hp_ledger.specs.Next.{IsNext, IsDue};
 ghost use Rattle.hp_ledger.specs.Table.{IsTableOf};
+ghost use Rattle.hp_ledger.specs.UnderWay.{IsDueOn, NoneDue, IsThreadDue, NoThreadDue, hook_asked};
 
 use crate::coming::Coming;
 use crate::entry::Entry;
 use crate::next::Next;
 use crate::parts::Parts;
-use crate::under_way::{due_from, seat_from};
+use crate::under_way::due_from;
 use hp_event::{Event, Head, Journal, JournalError, Op, Role};
 use hp_hook::Hook;
 use hp_states::{MAX_EVENTS, NoMemory};
@@ -214,10 +215,10 @@ impl Ledger {
     ///
     /// The table is the journal's. Takes no memory, and time for the processors or for the states that a
     /// walk crosses.
-    pub fn need<H: Hook>(&self, table: &Table<H>, event: Event) -> u32
+    pub fn need<H: Hook>(&self, table: &Table<H>, event: &Event) -> u32
         requires table { IsTableOf self.now.head self.now.events table.now }
-        requires stands { Stands self.now.head self.now.events event }
-        ensures { result ≡ taken (need self.now.head self.now.events event) }
+        requires stands { Stands self.now.head self.now.events event.now }
+        ensures { result ≡ taken (need self.now.head self.now.events event.now) }
     {
         let _ = &self.reserved;
         self.parts.need(table, event)
@@ -246,11 +247,11 @@ impl Ledger {
     /// What is reserved counts as room. Takes no memory, and time for the state's instances, the range,
     /// the processors or the states that a walk crosses, and none for the journal. After the calls of
     /// `kernel/cpu.c`; that one event comes next, and room, are this project's own.
-    pub fn next<H: Hook>(&self, table: &Table<H>, seat: u32, op: Op) -> Next
+    pub fn next<H: Hook>(&self, table: &Table<H>, seat: u32, op: &Op) -> Next
         requires table { IsTableOf self.now.head self.now.events table.now }
         requires client { role_of seat self.now.events ≡ Some Client }
-        requires subs { names_sub self.now.head op ≡ true }
-        ensures { IsNext self.now.head self.now.events seat op result }
+        requires subs { names_sub self.now.head op.now ≡ true }
+        ensures { IsNext self.now.head self.now.events seat op.now result }
     {
         if self.is_busy(seat) {
             return self.goes_on(table, seat);
@@ -262,37 +263,101 @@ impl Ledger {
     /// The entry that is due from a seat: what comes next of what is under way, where it is an entry and
     /// this seat's to make.
     ///
-    /// There is no condition. Takes no memory, and looks at no event. After `cpuhp_invoke_callback`
+    /// The table is the journal's. Takes no memory, and looks at no event. After `cpuhp_invoke_callback`
     /// and `cpuhp_invoke_ap_callback` of `kernel/cpu.c`.
-    pub fn due(&self, seat: u32) -> Option<Entry>
+    pub fn due<H: Hook>(&self, table: &Table<H>, seat: u32) -> Option<Entry>
+        requires { IsTableOf self.now.head self.now.events table.now }
         ensures { IsDue self.now.head self.now.events seat result }
     {
-        let _ = &self.reserved;
-        due_from(self.coming, seat)
+        match &self.coming {
+            Some(_) => due_from(&self.coming, seat),
+            None => self.parts.due_in_batch(table, seat),
+        }
     }
 
-    /// The seat that an entry is due from, if one is: there is at most one at any time.
+    /// The lowest processor from one on of which an entry is due, and the seat that it is due from, if there is
+    /// one. Of one processor at most one entry is due, and but in an upmany of one alone.
     ///
-    /// There is no condition. Takes no memory, and looks at no event. After `cpuhp_invoke_callback`
-    /// and `cpuhp_invoke_ap_callback` of `kernel/cpu.c`.
-    pub fn due_seat(&self) -> Option<u32>
-        ensures { (k : ℕ) → IsSome (due_entry self.now.head self.now.events k) ↔ (result ≡ Some k) }
+    /// The table is the journal's. Takes no memory, and time for the processors that walk. After
+    /// `cpuhp_invoke_callback` and `cpuhp_invoke_ap_callback` of `kernel/cpu.c`.
+    pub fn next_due<H: Hook>(&self, table: &Table<H>, from: u32) -> Option<(u32, u32)>
+        requires { IsTableOf self.now.head self.now.events table.now }
+        ensures some { IfSome result (λ due. (from ≤ due.0) × IsDueOn self.now.head self.now.events due.0 due.1
+            × NoneDue self.now.head self.now.events from due.0) }
+        ensures none { IfNone result (NoneDue self.now.head self.now.events from self.now.head.possible) }
     {
-        let _ = &self.reserved;
-        seat_from(self.coming)
+        match &self.coming {
+            Some(coming) => coming.due_beyond(from),
+            None => self.parts.next_due_in_batch(table, from),
+        }
+    }
+
+    /// The lowest processor from one on of which an entry is due from its thread, and the thread's seat, if there is
+    /// one.
+    ///
+    /// The table is the journal's. Takes no memory, and time for the processors whose threads make the next
+    /// entries. After `cpuhp_thread_fun` of `kernel/cpu.c`.
+    pub fn next_thread_due<H: Hook>(&self, table: &Table<H>, from: u32) -> Option<(u32, u32)>
+        requires { IsTableOf self.now.head self.now.events table.now }
+        ensures some { IfSome result (λ due. (from ≤ due.0) × IsThreadDue self.now.head self.now.events due.0 due.1
+            × NoThreadDue self.now.head self.now.events from due.0) }
+        ensures none { IfNone result (NoThreadDue self.now.head self.now.events from self.now.head.possible) }
+    {
+        table.sound();
+        match &self.coming {
+            Some(coming) => coming.thread_due_beyond(from),
+            None => self.parts.next_thread_due_in_batch(from),
+        }
+    }
+
+    /// The processor whose thread has to make the next entry of the operation of a client's seat that is in
+    /// flight, if one has: then the seat waits for it.
+    ///
+    /// The table is the journal's. Takes no memory, and looks at no event. After `cpuhp_kick_ap` of
+    /// `kernel/cpu.c`.
+    pub fn ap_turn<H: Hook>(&self, table: &Table<H>, seat: u32) -> Option<u32>
+        requires { IsTableOf self.now.head self.now.events table.now }
+        ensures { (cpu : ℕ) → IsApTurn self.now.head self.now.events seat cpu ↔ (result ≡ Some cpu) }
+    {
+        table.sound();
+        match &self.coming {
+            Some(coming) => coming.waits_of(seat),
+            None => self.parts.ap_turn_in_batch(seat),
+        }
+    }
+
+    /// The state whose hook the next entry on a processor calls, where a client waits for that processor's thread
+    /// to make it; None where it calls none.
+    ///
+    /// The table is the journal's. Takes no memory, and looks at no event. After `cpuhp_invoke_ap_callback` of
+    /// `kernel/cpu.c`; that hooks are lent is this project's own.
+    pub fn hook_asked<H: Hook>(&self, table: &Table<H>, cpu: u32) -> Option<u32>
+        requires { IsTableOf self.now.head self.now.events table.now }
+        ensures { (seat : ℕ) (turn : IsApTurn self.now.head self.now.events seat cpu) →
+            result ≡ hook_asked turn.state turn.how }
+    {
+        let parts = &self.parts;
+        if parts.flights.walks(cpu) {
+            return parts.hook_on(table, cpu);
+        }
+        match &parts.registration {
+            Some(registration) => registration.hook_asked(&self.journal, table, &parts.processors),
+            None => None,
+        }
     }
 
     /// Whether a seat can leave: it is in, reads nothing, has nothing in flight, and no entry is due from
     /// it.
     ///
-    /// There is no condition. Takes no memory, and looks at no event. Seats are this project's own.
-    pub fn can_leave(&self, seat: u32) -> bool
+    /// The table is the journal's. Takes no memory, and looks at no event. Seats are this project's own.
+    pub fn can_leave<H: Hook>(&self, table: &Table<H>, seat: u32) -> bool
+        requires { IsTableOf self.now.head self.now.events table.now }
         ensures { result ≡ can_leave self.now.head self.now.events seat }
     {
         self.role(seat).is_some()
             && !self.is_reading(seat)
             && !self.is_busy(seat)
-            && self.due(seat).is_none()
+            && self.due(table, seat).is_none()
     }
 
     /// Reserves room for the event that comes and for what has to follow it: `n` events.
@@ -326,20 +391,20 @@ impl Ledger {
     /// It isn't an admission (`admit` makes those), room is reserved for what it needs, and the table is
     /// that of the journal with the event. Takes no memory, and a time that doesn't grow with the
     /// journal or the table.
-    pub fn append<H: Hook>(&mut self, table: &Table<H>, event: Event)
-        requires stands { Stands self.old.head self.old.events event }
-        requires no_admission { NoAdmission event }
-        requires room { self.old.reserved ≡ taken (need self.old.head self.old.events event) }
-        requires table { IsTableOf self.old.head (self.old.events ++ event ∷ []) table.now }
+    pub fn append<H: Hook>(&mut self, table: &Table<H>, event: &Event)
+        requires stands { Stands self.old.head self.old.events event.now }
+        requires no_admission { NoAdmission event.now }
+        requires room { self.old.reserved ≡ taken (need self.old.head self.old.events event.now) }
+        requires table { IsTableOf self.old.head (self.old.events ++ event.now ∷ []) table.now }
         ensures { self.new
             ≡ record self.old {
-              events = self.old.events ++ event ∷ [];
+              events = self.old.events ++ event.now ∷ [];
               reserved = 0;
             } }
     {
         table.sound();
         let freed = self.parts.append(table, event, self.reserved);
-        self.journal.push(event);
+        self.journal.push(*event);
         self.journal.give_back(freed);
         self.reserved = 0;
         self.coming = self.parts.under_way(&self.journal, table);

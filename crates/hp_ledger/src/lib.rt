@@ -14,7 +14,9 @@
 //! and `change_table` take memory, and no call looks at the events.
 #![tactic(auto)]
 
+mod absent;
 mod append;
+mod batch;
 mod between;
 mod blocked;
 mod coming;

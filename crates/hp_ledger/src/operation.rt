@@ -1,13 +1,13 @@
 //! The operation that holds the map lock.
 
-ghost use Rattle.std.specs.Prelude.{◌≡◌, ◌≤◌, ℕ, true, Some, None, List, [], ◌∷◌, ◌++◌, length, slice_index};
+ghost use Rattle.std.specs.Prelude.{◌≡◌, ◌≤◌, ◌<◌, ℕ, true, Some, None, List, [], ◌∷◌, ◌++◌, length, slice_index};
 ghost use Rattle.hp_states.specs.declared.limits.TheConstants.{MAX_CPUS};
 ghost use Rattle.hp_event.specs.declared.head.Head.{Head as AHead};
 ghost use Rattle.hp_event.specs.declared.event.Event.{Event as AnEvent};
-ghost use Rattle.hp_event.specs.declared.event.Event.TheVariants.{Enter, WalkEnd};
-ghost use Rattle.hp_event.specs.Ops.{is_map_op};
+ghost use Rattle.hp_event.specs.declared.event.Event.TheVariants.{Enter, WalkBegin, WalkEnd};
+ghost use Rattle.hp_event.specs.Ops.{is_map_op, is_upmany};
 ghost use Rattle.hp_event.specs.declared.op.Op.{Op as AnOp};
-ghost use Rattle.hp_model.specs.Lawful.{IsLawful};
+ghost use Rattle.hp_model.specs.Lawful.{Comes, IsLawful};
 ghost use Rattle.hp_model.specs.MapLock.{Operation, operation};
 ghost use Rattle.hp_model.specs.Sequence.{next as next_of, target_of};
 ghost use Rattle.hp_model.specs.Walks.{walking};
@@ -21,7 +21,7 @@ use crate::processors::Processors;
 use crate::suspended::Suspended;
 use hp_event::{Answer, Op};
 use hp_states::{OFFLINE, ONLINE};
-use hp_suspend::{Asked, Boot, Freeze, Thaw, WalkAsk};
+use hp_suspend::{Asked, Batch, Boot, Freeze, Thaw, WalkAsk};
 
 /// One walk of a processor to a state, with its answer once it has ended.
 #[derive(Clone, Copy)]
@@ -45,6 +45,8 @@ pub enum Sequence {
     Thaw(Thaw),
     /// A boot.
     Boot(Boot),
+    /// An upmany, whose walks are in flight together.
+    Batch(Batch),
     /// A disable or an enable.
     NoWalk,
 }
@@ -63,22 +65,22 @@ pub struct Held {
 impl Sequence {
     /// The walks of an operation that has just entered, with none behind it.
     ///
-    /// `online` says of each possible processor whether it is online. Of an operation that doesn't take
+    /// The processors say where each stands and whether it is online. Of an operation that doesn't take
     /// the map lock there are none. Takes no memory. After `_cpu_up`, `_cpu_down` and their callers in
     /// `kernel/cpu.c`.
-    pub fn begin(op: Op, online: &[bool]) -> Sequence
-        requires few { length online.now ≤ MAX_CPUS }
-        requires map { is_map_op op ≡ true }
-        ensures { (head : AHead) (before : List AnEvent) (seat : ℕ) → AreOnline head before online.now →
-            IsSequence head before (before ++ Enter seat op ∷ []) op result }
+    pub fn begin(op: &Op, processors: &Processors) -> Sequence
+        requires map { is_map_op op.now ≡ true }
+        ensures { (head : AHead) (before : List AnEvent) (seat : ℕ) → IsStanding head before processors.now →
+            IsSequence head before (before ++ Enter seat op.now ∷ []) op.now result }
     {
-        match op {
+        match *op {
             Op::Up(cpu) => one_walk(cpu, ONLINE),
             Op::Down(cpu) => one_walk(cpu, OFFLINE),
             Op::Target(cpu, value) => one_walk(cpu, target_of(value)),
             Op::Boot(max) => Sequence::Boot(Boot::begin(max)),
-            Op::Freeze(primary) => Sequence::Freeze(Freeze::begin(primary, online)),
+            Op::Freeze(primary) => Sequence::Freeze(Freeze::begin(primary, processors.online())),
             Op::Thaw => Sequence::Thaw(Thaw::begin()),
+            Op::UpMany(ref set) => Sequence::Batch(Batch::begin(set, processors.settled())),
             _ => Sequence::NoWalk,
         }
     }
@@ -98,12 +100,32 @@ impl Sequence {
             Sequence::Freeze(freeze) => freeze.took(answer),
             Sequence::Thaw(thaw) => thaw.took(answer),
             Sequence::Boot(boot) => boot.took(answer),
+            Sequence::Batch(batch) => batch.took(answer),
             Sequence::NoWalk => {}
         }
     }
 }
 
 impl Held {
+    /// Whether it is an upmany.
+    pub(crate) fn is_upmany(&self) -> bool
+        ensures { result ≡ is_upmany self.now.op }
+    {
+        matches!(self.op, Op::UpMany(_))
+    }
+
+    /// Goes on past the begin of the walk of a processor, which came next of it. Takes no memory.
+    pub(crate) fn began(&mut self, cpu: u32)
+        requires { cpu < MAX_CPUS }
+        ensures { (head : AHead) (events : List AnEvent) (seat from to : ℕ) → IsLawful head events →
+            Comes head events (WalkBegin seat cpu from to) → IsHeld head events self.old →
+            IsHeld head (events ++ WalkBegin seat cpu from to ∷ []) self.new }
+    {
+        if let Sequence::Batch(batch) = &mut self.sequence {
+            batch.began(cpu);
+        }
+    }
+
     /// What comes next: a walk, or the end with its answer.
     ///
     /// While nothing walks it is what the journal says of the operation, where the processors and the
@@ -123,6 +145,10 @@ impl Held {
             Sequence::Freeze(freeze) => freeze.next(processors.online(), suspended.wakeup()),
             Sequence::Thaw(thaw) => thaw.next(suspended.frozen(), settled),
             Sequence::Boot(boot) => boot.next(processors.present(), processors.online()),
+            Sequence::Batch(batch) => match batch.next() {
+                Some(cpu) => Asked::Walk(WalkAsk { cpu, to: ONLINE }),
+                None => Asked::Ended(Answer::Ok(batch.failed() as i32)),
+            },
             Sequence::NoWalk => Asked::Ended(Answer::Ok(0)),
         }
     }

@@ -16,6 +16,7 @@ ghost use Rattle.hp_ledger.specs.Account.{IsAccount};
 ghost use Rattle.hp_model.specs.Refusals.{refusals_of_way};
 ghost use Rattle.hp_ledger.specs.Table.{IsTableOf};
 
+use crate::absent::lists_absent;
 use crate::parts::Parts;
 use crate::refusals_at_once::invalid;
 use hp_event::{Head, Op};
@@ -30,9 +31,9 @@ impl Parts {
     /// waiting, and it isn't refused at once.
     ///
     /// The first of these that holds decides:
-    /// - an up, a down and a boot: `EBUSY` where hotplug is disabled, and for a down where one processor
-    ///   alone is online; `EINVAL` where the processor isn't present. An enable: `EINVAL` where hotplug
-    ///   isn't disabled.
+    /// - an up, a down, a boot and an upmany: `EBUSY` where hotplug is disabled, and for a down where one
+    ///   processor alone is online; `EINVAL` where the processor, or one that an upmany lists, isn't
+    ///   present. An enable: `EINVAL` where hotplug isn't disabled.
     /// - a target: `EINVAL` where the state has no name or a walk can't be aimed at it; then as an up where
     ///   it is above the processor's state, and as a down, of any processor, where it is below.
     /// - an arming, but for -1: `EINVAL` where the state is none, is atomic, is a PREPARE state that the
@@ -43,22 +44,28 @@ impl Parts {
     ///   `ENOSPC` where the state has 256 instances or the table 4,096. A del: `EINVAL` where the state has
     ///   no instance list or not the instance.
     ///
-    /// Takes no memory, and time for the state's instances or the range. After `cpu_up`, `cpu_down`,
-    /// `target_store`, `fail_store` and the registration calls of `kernel/cpu.c`; each condition, its
+    /// Takes no memory, and time for the state's instances, the range or the absent processors. After
+    /// `cpu_up`, `cpu_down`, `target_store`, `fail_store` and the registration calls of `kernel/cpu.c`; each condition, its
     /// number and its place are this project's own.
-    pub fn refusal_after_waits<H: Hook>(&self, head: &Head, table: &Table<H>, op: Op) -> Option<u32>
+    pub fn refusal_after_waits<H: Hook>(
+        &self,
+        head: &Head,
+        table: &Table<H>,
+        op: &Op,
+    ) -> Option<u32>
         ensures { (events : List Event) (seat : ℕ) → IsAccount head.now events self.now →
-            IsTableOf head.now events table.now → is_waiting events op ≡ false →
-            first_that_holds (refusals_at_once head.now events seat op) ≡ None →
-            result ≡ first_that_holds (refusals_after_waits head.now events op) }
+            IsTableOf head.now events table.now → is_waiting events op.now ≡ false →
+            first_that_holds (refusals_at_once head.now events seat op.now) ≡ None →
+            result ≡ first_that_holds (refusals_after_waits head.now events op.now) }
     {
         let disabled = self.suspended.disabled() > 0;
-        match op {
+        match *op {
             Op::Up(cpu) => busy_or_invalid(disabled, !head.is_present(cpu)),
             Op::Down(cpu) => {
                 busy_or_invalid(disabled || self.is_one_online(), !head.is_present(cpu))
             }
             Op::Boot(_) => busy_or_invalid(disabled, false),
+            Op::UpMany(ref set) => busy_or_invalid(disabled, lists_absent(head, set)),
             Op::Enable => invalid(!disabled),
             Op::Target(cpu, to) => self.refused_target(head, table, cpu, to),
             Op::Arm(_, -1) => None,

@@ -19,30 +19,31 @@ impl Parts {
     /// - `EDEADLK` where the seat reads, and asks for the map lock, for another read section, or for a
     ///   registration that isn't of the locked form;
     /// - `EPERM` where it doesn't read, and ends a read section or registers in the locked form;
-    /// - `EINVAL` where the processor isn't possible, the target no state, the state of a setup 0 or 200
-    ///   or above or its subsystem without a name, or the instance of an add 0.
+    /// - `EINVAL` where the processor, or one that an upmany lists, isn't possible, the target no state, the
+    ///   state of a setup 0 or 200 or above or its subsystem without a name, or the instance of an add 0.
     ///
     /// There is no condition. Takes no memory. After the calls of `kernel/cpu.c`; each condition, its
     /// number and its place are this project's own.
-    pub fn refusal_at_once(&self, head: &Head, seat: u32, op: Op) -> Option<u32>
+    pub fn refusal_at_once(&self, head: &Head, seat: u32, op: &Op) -> Option<u32>
         ensures { (events : List Event) → IsAccount head.now events self.now →
-            result ≡ first_that_holds (refusals_at_once head.now events seat op) }
+            result ≡ first_that_holds (refusals_at_once head.now events seat op.now) }
     {
         refused_at_once(head, self.locks.reading(seat), op)
     }
 }
 
 /// The number by which an operation of a seat is refused at once that reads or doesn't.
-fn refused_at_once(head: &Head, reading: bool, op: Op) -> Option<u32>
+fn refused_at_once(head: &Head, reading: bool, op: &Op) -> Option<u32>
     ensures { (events : List Event) (seat : ℕ) → reading ≡ is_reading seat events →
-        result ≡ first_that_holds (refusals_at_once head.now events seat op) }
+        result ≡ first_that_holds (refusals_at_once head.now events seat op.now) }
 {
-    match op {
+    match *op {
         Op::Up(cpu) | Op::Down(cpu) => refused_reader(reading, cpu >= head.possible),
         Op::Target(cpu, to) => refused_reader(reading, cpu >= head.possible || !is_state(to)),
         Op::Boot(_) | Op::Disable | Op::Enable | Op::Freeze(_) | Op::Thaw | Op::Lock => {
             refused_reader(reading, false)
         }
+        Op::UpMany(ref set) => refused_reader(reading, set.first_from(head.possible).is_some()),
         Op::Unlock => (!reading).then_some(EPERM),
         Op::Arm(cpu, _) | Op::ShowState(cpu) | Op::ShowTarget(cpu) | Op::ShowFail(cpu) => {
             invalid(cpu >= head.possible)

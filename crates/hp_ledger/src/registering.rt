@@ -1,9 +1,10 @@
 //! The registration in flight.
 
-ghost use Rattle.std.specs.Prelude.{◌≡◌, ◌<◌, ◌≤◌, true, IfSome, IsSome};
+ghost use Rattle.std.specs.Prelude.{◌≡◌, ◌<◌, ◌≤◌, true, IfSome, IsSome, ℕ};
 ghost use Rattle.hp_states.specs.declared.limits.TheConstants.{MAX_CPUS, ONLINE};
 ghost use Rattle.hp_model.specs.Events.{is_registration_op};
 ghost use Rattle.hp_model.specs.How.{is_nocalls};
+ghost use Rattle.hp_model.specs.Lawful.{IsLawful};
 ghost use Rattle.hp_table.specs.Step.{step_at};
 ghost use Rattle.hp_ledger.specs.RegisteringChanges.{HasBegun, WentOnBy};
 ghost use Rattle.hp_ledger.specs.Registering.{IsRegistering};
@@ -11,13 +12,17 @@ ghost use Rattle.hp_ledger.specs.RegistrationMeans.{means_of, seat_by};
 ghost use Rattle.hp_ledger.specs.Table.{IsTableOf};
 ghost use Rattle.hp_ledger.specs.Seats.{IsRoll};
 ghost use Rattle.hp_ledger.specs.Processors.{IsStanding};
+ghost use Rattle.hp_states.specs.declared.dir.Dir.{Dir};
+ghost use Rattle.hp_event.specs.declared.how.How.{How};
+ghost use Rattle.hp_model.specs.StandsCalls.{RegistrationEntry};
 ghost use Rattle.hp_ledger.specs.Coming.{IsComing};
+ghost use Rattle.hp_ledger.specs.UnderWay.{hook_asked};
 
-use crate::coming::{Coming, has_callback};
+use crate::coming::{Coming, Ending, has_callback};
 use crate::entry::{Entry, Means};
 use crate::processors::Processors;
 use crate::seats::Seats;
-use hp_event::{Event, How, Journal, Op};
+use hp_event::{How, Journal, Op};
 use hp_hook::Hook;
 use hp_reg::{Reg, RegStep};
 use hp_states::{Dir, MAX_CPUS, ONLINE, is_ap};
@@ -63,10 +68,12 @@ impl Registering {
 
     /// What comes next: an entry, with what it is made by and by whom, or the end.
     ///
-    /// The journal, the table, the processors and the seats are those in which it is in flight. An entry
+    /// The journal, which is lawful, the table, the processors and the seats are those in which it is in
+    /// flight. An entry
     /// is the processor's thread's at an AP state, unless it is presumed, and else the client's; it is
     /// presumed where the form is without calls. Takes no memory, and looks at no event. After
     /// `cpuhp_invoke_callback` and `cpuhp_invoke_ap_callback` of `kernel/cpu.c`.
+    #[inline(always)]
     pub fn next<H: Hook>(
         &self,
         journal: &Journal,
@@ -74,6 +81,7 @@ impl Registering {
         processors: &Processors,
         seats: &Seats,
     ) -> Coming
+        requires lawful { IsLawful journal.now.head journal.now.events }
         requires registering { IsRegistering journal.now.head journal.now.events self.now }
         requires table { IsTableOf journal.now.head journal.now.events table.now }
         requires standing { IsStanding journal.now.head journal.now.events processors.now }
@@ -82,7 +90,7 @@ impl Registering {
     {
         let absent = journal.head().absent.as_slice();
         match self.reg.next(table, processors.settled(), absent) {
-            RegStep::Ended(answer) => Coming::End(Event::RegEnd {
+            RegStep::Ended(answer) => Coming::End(Ending::Registration {
                 seat: self.seat,
                 answer,
             }),
@@ -108,6 +116,29 @@ impl Registering {
                     entry,
                 }
             }
+        }
+    }
+
+    /// The state whose hook the entry calls that comes next, if it is an entry and calls one.
+    ///
+    /// The journal, the table and the processors are those in which it is in flight. Takes no memory, and
+    /// looks at no event.
+    pub(crate) fn hook_asked<H: Hook>(
+        &self,
+        journal: &Journal,
+        table: &Table<H>,
+        processors: &Processors,
+    ) -> Option<u32>
+        requires registering { IsRegistering journal.now.head journal.now.events self.now }
+        requires table { IsTableOf journal.now.head journal.now.events table.now }
+        requires standing { IsStanding journal.now.head journal.now.events processors.now }
+        ensures { (c s i : ℕ) (d : Dir) (how : How) → RegistrationEntry journal.now.head journal.now.events c s i d how →
+            result ≡ hook_asked s how }
+    {
+        let absent = journal.head().absent.as_slice();
+        match self.reg.next(table, processors.settled(), absent) {
+            RegStep::Call { key, dir, .. } => self.means(table, key.state, dir).hook_at(key.state),
+            RegStep::Ended(_) => None,
         }
     }
 

@@ -31,26 +31,26 @@ use hp_table::{Record, Table, TableError};
 pub fn change_table<H: Hook>(
     table: &mut Table<H>,
     ledger: &Ledger,
-    event: Event,
+    event: &Event,
     hook: &mut Option<H>,
 ) -> Result<(), NoMemory>
-    requires stands { Stands ledger.now.head ledger.now.events event }
-    requires no_entry { is_call event ≡ false }
+    requires stands { Stands ledger.now.head ledger.now.events event.now }
+    requires no_entry { is_call event.now ≡ false }
     requires table { IsTableOf ledger.now.head ledger.now.events table.old }
-    requires brings { is_registering event ≡ true → is_some hook.old ≡ brings_hook event }
-    requires home { is_registering event ≡ true → AllHome table.old }
-    ensures changed { OnOk result (table.new ≡ table_after ledger.now.head ledger.now.events event table.old) }
-    ensures table { OnOk result (IsTableOf ledger.now.head (ledger.now.events ++ event ∷ []) table.new) }
-    ensures hands { OnOk result (is_registering event ≡ true → is_some hook.new ≡ hands_hook ledger.now.events event) }
-    ensures hook { OnOk result (is_registering event ≡ true →
+    requires brings { is_registering event.now ≡ true → is_some hook.old ≡ brings_hook event.now }
+    requires home { is_registering event.now ≡ true → AllHome table.old }
+    ensures changed { OnOk result (table.new ≡ table_after ledger.now.head ledger.now.events event.now table.old) }
+    ensures table { OnOk result (IsTableOf ledger.now.head (ledger.now.events ++ event.now ∷ []) table.new) }
+    ensures hands { OnOk result (is_registering event.now ≡ true → is_some hook.new ≡ hands_hook ledger.now.events event.now) }
+    ensures hook { OnOk result (is_registering event.now ≡ true →
         IfSome hook.new (λ h. HasCounted (H.counts h) (registering_step (registration ledger.now.events) table.old))) }
-    ensures left { OnOk result (is_registering event ≡ false → hook.new ≡ hook.old) }
+    ensures left { OnOk result (is_registering event.now ≡ false → hook.new ≡ hook.old) }
     ensures err { OnErr result (table.new ≡ table.old) }
     ensures kept { OnErr result (hook.new ≡ hook.old) }
-    ensures memory { OnErr result (IsSome (need ledger.now.head ledger.now.events event)) }
+    ensures memory { OnErr result (IsSome (need ledger.now.head ledger.now.events event.now)) }
 {
-    match event {
-        Event::RegBegin { state, op, .. } => {
+    match *event {
+        Event::RegBegin { state, ref op, .. } => {
             table.sound();
             add_to_table(table, ledger.journal().head(), op, state, hook)
         }
@@ -74,18 +74,18 @@ pub fn change_table<H: Hook>(
 pub fn add_to_table<H: Hook>(
     table: &mut Table<H>,
     head: &Head,
-    op: Op,
+    op: &Op,
     state: u32,
     hook: &mut Option<H>,
 ) -> Result<(), NoMemory>
-    requires can { CanChange head.now op state table.old }
-    requires hook { is_some hook.old ≡ is_setup op }
-    ensures added { OnOk result (table.new ≡ with_added head.now op state table.old) }
+    requires can { CanChange head.now op.now state table.old }
+    requires hook { is_some hook.old ≡ is_setup op.now }
+    ensures added { OnOk result (table.new ≡ with_added head.now op.now state table.old) }
     ensures taken { OnOk result (hook.new ≡ None) }
     ensures err { OnErr result (table.new ≡ table.old) }
     ensures kept { OnErr result (hook.new ≡ hook.old) }
 {
-    match (op, hook.take()) {
+    match (*op, hook.take()) {
         (Op::Setup { sub, .. }, Some(taken)) => match head.sub(sub) {
             Some(found) => set_up(table, state, sub, found, taken),
             None => unreachable!(),

@@ -3,6 +3,7 @@
 ghost use Rattle.std.specs.Prelude.{◌≡◌, List, option_map};
 ghost use Rattle.hp_event.specs.declared.head.Head.{Head};
 ghost use Rattle.hp_event.specs.declared.event.Event.{Event};
+ghost use Rattle.hp_model.specs.Batch.{is_batch_begun};
 ghost use Rattle.hp_model.specs.Seats.{is_busy};
 ghost use Rattle.hp_model.specs.Waits.{wait_to_begin, wait_to_walk};
 ghost use Rattle.hp_ledger.specs.Account.{IsAccount};
@@ -21,12 +22,12 @@ impl Parts {
     /// once. There is no condition. Takes no memory, and a time that doesn't grow with the journal.
     /// After `cpu_add_remove_lock` and `cpu_hotplug_lock` of `kernel/cpu.c`; that a registration keeps
     /// out a target, an arming and the `states` file is this project's own.
-    pub fn wait_to_begin(&self, op: Op) -> Option<Why>
+    pub fn wait_to_begin(&self, op: &Op) -> Option<Why>
         ensures { (head : Head) (events : List Event) → IsAccount head events self.now →
-            result ≡ option_map why_of (wait_to_begin events op) }
+            result ≡ option_map why_of (wait_to_begin events op.now) }
     {
         let locks = &self.locks;
-        match op {
+        match *op {
             Op::Target(..) => locks.wait_for_map().or(locks.wait_for_registration()),
             Op::Arm(_, -1) => None,
             Op::Arm(..) | Op::ShowStates => locks.wait_for_registration(),
@@ -39,7 +40,8 @@ impl Parts {
         }
     }
 
-    /// What a walk waits for before it begins, if anything keeps it: readers, and then a registration.
+    /// What a walk waits for before it begins, if anything keeps it: readers, and then a registration. The
+    /// later walks of an upmany wait for nothing.
     ///
     /// There is no condition. Takes no memory. After `cpus_write_lock` of `kernel/cpu.c`; that a
     /// registration keeps it out is this project's own.
@@ -47,7 +49,21 @@ impl Parts {
         ensures { (head : Head) (events : List Event) → IsAccount head events self.now →
             result ≡ option_map why_of (wait_to_walk events) }
     {
+        if self.has_batch_begun() {
+            return None;
+        }
         self.locks.wait_to_write()
+    }
+
+    /// Whether an upmany is in flight and has begun a walk. Takes no memory.
+    fn has_batch_begun(&self) -> bool
+        ensures { (head : Head) (events : List Event) → IsAccount head events self.now →
+            result ≡ is_batch_begun events }
+    {
+        match self.batch() {
+            Some((_, batch)) => batch.is_begun(),
+            None => false,
+        }
     }
 
     /// Whether an operation of a seat is in flight: it holds the map lock or registers.

@@ -1,6 +1,6 @@
 -- The table is the journal's still where a hook is lent, and where it comes home it is as after a call.
 use Rattle.std.proofs.Common.{◌≡◌, ℕ, Bool, true, false, cond, eqb, Option, Some, None, IfSome, List, [], ◌∷◌, zero, suc, refl, ap, sym, ◌∙◌, subst}
-use Rattle.std.specs.Prelude.{slice_set}
+use Rattle.std.specs.Prelude.{slice_set, IsSome}
 use mathlib.Core.Logic.{dite}
 use native.Mathlib.Decide.{ℕ_discrete}
 use Rattle.hp_states.specs.Rules.{Site}
@@ -12,7 +12,7 @@ use Rattle.hp_model.specs.Registered.{Registered, registered}
 use Rattle.hp_model.specs.Registrations.{Registration, registration}
 use Rattle.hp_reg.specs.Known.{IsKnown}
 use Rattle.hp_hook.specs.Counted.{Counts, counted}
-use Rattle.hp_table.specs.Step.{Step, step_at, changed, changed_at, called_step, lent_step, step_with}
+use Rattle.hp_table.specs.Step.{Step, step_at, changed, changed_at, called_step, lent_step, step_with, is_home}
 use Rattle.hp_table.proofs.Places.{at_each, within_places, step_at-set_same, step_at-set_other}
 use Rattle.hp_ledger.specs.Table.{IsTableOf, IsStepOf, HasOf, HasRegistration, registered_by, registered_in_flight, registered_meanwhile}
 
@@ -128,3 +128,22 @@ table_lent_or_not head es places s t = go (step_at places s) refl
         subst (IsTableOf head es)
         (sym (ap (λ p. slice_set places s (changed lent_step p)) none ∙ set_none places s none)) t
     go (Some step) some = table_lent head es places s step some t
+
+-- nor where its hook is away already
+set_here : (places : List (Option Step)) (s : ℕ) → slice_set places s (step_at places s) ≡ places
+set_here [] s = refl
+set_here (x ∷ xs) zero = refl
+set_here (x ∷ xs) (suc s) = ap (λ t. x ∷ t) (set_here xs s)
+
+pub lent_nothing : (places : List (Option Step)) (s : ℕ) →
+    (IsSome (step_at places s) × (is_home (step_at places s) ≡ true) → ⊥) → changed_at places s lent_step ≡ places
+lent_nothing places s never = ap (slice_set places s) (same (step_at places s) never) ∙ set_here places s
+  where
+    away : (step : Step) (b : Bool) → step.kept.home ≡ b → (IsSome (Some step) × (step.kept.home ≡ true) → ⊥) →
+        Some (lent_step step) ≡ Some step
+    away step true e never = absurd (never (refl, e))
+    away step false e never = ap (λ b. Some (record step { kept = record step.kept { home = b } })) (sym e)
+
+    same : (place : Option Step) → (IsSome place × (is_home place ≡ true) → ⊥) → changed lent_step place ≡ place
+    same None never = refl
+    same (Some step) never = away step step.kept.home refl never

@@ -1,6 +1,7 @@
--- What contracts see of a machine: its head, its events, oldest first, and what stands at each state; and what one event more makes
--- of it. This project's own.
+-- What contracts see of a machine: its head, its events, oldest first, what stands at each state, and the processors for whose entries
+-- hooks are lent; and what one event more makes of it. This project's own.
 use Rattle.std.specs.Prelude.{Option, List, [], ◌∷◌, ◌++◌}
+use Rattle.hp_states.specs.declared.cpu_set.CpuSet.{CpuSet}
 use Rattle.hp_event.specs.declared.head.Head.{Head}
 use Rattle.hp_event.specs.declared.event.Event.{Event}
 use Rattle.hp_table.specs.Step.{Step}
@@ -10,7 +11,13 @@ pub record Contents : Type 0 where
   pub head : Head
   pub events : List Event
   pub places : List (Option Step)
+  pub lent : CpuSet
 
 abbrev pub with_event : Contents → Event → Contents
 with_event m e =
-    record { head = m.head; events = m.events ++ e ∷ []; places = table_after m.head m.events e m.places }
+    record {
+      head = m.head;
+      events = m.events ++ e ∷ [];
+      places = table_after m.head m.events e m.places;
+      lent = m.lent;
+    }

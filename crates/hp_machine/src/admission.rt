@@ -53,7 +53,7 @@ impl<H: Hook> Machine<H> {
             return Err(error);
         }
         let seat = self.admitted();
-        match self.make(Event::Admit { seat, role }, 2, &mut None) {
+        match self.make(&Event::Admit { seat, role }, 2, &mut None) {
             Ok(()) => Ok(seat),
             Err(NoMemory) => Err(AdmitError::NoMemory),
         }
@@ -100,9 +100,7 @@ impl<H: Hook> Machine<H> {
     pub fn can_leave(&self, seat: u32) -> bool
         ensures { IsTrue result ↔ Stands self.now.head self.now.events (Leave seat) }
     {
-        // what is so of every machine
-        let _ = &self.table;
-        self.ledger.can_leave(seat)
+        self.ledger.can_leave(&self.table, seat)
     }
 
     /// Lets a seat go, and answers the place of the event.
@@ -114,7 +112,7 @@ impl<H: Hook> Machine<H> {
         ensures left { self.new ≡ with_event self.old (Leave seat) }
     {
         let at = self.ledger.journal().len();
-        self.ledger.append(&self.table, Event::Leave { seat });
+        self.ledger.append(&self.table, &Event::Leave { seat });
         at
     }
 }

@@ -1,6 +1,6 @@
 //! How one event is made.
 
-ghost use Rattle.std.specs.Prelude.{◌≡◌, ◌+◌, ◌<◌, ◌++◌, ◌∷◌, [], length, true, false, OnOk, OnErr, IfSome, IsSome, is_some};
+ghost use Rattle.std.specs.Prelude.{◌≡◌, ◌+◌, ◌<◌, ◌++◌, ◌∷◌, ◌==◌, ◌&&◌, not, ℕ, [], length, true, false, OnOk, OnErr, IfSome, IsSome, is_some};
 ghost use Rattle.hp_ledger.specs.Entries.{entry_event};
 ghost use Rattle.hp_ledger.specs.Table.{IsTableOf};
 ghost use Rattle.hp_ledger.specs.TableChanges.{is_registering, brings_hook, hands_hook, registering_step, table_after};
@@ -11,6 +11,7 @@ ghost use Rattle.hp_model.specs.Lawful.{Stands};
 ghost use Rattle.hp_model.specs.Needs.{need as need_of, taken};
 ghost use Rattle.hp_model.specs.Promised.{promised};
 ghost use Rattle.hp_model.specs.Registrations.{registration};
+ghost use Rattle.hp_states.specs.CpuSets.{has};
 ghost use Rattle.hp_states.specs.Rules.{site_at};
 ghost use Rattle.hp_states.specs.declared.limits.TheConstants.{MAX_EVENTS};
 ghost use Rattle.hp_hook.specs.Counted.{counted};
@@ -33,19 +34,20 @@ impl<H: Hook> Machine<H> {
     /// lent. Takes memory where the event takes room, if the journal, the seats or the state's instances have
     /// no spare place; where that is wanting nothing has changed: `NoMemory`.
     #[inline(always)]
-    pub fn make(&mut self, event: Event, need: u32, hook: &mut Option<H>) -> Result<(), NoMemory>
-        requires stands { Stands self.old.head self.old.events event }
-        requires no_entry { is_call event ≡ false }
-        requires need { need ≡ taken (need_of self.old.head self.old.events event) }
-        requires brings { is_registering event ≡ true → is_some hook.old ≡ brings_hook event }
-        requires home { is_registering event ≡ true → AllHome self.old.places }
-        ensures made { OnOk result (self.new ≡ with_event self.old event) }
-        ensures hands { OnOk result (is_registering event ≡ true → is_some hook.new ≡ hands_hook self.old.events event) }
-        ensures hook { OnOk result (is_registering event ≡ true →
+    pub fn make(&mut self, event: &Event, need: u32, hook: &mut Option<H>) -> Result<(), NoMemory>
+        requires stands { Stands self.old.head self.old.events event.now }
+        requires no_entry { is_call event.now ≡ false }
+        requires need { need ≡ taken (need_of self.old.head self.old.events event.now) }
+        requires brings { is_registering event.now ≡ true → is_some hook.old ≡ brings_hook event.now }
+        requires home { is_registering event.now ≡ true → AllHome self.old.places }
+        ensures made { OnOk result (self.new ≡ with_event self.old event.now) }
+        ensures hands { OnOk result (is_registering event.now ≡ true →
+            is_some hook.new ≡ hands_hook self.old.events event.now) }
+        ensures hook { OnOk result (is_registering event.now ≡ true →
             IfSome hook.new (λ h. HasCounted (H.counts h) (registering_step (registration self.old.events) self.old.places))) }
-        ensures left { OnOk result (is_registering event ≡ false → hook.new ≡ hook.old) }
+        ensures left { OnOk result (is_registering event.now ≡ false → hook.new ≡ hook.old) }
         ensures err { OnErr result ((self.new ≡ self.old) × (hook.new ≡ hook.old)) }
-        ensures memory { OnErr result (IsSome (need_of self.old.head self.old.events event)) }
+        ensures memory { OnErr result (IsSome (need_of self.old.head self.old.events event.now)) }
     {
         reserve(&mut self.ledger, need)?;
         match put(&mut self.ledger, &mut self.table, event, hook) {
@@ -57,12 +59,12 @@ impl<H: Hook> Machine<H> {
         }
     }
 
-    /// Makes an entry that is due: where its hook decides, that is called once.
+    /// Makes an entry that is due: where its hook decides, that is called once, and isn't lent.
     ///
-    /// That hook isn't lent. Takes no memory. After `cpuhp_invoke_callback` of `kernel/cpu.c`.
+    /// Takes no memory. After `cpuhp_invoke_callback` of `kernel/cpu.c`.
     pub fn make_entry(&mut self, entry: &Entry)
         requires stands { Stands self.old.head self.old.events (entry_event self.old.head self.old.events entry.now) }
-        requires home { is_home (step_at self.old.places entry.now.key.state) ≡ true }
+        requires home { entry.now.means ≡ ByHook → is_home (step_at self.old.places entry.now.key.state) ≡ true }
         ensures { self.new ≡ with_event self.old (entry_event self.old.head self.old.events entry.now) }
     {
         match entry.means {
@@ -70,13 +72,14 @@ impl<H: Hook> Machine<H> {
                 let state = entry.key.state;
                 let answer = self.table.call(state, entry.cpu, entry.key.inst, entry.dir);
                 self.ledger
-                    .append(&self.table, entry.event(entry.how(answer)));
+                    .append(&self.table, &entry.event(entry.how(answer)));
             }
-            _ => self.ledger.append(&self.table, entry.event(entry.how(0))),
+            _ => self.ledger.append(&self.table, &entry.event(entry.how(0))),
         }
     }
 
-    /// Makes an entry that is due by the answer of its hook, which was lent, and puts the hook home.
+    /// Makes an entry that is due by the answer of its hook, which was lent, and puts the hook home; the entry's
+    /// processor isn't among those for which hooks are lent then.
     ///
     /// The hook has counted the call since, and this is its answer. Takes no memory. After
     /// `cpuhp_invoke_callback` of `kernel/cpu.c`; that hooks are lent is this project's own.
@@ -88,11 +91,14 @@ impl<H: Hook> Machine<H> {
             H.counts hook ≡ counted step.kept.counts (site_at entry.now.cpu entry.now.key.inst entry.now.dir)) }
         requires answer { IfSome (step_at self.old.places entry.now.key.state) (λ step.
             answer ≡ answer_at step.kept (site_at entry.now.cpu entry.now.key.inst entry.now.dir)) }
-        ensures { self.new ≡ with_event self.old (entry_event self.old.head self.old.events entry.now) }
+        ensures made { self.new
+            ≡ with_event (record self.old { lent = self.new.lent }) (entry_event self.old.head self.old.events entry.now) }
+        ensures taken { (cpu : ℕ) → has self.new.lent cpu ≡ (not (cpu == entry.now.cpu) && has self.old.lent cpu) }
     {
+        self.lent.take(entry.cpu);
         self.table.restore(entry.key.state, hook);
         self.ledger
-            .append(&self.table, entry.event(entry.how(answer)));
+            .append(&self.table, &entry.event(entry.how(answer)));
     }
 }
 
@@ -126,27 +132,28 @@ fn reserve(ledger: &mut Ledger, need: u32) -> Result<(), NoMemory>
 fn put<H: Hook>(
     ledger: &mut Ledger,
     table: &mut Table<H>,
-    event: Event,
+    event: &Event,
     hook: &mut Option<H>,
 ) -> Result<(), NoMemory>
-    requires stands { Stands ledger.old.head ledger.old.events event }
-    requires no_entry { is_call event ≡ false }
-    requires room { ledger.old.reserved ≡ taken (need_of ledger.old.head ledger.old.events event) }
+    requires stands { Stands ledger.old.head ledger.old.events event.now }
+    requires no_entry { is_call event.now ≡ false }
+    requires room { ledger.old.reserved ≡ taken (need_of ledger.old.head ledger.old.events event.now) }
     requires table { IsTableOf ledger.old.head ledger.old.events table.old }
-    requires brings { is_registering event ≡ true → is_some hook.old ≡ brings_hook event }
-    requires home { is_registering event ≡ true → AllHome table.old }
+    requires brings { is_registering event.now ≡ true → is_some hook.old ≡ brings_hook event.now }
+    requires home { is_registering event.now ≡ true → AllHome table.old }
     ensures put { OnOk result (ledger.new
-        ≡ record { head = ledger.old.head; events = ledger.old.events ++ event ∷ []; reserved = 0 }) }
-    ensures changed { OnOk result (table.new ≡ table_after ledger.old.head ledger.old.events event table.old) }
-    ensures table { OnOk result (IsTableOf ledger.old.head (ledger.old.events ++ event ∷ []) table.new) }
-    ensures hands { OnOk result (is_registering event ≡ true → is_some hook.new ≡ hands_hook ledger.old.events event) }
-    ensures hook { OnOk result (is_registering event ≡ true →
+        ≡ record { head = ledger.old.head; events = ledger.old.events ++ event.now ∷ []; reserved = 0 }) }
+    ensures changed { OnOk result (table.new ≡ table_after ledger.old.head ledger.old.events event.now table.old) }
+    ensures table { OnOk result (IsTableOf ledger.old.head (ledger.old.events ++ event.now ∷ []) table.new) }
+    ensures hands { OnOk result (is_registering event.now ≡ true →
+        is_some hook.new ≡ hands_hook ledger.old.events event.now) }
+    ensures hook { OnOk result (is_registering event.now ≡ true →
         IfSome hook.new (λ h. HasCounted (H.counts h) (registering_step (registration ledger.old.events) table.old))) }
-    ensures left { OnOk result (is_registering event ≡ false → hook.new ≡ hook.old) }
+    ensures left { OnOk result (is_registering event.now ≡ false → hook.new ≡ hook.old) }
     ensures err { OnErr result ((ledger.new ≡ ledger.old) × (table.new ≡ table.old) × (hook.new ≡ hook.old)) }
-    ensures memory { OnErr result (IsSome (need_of ledger.old.head ledger.old.events event)) }
+    ensures memory { OnErr result (IsSome (need_of ledger.old.head ledger.old.events event.now)) }
 {
-    match event {
+    match *event {
         Event::Admit { role, .. } => ledger.admit(table, role),
         _ => {
             change_table(table, ledger, event, hook)?;

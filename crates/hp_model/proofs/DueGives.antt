@@ -1,5 +1,5 @@
 -- What is under way can come, and the entry that is due from a seat is exactly the Call of it that stands.
-use Rattle.std.proofs.Common.{◌≡◌, ℕ, true, ◌&&◌, eqb, is_some, Option, Some, None, List, refl, ap, sym, ◌∙◌, inl, inr, ◌⊎◌, subst}
+use Rattle.std.proofs.Common.{◌≡◌, ℕ, Bool, true, false, ◌&&◌, cond, eqb, is_some, Option, Some, None, List, refl, ap, sym, ◌∙◌, inl, inr, ◌⊎◌, subst}
 use Rattle.std.specs.Prelude.{option_to_list, filter_map, ◌↔◌}
 use Rattle.std.proofs.lemmas.Bool.{true≢false, eqb-true, eq-eqb, and_parts}
 use Rattle.hp_states.specs.declared.dir.Dir.{Dir}
@@ -14,10 +14,11 @@ use Rattle.hp_model.specs.Registrations.{Registration, registration}
 use Rattle.hp_model.specs.MapLock.{is_map_op}
 use Rattle.hp_model.specs.StandsCalls.{InWalk, InRegistration, Calls}
 use Rattle.hp_model.specs.Lawful.{Stands, IsLawful}
-use Rattle.hp_model.specs.UnderWay.{next_of_walk, next_of_registration, under_way}
+use Rattle.hp_model.specs.UnderWay.{next_of_walk, next_of_registration, in_turn, event_in_turn, under_way}
+use Rattle.hp_model.specs.BatchTurn.{has_turn}
 use Rattle.hp_model.specs.NextEvent.{due_entry}
 use Rattle.hp_model.proofs.InFlight.{walking_is}
-use Rattle.hp_model.proofs.Owners.{none_some}
+use Rattle.hp_model.proofs.Owners.{same_some, none_some}
 use Rattle.hp_model.proofs.OneNext.{one_next}
 use Rattle.hp_model.proofs.WalkGives as by_walk
 use Rattle.hp_model.proofs.WalkGives.{Given, walk_given}
@@ -31,9 +32,20 @@ pub data UnderWay (head : Head) (xs : List Event) (e : Event) : Type 0 where
   of_registration : (r : Registration) → registration xs ≡ Some r → Given head xs r.seat is_registration_op e → UnderWay head xs e
 
 walk_way : (head : Head) (xs : List Event) (c : ℕ) (e : Event) (o : Option Walk) → walk c xs ≡ o →
-    next_of_walk head xs c o ≡ Some e → UnderWay head xs e
-walk_way head xs c e None at h = absurd (none_some e h)
-walk_way head xs c e (Some w) at h = of_walk c w at (walk_given head xs c w e at h)
+    has_turn head xs (seat_of e) c ≡ true → next_of_walk head xs c o ≡ Some e → UnderWay head xs e
+walk_way head xs c e None at t h = absurd (none_some e h)
+walk_way head xs c e (Some w) at t h = of_walk c w at (walk_given head xs c w e at t h)
+
+-- what is given in turn
+turn_given : (head : Head) (xs : List Event) (c : ℕ) (e : Event) (o : Option Event) → in_turn head xs c o ≡ Some e →
+    (o ≡ Some e) × (has_turn head xs (seat_of e) c ≡ true)
+turn_given head xs c e None h = absurd (none_some e h)
+turn_given head xs c e (Some x) h = go (has_turn head xs (seat_of x) c) refl h
+  where
+    go : (b : Bool) → has_turn head xs (seat_of x) c ≡ b → cond b (Some x) None ≡ Some e →
+        (Some x ≡ Some e) × (has_turn head xs (seat_of e) c ≡ true)
+    go true t g = (g, rw (same_some x e g) at t)
+    go false t g = absurd (none_some e g)
 
 registration_way : (head : Head) (xs : List Event) (e : Event) (o : Option Registration) → registration xs ≡ o →
     next_of_registration head xs o ≡ Some e → UnderWay head xs e
@@ -43,30 +55,31 @@ registration_way head xs e (Some r) at h = of_registration r at (registration_gi
 pub under_comes : (head : Head) (xs : List Event) (e : Event) → Has (under_way head xs) e → UnderWay head xs e
 unfolding under_way
 under_comes head xs e h =
-    go (has_either (filter_map (λ c. next_of_walk head xs c (walk c xs)) (walking xs)) (option_to_list (next_of_registration head xs (registration xs))) e h)
+    go (has_either (filter_map (event_in_turn head xs) (walking xs)) (option_to_list (next_of_registration head xs (registration xs))) e h)
   where
-    go : Has (filter_map (λ c. next_of_walk head xs c (walk c xs)) (walking xs)) e
+    go : Has (filter_map (event_in_turn head xs) (walking xs)) e
         ⊎ Has (option_to_list (next_of_registration head xs (registration xs))) e → UnderWay head xs e
     go (inl m) =
-        let f = of_map (λ c. next_of_walk head xs c (walk c xs)) (walking xs) e m in
-        walk_way head xs f.0 e (walk f.0 xs) refl f.1
+        let f = of_map (event_in_turn head xs) (walking xs) e m in
+        let g = turn_given head xs f.0 e (next_of_walk head xs f.0 (walk f.0 xs)) f.1 in
+        walk_way head xs f.0 e (walk f.0 xs) refl g.1 g.0
     go (inr m) = registration_way head xs e (registration xs) refl (of_listed (next_of_registration head xs (registration xs)) e m)
 
 some_is : {A : Type 0} (o : Option A) (x : A) → o ≡ Some x → is_some o ≡ true
 some_is o x h = rw h refl
 
 pub walk_under : (head : Head) (xs : List Event) (c : ℕ) (w : Walk) (e : Event) → walk c xs ≡ Some w →
-    next_of_walk head xs c (walk c xs) ≡ Some e → Has (under_way head xs) e
+    has_turn head xs (seat_of e) c ≡ true → next_of_walk head xs c (walk c xs) ≡ Some e → Has (under_way head xs) e
 unfolding under_way
-walk_under head xs c w e at h =
-    has_left (filter_map (λ c. next_of_walk head xs c (walk c xs)) (walking xs)) (option_to_list (next_of_registration head xs (registration xs))) e
-    (has_map (λ c. next_of_walk head xs c (walk c xs)) (walking xs) c e (walking_is c xs ∙ some_is (walk c xs) w at) h)
+walk_under head xs c w e at t h =
+    has_left (filter_map (event_in_turn head xs) (walking xs)) (option_to_list (next_of_registration head xs (registration xs))) e
+    (has_map (event_in_turn head xs) (walking xs) c e (walking_is c xs ∙ some_is (walk c xs) w at) (ap (in_turn head xs c) h ∙ rw t refl))
 
 pub registration_under : (head : Head) (xs : List Event) (e : Event) → next_of_registration head xs (registration xs) ≡ Some e →
     Has (under_way head xs) e
 unfolding under_way
 registration_under head xs e h =
-    has_right (filter_map (λ c. next_of_walk head xs c (walk c xs)) (walking xs)) (option_to_list (next_of_registration head xs (registration xs))) e
+    has_right (filter_map (event_in_turn head xs) (walking xs)) (option_to_list (next_of_registration head xs (registration xs))) e
     (has_listed (next_of_registration head xs (registration xs)) e h)
 
 pub stands_given : (head : Head) (xs : List Event) (e : Event) → UnderWay head xs e → Stands head xs e
@@ -83,7 +96,7 @@ entry_under head xs (Call seat cpu state inst dir how) h c = go h.0
   where
     go : InWalk head xs seat cpu state inst dir how ⊎ InRegistration head xs seat cpu state inst dir how →
         Has (under_way head xs) (Call seat cpu state inst dir how)
-    go (inl w) = walk_under head xs cpu w.entry.of _ w.entry.in_flight (by_walk.gives_entry head xs seat cpu state inst dir how w)
+    go (inl w) = walk_under head xs cpu w.entry.of _ w.entry.in_flight w.turn (by_walk.gives_entry head xs seat cpu state inst dir how w)
     go (inr r) = registration_under head xs _ (by_registration.gives_entry head xs seat cpu state inst dir how r)
 entry_under head xs e h c = absurd (true≢false (sym c))
 

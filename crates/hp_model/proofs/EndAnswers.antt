@@ -15,13 +15,16 @@ use Rattle.hp_model.specs.Journal.{EachAfter}
 use Rattle.hp_model.specs.Lawful.{Comes, Stands, IsLawful}
 use Rattle.hp_model.specs.MapLock.{Operation, operation}
 use Rattle.hp_model.specs.Completes.{IsWoken, counts_failures}
-use Rattle.hp_model.specs.Sequence.{Next, walks, ends, next, answers, failures, single_next, first_next, boot_next, freeze_next, to_boot, to_freeze, to_thaw, target_of}
+use Rattle.hp_model.specs.Sequence.{Next, walks, ends, next, answers, failures, single_next, first_next, boot_next, freeze_next, batch_next, to_boot, to_freeze, to_thaw, target_of}
+use Rattle.hp_model.specs.Batch.{batch, unbegun}
+use Rattle.hp_model.specs.Batch.{is_upmany}
+use Rattle.hp_model.specs.Suspend.{held_by}
 use Rattle.hp_model.specs.Settled.{settled}
 use Rattle.hp_model.specs.Suspend.{is_ok, wakeup_pending}
-use Rattle.hp_model.specs.Walks.{Walk, walk}
+use Rattle.hp_model.specs.Walks.{Walk, walk, is_walking}
 use Rattle.hp_model.proofs.Laws.{walk_push, answers_push, operation_push}
-use Rattle.hp_model.proofs.Owners.{Owners, owners_none, owners_step, same_some, none_some}
-use Rattle.hp_model.proofs.Faultless.{some_item, AreZero, enters_at_rest, no_failures}
+use Rattle.hp_model.proofs.Owners.{Owners, owners_none, owners_step, enters_at_rest, same_some, none_some}
+use Rattle.hp_model.proofs.Faultless.{some_item, AreZero, no_failures}
 
 pub same_end : (a b : Answer) → ends a ≡ ends b → a ≡ b
 same_end a b h = cc
@@ -51,10 +54,18 @@ pub boot_count : (enough : Bool) (xs : List ℕ) (n : ℕ) (answer : Answer) →
 boot_count true xs n answer is = sym (same_end (Ok (pos n)) answer is)
 boot_count false xs n answer is = first_count ONLINE n xs answer is
 
+pub batch_count : (xs : List ℕ) (walking : Bool) (n : ℕ) (answer : Answer) → batch_next xs walking (Ok (pos n)) ≡ ends answer →
+    answer ≡ Ok (pos n)
+batch_count (c ∷ cs) walking n answer is = absurd (no_end c ONLINE answer is)
+batch_count [] true n answer is = absurd (nothing_ends answer is)
+batch_count [] false n answer is = sym (same_end (Ok (pos n)) answer is)
+
 pub count_is : (head : Head) (xs entered : List Event) (asked : Op) (answer : Answer) → counts_failures asked ≡ true →
     next head xs entered asked ≡ ends answer → answer ≡ Ok (pos (length (failures (answers xs))))
 count_is head xs entered (op.Boot n) answer many is = boot_count _ (to_boot head xs) _ answer is
 count_is head xs entered op.Thaw answer many is = first_count ONLINE _ (to_thaw xs) answer is
+count_is head xs entered (op.UpMany set) answer many is =
+    batch_count (unbegun (batch head entered (op.UpMany set)) xs) (is_walking xs) _ answer is
 count_is head xs entered asked answer many is = absurd (true≢false (sym many))
 
 pub zero_count : (xs : List Answer) (answer : Answer) → AreZero xs → answer ≡ Ok (pos (length (failures xs))) → answer ≡ Ok (pos 0)
@@ -93,6 +104,8 @@ over_is head o xs answer ok (op.Freeze p) e is =
 over_is head o xs answer ok (op.Boot n) e is =
     inl (zero_count (answers xs) answer ok (count_is head xs o.before (op.Boot n) answer refl is))
 over_is head o xs answer ok op.Thaw e is = inl (zero_count (answers xs) answer ok (count_is head xs o.before op.Thaw answer refl is))
+over_is head o xs answer ok (op.UpMany set) e is =
+    inl (zero_count (answers xs) answer ok (count_is head xs o.before (op.UpMany set) answer refl is))
 over_is head o xs answer ok asked e is = absurd (nothing_ends answer is)
 
 -- an operation that doesn't count walks one processor, or none
@@ -127,6 +140,10 @@ begins_first head xs entered op.Disable d t few h = absurd (no_end d t (Ok (pos 
 begins_first head xs entered op.Enable d t few h = absurd (no_end d t (Ok (pos 0)) (sym h))
 begins_first head xs entered asked d t few h = absurd (true≢false (sym few))
 
+pub few_walks_one : (asked : Op) → is_few asked ≡ true → is_upmany asked ≡ false
+few_walks_one (op.UpMany set) few = absurd (true≢false (sym few))
+few_walks_one asked few = refl
+
 pub few_step : (head : Head) (xs : List Event) (e : Event) → Comes head xs e → Owners xs → Few xs → Few (xs ++ e ∷ [])
 few_step head xs (Enter seat asked) h own i o held few =
     let none : answers (xs ++ Enter seat asked ∷ []) ≡ [] = answers_push xs (Enter seat asked) in
@@ -143,8 +160,9 @@ few_step head xs (WalkEnd seat cpu answer) h own i o held few =
     let e = WalkEnd seat cpu answer in
     let at = rw (operation_push xs e) at held in
     let k = (i o at few).fresh cpu h.of h.in_flight in
+    let single : held_by is_upmany (operation xs) ≡ false = rw at (few_walks_one o.op few) in
     record {
-      fresh = λ d w q. go d w (λ p. own.one_walk cpu d h.of w h.in_flight p) (eqb cpu d) refl (rw (walk_push d xs e) at q);
+      fresh = λ d w q. go d w (λ p. own.one_walk cpu d h.of w h.in_flight p single) (eqb cpu d) refl (rw (walk_push d xs e) at q);
       most = inr (answer, answers_push xs e ∙ rw k.0 refl, k.1);
     }
   where
@@ -230,4 +248,5 @@ no_failed_walk head xs o answer f held op.Enable e one is ok =
     single_failures head xs o.before op.Enable answer (rw e at (f o held (ap is_few e))) is ok
 no_failed_walk head xs o answer f held (op.Boot n) e one is ok = absurd (true≢false one)
 no_failed_walk head xs o answer f held op.Thaw e one is ok = absurd (true≢false one)
+no_failed_walk head xs o answer f held (op.UpMany set) e one is ok = absurd (true≢false one)
 no_failed_walk head xs o answer f held asked e one is ok = absurd (nothing_ends answer is)

@@ -37,7 +37,7 @@ use Rattle.hp_model.specs.StandsSeats.{Admits}
 use Rattle.hp_model.specs.StandsOperations.{Enters, OpEnds, WalkBegins, WalkEnds}
 use Rattle.hp_model.specs.StandsCalls.{InWalk, InRegistration}
 use Rattle.hp_model.specs.StandsRegistrations.{RegBegins, RegEnds}
-use Rattle.hp_model.specs.Needs.{need, taken}
+use Rattle.hp_model.specs.Needs.{walk_need, need, taken}
 use Rattle.hp_model.specs.Promised.{promised}
 use Rattle.hp_model.specs.Room.{is_room}
 use Rattle.hp_model.specs.Lawful.{Comes, Stands, IsLawful}
@@ -164,6 +164,7 @@ s5 : (head : Head) → Fitting head → Enters head j4 0 (Target 1 (pos 10))
 unfolding registration registered settled disabled operation reading_since role_of
 s5 head f = record {
   free = record { client = refl; idle = refl };
+  has_sub = refl;
   takes_map = refl;
   passes = record { not_refused = rw (f.other, f.possible) refl; not_waiting = refl };
 }
@@ -174,7 +175,7 @@ s6 head = record {
   of = held;
   held = refl;
   seat_is = refl;
-  no_walk = refl;
+  between = refl;
   gives = refl;
   from_is = refl;
   no_wait = refl;
@@ -205,7 +206,7 @@ turned_shape head f = record {
 }
 
 s7 : (head : Head) → Fitting head → InWalk head j6 0 1 10 0 Up (RanFault 5)
-unfolding walk walk_entries registration registered armed sites
+unfolding walk walk_entries registration registered armed sites operation
 s7 head f = record {
   entry = record {
     of = way;
@@ -219,14 +220,16 @@ s7 head f = record {
     how_is = rw (f.first_sub, f.up, f.rules) refl;
   };
   caller_is = refl;
+  turn = refl;
 }
 
 s8 : (head : Head) → Fitting head → WalkEnds head j7 0 1 (Fault 5)
-unfolding walk walk_entries
+unfolding walk walk_entries operation
 s8 head f = record {
   of = way;
   in_flight = refl;
   seat_is = refl;
+  turn = refl;
   whole = record {
     outcome = returned;
     crossings = turned;
@@ -286,10 +289,15 @@ one_key head f =
     let l = ap length (keys_are head f) in
     omega arith
 
+need_is : (head : Head) → need head j5 (WalkBegin 0 1 0 10) ≡ Some (walk_need head j5 0 10)
+unfolding operation
+need_is head = refl
+
 pub lawful : (head : Head) → Fitting head → IsLawful head (j8 ++ OpEnd 0 (Fault 5) ∷ [])
 lawful head f =
     let two = two_present head f in
     let one = one_key head f in
+    let walk = ap taken (need_is head) in
     let g1 = grown head [] (Admit 0 Client) 0 2 (s1 head) (small_first head f.is_head) (omega arith) (omega arith) in
     let g2 = grown head j1 (RegBegin 0 10 setup) 2 8 (s2 head f) g1.small (omega arith) (omega arith) in
     let g3 = grown head j2 (Call 0 0 10 0 Up RanOk) 8 8 (inr (s3 head f)) g2.small (omega arith) (omega arith) in

@@ -6,7 +6,6 @@ use Rattle.std.proofs.lemmas.List.Elements.{filter_map-append, filter-append}
 use Rattle.std.proofs.lemmas.Bool.{true≢false, eqb-true, eq-eqb}
 use Rattle.hp_event.specs.declared.answer.Answer.{Answer}
 use Rattle.hp_event.specs.declared.answer.Answer.TheVariants.{Ok}
-use Rattle.hp_event.specs.declared.op.Op.{Op}
 use Rattle.hp_event.specs.declared.head.Head.{Head}
 use Rattle.hp_event.specs.declared.event.Event.{Event}
 use Rattle.hp_event.specs.declared.event.Event.TheVariants.{Enter, WalkBegin, Call, WalkEnd}
@@ -21,11 +20,10 @@ use Rattle.hp_model.specs.Suspend.{is_ok}
 use Rattle.hp_model.specs.WalkShape.{Outcome, went, returned, stopped, IsWalkShape, IsAnswer}
 use Rattle.hp_model.specs.Walks.{Walk, walk, walk_entries}
 use Rattle.hp_model.proofs.Laws.{over_from_push, walk_push, walk_entries_push, answers_push}
-use Rattle.hp_model.proofs.Owners.{Owners, owners_none, owners_step, map_free, none_some}
+use Rattle.hp_model.proofs.Owners.{Owners, owners_none, owners_step, enters_at_rest, none_some}
 use Rattle.hp_model.proofs.OneAnswer.{failing, failing-crossed}
 use Rattle.hp_model.proofs.WalkEnd.{fill_faults}
-use Rattle.hp_model.specs.StandsOperations.{Enters}
-use Rattle.hp_model.proofs.InFlight.{walk_none}
+use Rattle.hp_model.proofs.BatchLemmas.{begins_still}
 use Rattle.hp_model.specs.Faults.{Faulty, faults}
 use Rattle.hp_model.specs.Crossing.{Crossing, Fill, slots}
 use Rattle.hp_states.specs.declared.dir.Dir.{Dir}
@@ -86,12 +84,6 @@ pub call_own : (es : List Event) (e : Event) (w : Option Walk) (v : Walk) → w 
     codes_of_faults (cond (is_some w) (es ++ e ∷ []) es) ≡ [] → codes_of_faults (e ∷ []) ≡ []
 call_own es e (Some w) v q h = (codes_parts es (e ∷ []) h).1
 call_own es e None v q h = absurd (none_some v q)
-
--- an operation enters where no walk is in flight
-pub enters_at_rest : (head : Head) (xs : List Event) (seat : ℕ) (op : Op) → Owners xs → Enters head xs seat op → (c : ℕ) (w : Walk) →
-    walk c xs ≡ Some w → ⊥
-enters_at_rest head xs seat op o h c w q =
-    let p = o.walk_op c w q in none_some p.0 (sym (map_free xs op h.takes_map h.passes.not_waiting) ∙ p.1)
 
 pub clean_step : (head : Head) (xs : List Event) (e : Event) → Comes head xs e → Owners xs → CleanIf xs → CleanIf (xs ++ e ∷ [])
 clean_step head xs (Enter seat op) h own i none = record {
@@ -213,7 +205,7 @@ faultless_step head xs (WalkBegin seat cpu from to) h own i f =
     (record {
       ended = rw (answers_push xs e) at f.ended;
       in_flight = λ d w q.
-          go d w q (walk_none xs h.no_walk cpu) (eqb cpu d) refl
+          go d w q (begins_still head xs seat cpu from to own h) (eqb cpu d) refl
           (λ v k. rw (walk_entries_push d xs e) at (f.in_flight d v (walk_push d xs e ∙ k)));
     }))
   where

@@ -22,7 +22,7 @@ use Rattle.hp_model.specs.Refusals.{refusals_after_waits, refusal, Passes}
 use Rattle.hp_model.specs.Files.{HasFile}
 use Rattle.hp_model.specs.FirstEvent.{reg_begin, file_shown, begin_of}
 use Rattle.hp_model.specs.Lawful.{Comes}
-use Rattle.hp_model.proofs.WaitLemmas.{registration_waits, writer_waits, register_waits, first_waits}
+use Rattle.hp_model.proofs.WaitLemmas.{is_writing, registration_waits, writer_waits, register_waits, first_waits}
 use Rattle.hp_model.proofs.Passing.{none_holds, passed}
 use Rattle.hp_model.proofs.Owners.{none_some}
 
@@ -62,10 +62,10 @@ registers head xs k op f n p g r = record {
   of = refl;
 }
 
-enters : (head : Head) (xs : List Event) (k : ℕ) (op : Op) → IsFree xs k → is_map_op op ≡ true → Passes head xs k op →
+enters : (head : Head) (xs : List Event) (k : ℕ) (op : Op) → IsFree xs k → names_sub head op ≡ true → is_map_op op ≡ true → Passes head xs k op →
     begin_of head xs k op ≡ Some (Enter k op) → BeginsBy head xs k op
-enters head xs k op f m p g =
-    record { event = Enter k op; given = g; comes = record { free = f; takes_map = m; passes = p }; by = refl; of = refl }
+enters head xs k op f n m p g =
+    record { event = Enter k op; given = g; comes = record { free = f; has_sub = n; takes_map = m; passes = p }; by = refl; of = refl }
 
 shows : (head : Head) (xs : List Event) (k : ℕ) (f : File) (c : ℕ) → IsFree xs k → Passes head xs k (showing f c) →
     HasFile f c → begin_of head xs k (showing f c) ≡ Some (file_shown head xs k f c) → BeginsBy head xs k (showing f c)
@@ -79,14 +79,15 @@ shows head xs k file c f p has g = record {
 
 pub begins : (head : Head) (xs : List Event) (k : ℕ) (op : Op) → IsFree xs k → names_sub head op ≡ true → Passes head xs k op →
     BeginsBy head xs k op
-begins head xs k (Op.Up c) f n p = enters head xs k (Op.Up c) f refl p refl
-begins head xs k (Op.Down c) f n p = enters head xs k (Op.Down c) f refl p refl
-begins head xs k (Target c v) f n p = enters head xs k (Target c v) f refl p refl
-begins head xs k (Boot c) f n p = enters head xs k (Boot c) f refl p refl
-begins head xs k Disable f n p = enters head xs k Disable f refl p refl
-begins head xs k Enable f n p = enters head xs k Enable f refl p refl
-begins head xs k (Freeze c) f n p = enters head xs k (Freeze c) f refl p refl
-begins head xs k Thaw f n p = enters head xs k Thaw f refl p refl
+begins head xs k (Op.Up c) f n p = enters head xs k (Op.Up c) f n refl p refl
+begins head xs k (Op.Down c) f n p = enters head xs k (Op.Down c) f n refl p refl
+begins head xs k (Target c v) f n p = enters head xs k (Target c v) f n refl p refl
+begins head xs k (Boot c) f n p = enters head xs k (Boot c) f n refl p refl
+begins head xs k Disable f n p = enters head xs k Disable f n refl p refl
+begins head xs k Enable f n p = enters head xs k Enable f n refl p refl
+begins head xs k (Freeze c) f n p = enters head xs k (Freeze c) f n refl p refl
+begins head xs k Thaw f n p = enters head xs k Thaw f n refl p refl
+begins head xs k (Op.UpMany set) f n p = enters head xs k (Op.UpMany set) f n refl p refl
 begins head xs k Op.Wakeup f n p =
     record { event = Wakeup k; given = refl; comes = record { free = f; passes = p }; by = refl; of = refl }
 begins head xs k (Arm c v) f n p =
@@ -118,8 +119,8 @@ first_comes head xs k op f n ready = go (refusal head xs k op) refl
         let b = begins head xs k op f n (record { not_refused = e; not_waiting = ready e }) in
         record { event = b.event; comes = b.comes; by = b.by; of = b.of }
 
--- where no walk and no registration is in flight, only the map lock is waited for
-waits_for_map : (xs : List Event) (op : Op) → is_walking xs ≡ false → is_registering xs ≡ false → is_map_op op ≡ false →
+-- where the write side is free and no registration is in flight, only the map lock is waited for
+waits_for_map : (xs : List Event) (op : Op) → is_writing xs ≡ false → is_registering xs ≡ false → is_map_op op ≡ false →
     is_waiting xs op ≡ false
 waits_for_map xs (Arm c v) w r m = go (is_disarming v)
   where
@@ -140,6 +141,7 @@ waits_for_map xs Disable w r m = absurd (true≢false m)
 waits_for_map xs Enable w r m = absurd (true≢false m)
 waits_for_map xs (Freeze p) w r m = absurd (true≢false m)
 waits_for_map xs Thaw w r m = absurd (true≢false m)
+waits_for_map xs (Op.UpMany set) w r m = absurd (true≢false m)
 waits_for_map xs op w r m = refl
 
 map_free : (xs : List Event) (op : Op) → is_map_op op ≡ true → operation xs ≡ None → is_registering xs ≡ false →
@@ -154,15 +156,19 @@ map_free xs Disable m o r = rw o refl
 map_free xs Enable m o r = rw o refl
 map_free xs (Freeze p) m o r = rw o refl
 map_free xs Thaw m o r = rw o refl
+map_free xs (Op.UpMany set) m o r = rw o refl
 map_free xs op m o r = absurd (true≢false (sym m))
 
 pub nothing_waits : (xs : List Event) (op : Op) → is_walking xs ≡ false → is_registering xs ≡ false → operation xs ≡ None →
     is_waiting xs op ≡ false
 nothing_waits xs op w r o = go (is_map_op op) refl
   where
+    free : is_writing xs ≡ false
+    free = rw (w, o) refl
+
     go : (b : Bool) → is_map_op op ≡ b → is_waiting xs op ≡ false
     go true m = map_free xs op m o r
-    go false m = waits_for_map xs op w r m
+    go false m = waits_for_map xs op free r m
 
 -- a reader's operation of the map lock is refused at once
 reader_refused : (head : Head) (xs : List Event) (k : ℕ) (op : Op) → is_map_op op ≡ true → IsFree xs k → is_reading k xs ≡ true →
@@ -175,9 +181,10 @@ reader_refused head xs k Disable m f r = rw (f.idle, r) refl
 reader_refused head xs k Enable m f r = rw (f.idle, r) refl
 reader_refused head xs k (Freeze p) m f r = rw (f.idle, r) refl
 reader_refused head xs k Thaw m f r = rw (f.idle, r) refl
+reader_refused head xs k (Op.UpMany set) m f r = rw (f.idle, r) refl
 reader_refused head xs k op m f r = absurd (true≢false (sym m))
 
-pub reader_waits : (head : Head) (xs : List Event) (k : ℕ) (op : Op) → is_walking xs ≡ false → is_registering xs ≡ false →
+pub reader_waits : (head : Head) (xs : List Event) (k : ℕ) (op : Op) → is_writing xs ≡ false → is_registering xs ≡ false →
     IsFree xs k → is_reading k xs ≡ true → refusal head xs k op ≡ None → is_waiting xs op ≡ false
 reader_waits head xs k op w r f reads h = go (is_map_op op) refl
   where

@@ -15,6 +15,8 @@ use Rattle.hp_event.specs.declared.event.Event.TheVariants.{Admit, Enter, WalkBe
 use Rattle.hp_model.specs.Lists.{among}
 use Rattle.hp_model.specs.Heads.{IsHead}
 use Rattle.hp_model.specs.Walks.{walking}
+use Rattle.hp_model.specs.Suspend.{held_by}
+use Rattle.hp_model.specs.Batch.{is_upmany}
 use Rattle.hp_model.specs.Registrations.{registration}
 use Rattle.hp_model.specs.Registered.{registered, keys}
 use Rattle.hp_model.specs.MapLock.{operation}
@@ -137,6 +139,7 @@ enter_stands : (head : Head) (xs : List Event) (n : ℕ) → TwoProcessors head 
 enter_stands head xs n two c few = (
   record {
     free = record { client = c.client; idle = rw (c.no_operation, c.no_registration) refl };
+    has_sub = refl;
     takes_map = refl;
     passes = record {
       not_refused =
@@ -169,7 +172,7 @@ walk_begins head xs n c =
       of = record { seat = 2; op = Op.Up 1; before = xs };
       held = operation_push xs e;
       seat_is = refl;
-      no_walk = rw (walking_push xs e, c.still) refl;
+      between = rw (walking_push xs e, c.still) refl;
       gives = rw (settled_push 1 xs e, c.second, answers_push xs e) refl;
       from_is = sym (settled_push 1 xs e ∙ c.second);
       no_wait = can_walk (entered xs) (rw (readers_push xs e, c.unread) refl) (rw (registration_push xs e, c.no_registration) refl);
@@ -190,9 +193,12 @@ entered_promised head xs n two c few =
 entered_long : (head : Head) (xs : List Event) (n : ℕ) → Calm head xs n → length (entered xs) ≡ n + 4
 entered_long head xs n c = let l = length-append xs (Enter 2 (Op.Up 1) ∷ []) in let m = c.long in omega arith
 
+single : (xs : List Event) → held_by is_upmany (operation (entered xs)) ≡ false
+single xs = rw (operation_push xs (Enter 2 (Op.Up 1))) refl
+
 room_is : (head : Head) (xs : List Event) (n k seat cpu from to : ℕ) → promised head xs ≡ k → length xs ≡ n →
-    walk_need head xs from to ≡ 4 → has_room head xs (WalkBegin seat cpu from to) ≡ leb (n + k + 4) MAX_EVENTS
-room_is head xs n k seat cpu from to p l w = rw (p, l, w) refl
+    walk_need head xs from to ≡ 4 → held_by is_upmany (operation xs) ≡ false → has_room head xs (WalkBegin seat cpu from to) ≡ leb (n + k + 4) MAX_EVENTS
+room_is head xs n k seat cpu from to p l w s = rw (s, p, l, w) refl
 
 pub walk_has_room : (head : Head) → TwoProcessors head → (n : ℕ) → n ≤ 1048564 →
     Stands head (entered (shows n)) (WalkBegin 2 1 0 200)
@@ -202,6 +208,7 @@ walk_has_room head two n few =
     let l = entered_long head (shows n) n c in (
       walk_begins head (shows n) n c,
       room_is head (entered (shows n)) (n + 4) 4 2 1 0 200 p l (need_is head (shows n) n 0 200 c)
+          (single (shows n))
           ∙ le-leb (n + 4 + 4 + 4) MAX_EVENTS (omega (arith, few)),
     )
 
@@ -221,6 +228,7 @@ ends_full head two n many =
         begins = walk_begins head (shows n) n c;
         no_room =
             room_is head (entered (shows n)) (n + 4) 4 2 1 0 200 p l (need_is head (shows n) n 0 200 c)
+            (single (shows n))
             ∙ too_long (n + 4 + 4 + 4) MAX_EVENTS (omega (arith, many));
         answer_is = refl;
       }),

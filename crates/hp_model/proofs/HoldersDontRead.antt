@@ -31,6 +31,7 @@ not_reader head xs k Disable m h = (none_holds (refusals_at_once head xs k Disab
 not_reader head xs k Enable m h = (none_holds (refusals_at_once head xs k Enable) h).0
 not_reader head xs k (Freeze p) m h = (none_holds (refusals_at_once head xs k (Freeze p)) h).0
 not_reader head xs k Thaw m h = (none_holds (refusals_at_once head xs k Thaw) h).0
+not_reader head xs k (Op.UpMany set) m h = (none_holds (refusals_at_once head xs k (Op.UpMany set)) h).0
 not_reader head xs k op m h = absurd (true≢false (sym m))
 
 entered_reader : (head : Head) (xs : List Event) (k : ℕ) (op : Op) → Enters head xs k op → is_reading k xs ≡ false

@@ -18,6 +18,10 @@ use Rattle.hp_model.specs.Heads.{IsHead}
 use Rattle.hp_model.proofs.Counts.{done_entries-none, cond_same}
 use Rattle.hp_model.proofs.Kept.{Balanced, Kept}
 use Rattle.hp_model.proofs.Operations.{Operations, operations_none, operations_step, walk_present}
+use Rattle.hp_model.proofs.InFlight.{none_of}
+use Rattle.hp_model.proofs.WaitLemmas.{walks_alone}
+use Rattle.hp_model.proofs.Owners.{Owners, owners_none, owners_step}
+use Rattle.hp_model.proofs.BatchLemmas.{begins_still}
 use Rattle.hp_model.proofs.WalkSteps.{quiet_event, begin_step, call_step, end_step}
 use Rattle.hp_model.proofs.RegistrationSteps.{registration_begin_step, registration_call_step, registration_end_step}
 
@@ -48,19 +52,21 @@ kept_none head h = record {
   none_at_0 = refl;
 }
 
-pub kept_step : (head : Head) (xs : List Event) (e : Event) → Comes head xs e → Operations head xs → Kept head xs → Kept head (xs ++ e ∷ [])
-kept_step head xs (WalkBegin seat cpu from to) h o k =
-    begin_step head xs seat cpu from to h (walk_present head xs seat cpu from to h o k) k
-kept_step head xs (Call seat cpu state inst dir how) h o k = go h
+pub kept_step : (head : Head) (xs : List Event) (e : Event) → Comes head xs e → Owners xs → Operations head xs → Kept head xs →
+    Kept head (xs ++ e ∷ [])
+kept_step head xs (WalkBegin seat cpu from to) h own o k =
+    begin_step head xs seat cpu from to h (walk_present head xs seat cpu from to h o k) (begins_still head xs seat cpu from to own h)
+    (none_of (registration xs) (walks_alone xs h.no_wait own.batch_alone).1) k
+kept_step head xs (Call seat cpu state inst dir how) h own o k = go h
   where
     go : InWalk head xs seat cpu state inst dir how ⊎ InRegistration head xs seat cpu state inst dir how →
         Kept head (xs ++ Call seat cpu state inst dir how ∷ [])
     go (inl b) = call_step head xs seat cpu state inst dir how b k
     go (inr b) = registration_call_step head xs seat cpu state inst dir how b k
-kept_step head xs (WalkEnd seat cpu answer) h o k = end_step head xs seat cpu answer h k
-kept_step head xs (RegBegin seat state op) h o k = registration_begin_step head xs seat state op h k
-kept_step head xs (RegEnd seat answer) h o k = registration_end_step head xs seat answer h k
-kept_step head xs e h o k =
+kept_step head xs (WalkEnd seat cpu answer) h own o k = end_step head xs seat cpu answer h k
+kept_step head xs (RegBegin seat state op) h own o k = registration_begin_step head xs seat state op h k
+kept_step head xs (RegEnd seat answer) h own o k = registration_end_step head xs seat answer h k
+kept_step head xs e h own o k =
     quiet_event head xs e
     (record {
       walks = λ c w. refl;
@@ -73,17 +79,19 @@ kept_step head xs e h o k =
     })
     k
 
--- both together
+-- all together
 pub record Held (head : Head) (events : List Event) : Type 0 where
+  pub owners : Owners events
   pub kept : Kept head events
   pub operations : Operations head events
 
 pub held_none : (head : Head) → IsHead head → Held head []
-held_none head h = record { kept = kept_none head h; operations = operations_none head }
+held_none head h = record { owners = owners_none; kept = kept_none head h; operations = operations_none head }
 
 pub held_step : (head : Head) (xs : List Event) (e : Event) → Comes head xs e → Held head xs → Held head (xs ++ e ∷ [])
 held_step head xs e h k = record {
-  kept = kept_step head xs e h k.operations k.kept;
+  owners = owners_step head xs e h k.owners;
+  kept = kept_step head xs e h k.owners k.operations k.kept;
   operations = operations_step head xs e h k.kept k.operations;
 }
 

@@ -6,6 +6,8 @@ pub mod ShownLemmas
 pub mod Laws
 pub mod CanBegin
 pub mod ListLemmas
+pub mod Rising
+pub mod SetLemmas
 pub mod Registrations
 pub mod RegistrationBounds
 pub mod InFlight
@@ -16,6 +18,7 @@ pub mod Kept
 pub mod WalkSteps
 pub mod RegistrationSteps
 pub mod Operations
+pub mod BatchLemmas
 pub mod Induction
 pub mod Beside
 pub mod Bounds
@@ -34,6 +37,7 @@ mod RunExamples
 mod ScheduleExamples
 mod DynamicExample
 mod CompletesExample
+mod BatchExample
 pub mod NextSlot
 pub mod TreeShapes
 pub mod Cursor
@@ -41,6 +45,8 @@ pub mod Lengths
 pub mod EntryBounds
 pub mod SumLemmas
 pub mod SeatLemmas
+pub mod PromisedParts
+pub mod PromisedBegins
 pub mod Promises
 pub mod OneAnswer
 pub mod WalkEnd
@@ -56,10 +62,12 @@ pub mod NextOfWalk
 pub mod NextOfRegistration
 pub mod FirstEvents
 pub mod HoldersDontRead
+pub mod BatchNext
 pub mod SomeMoves
 pub mod TurnFinds
 pub mod FindsOne
 pub mod Stages
+pub mod TurnLemmas
 pub mod OneNext
 pub mod OneFate
 pub mod Slow
@@ -79,6 +87,9 @@ pub mod OneWalkProof
 pub mod Faultless
 pub mod EndAnswers
 pub mod CompletesProof
+pub mod NoUpmanyProof
+pub mod TurnStays
+pub mod TurnQueue
 pub mod TurnsMake
 pub mod AnswersShown
 pub mod DrawLemmas
@@ -88,4 +99,6 @@ pub mod OverStays
 pub mod RoundsMakeRun
 pub mod ClientKept
 pub mod Fronts
+pub mod QueueMoves
+pub mod SeatNext
 pub mod EntryStays

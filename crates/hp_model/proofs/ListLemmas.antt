@@ -1,11 +1,11 @@
 -- How often a number is in the lists of numbers that the definitions make.
-use Rattle.std.proofs.Common.{◌≡◌, ℕ, zero, suc, ◌+◌, ◌<◌, Bool, true, false, cond, not, ◌&&◌, eqb, ltb, leb, List, [], ◌∷◌, refl, ap, sym, ◌∙◌, arith}
+use Rattle.std.proofs.Common.{◌≡◌, ℕ, zero, suc, ◌+◌, ◌<◌, Bool, true, false, cond, not, ◌&&◌, eqb, ltb, leb, List, [], ◌∷◌, ◌++◌, refl, ap, sym, ◌∙◌, arith}
 use Rattle.std.specs.List.{filter}
 use Rattle.std.proofs.lemmas.Bool.Decides.{nat_tests}
-use Rattle.std.proofs.lemmas.Bool.{and_parts, lt-leb, true≢false, false≢true, eqb-true}
+use Rattle.std.proofs.lemmas.Bool.{and_parts, lt-leb, true≢false, false≢true, eqb-true, eq-eqb}
 use Rattle.hp_event.specs.declared.head.Head.{Head}
 use Rattle.hp_event.specs.declared.event.Event.{Event}
-use Rattle.hp_model.specs.Lists.{occurs, without, numbers}
+use Rattle.hp_model.specs.Lists.{is_empty, occurs, among, without, numbers}
 use Rattle.hp_model.specs.Settled.{settled}
 use Rattle.hp_model.specs.Processors.{is_present, processors}
 use Rattle.hp_model.proofs.Counts.{cond_same, occurs-append}
@@ -65,3 +65,44 @@ not_cond false n = refl
 
 pub occurs-without : (i j : ℕ) (xs : List ℕ) → occurs j (without i xs) ≡ cond (eqb j i) 0 (occurs j xs)
 occurs-without i j xs = occurs-filter (λ x. not (eqb x i)) j xs ∙ not_cond (eqb j i) (occurs j xs)
+
+-- a number that a filter leaves, and one that it takes out of a list that becomes empty
+pub in_filter : (p : ℕ → Bool) (c : ℕ) (xs : List ℕ) → 0 < occurs c (filter p xs) → (p c ≡ true) × (0 < occurs c xs)
+in_filter p c xs h = go (p c) (rw (occurs-filter p c xs) at h)
+  where
+    go : (b : Bool) → 0 < cond b (occurs c xs) 0 → (b ≡ true) × (0 < occurs c xs)
+    go true h = (refl, h)
+    go false h = absurd (omega arith)
+
+pub into_filter : (p : ℕ → Bool) (c : ℕ) (xs : List ℕ) → p c ≡ true → 0 < occurs c xs → 0 < occurs c (filter p xs)
+into_filter p c xs h k = rw (occurs-filter p c xs, h) k
+
+pub filtered_out : (p : ℕ → Bool) (c : ℕ) (xs : List ℕ) → not (is_empty (filter p xs)) ≡ false → 0 < occurs c xs → p c ≡ false
+filtered_out p c xs h k = go (p c) refl
+  where
+    none : (ys : List ℕ) → not (is_empty ys) ≡ false → occurs c ys ≡ 0
+    none [] e = refl
+    none (y ∷ ys) e = absurd (true≢false e)
+
+    go : (b : Bool) → p c ≡ b → b ≡ false
+    go true e = let i = into_filter p c xs e k in let n = none (filter p xs) h in absurd (omega arith)
+    go false e = refl
+
+-- that a number is among some, and that it occurs
+pub is_among : (c : ℕ) (xs : List ℕ) → 0 < occurs c xs → among c xs ≡ true
+is_among c xs h = grind (arith, nat_tests)
+
+pub occurs_among : (c : ℕ) (xs : List ℕ) → among c xs ≡ true → 0 < occurs c xs
+occurs_among c xs h = grind (arith, nat_tests)
+
+pub once_in : (c : ℕ) (xs : List ℕ) → 0 < occurs c (c ∷ xs)
+once_in c xs = let h : eqb c c ≡ true = eq-eqb c c refl in rw h (omega arith)
+
+-- a number is still among more
+pub among_more : (c : ℕ) (xs ys : List ℕ) → among c xs ≡ true → among c (xs ++ ys) ≡ true
+among_more c xs ys h =
+    let o = occurs_among c xs h in let a = occurs-append c xs ys in is_among c (xs ++ ys) (omega arith)
+
+pub among_last : (c : ℕ) (xs : List ℕ) → among c (xs ++ c ∷ []) ≡ true
+among_last c xs =
+    let o = once_in c [] in let a = occurs-append c xs (c ∷ []) in is_among c (xs ++ c ∷ []) (omega arith)

@@ -29,14 +29,12 @@ use Rattle.hp_model.proofs.OneNext.{one_next, owners}
 use Rattle.hp_model.proofs.OneFate.{waits_still, not_true}
 use Rattle.hp_model.proofs.Stages.{Between, WalkEvent, RegistrationEvent, Stage, stage_of, event_next}
 use Rattle.hp_model.proofs.FirstEvents.{begins}
-use Rattle.hp_model.proofs.SomeMoves.{facts, entered_op}
 use Rattle.hp_model.proofs.WalkGives as by_walk
 use Rattle.hp_model.proofs.WalkGives.{Given, walk_given}
 use Rattle.hp_model.proofs.RegistrationGives as by_registration
 use Rattle.hp_model.proofs.RegistrationGives.{registration_given}
 use Rattle.hp_model.proofs.Members.{Has, not_found}
 use Rattle.hp_model.proofs.OneFate.{first_only}
-use Rattle.hp_model.proofs.SomeMoves.{next_some}
 use Rattle.hp_model.proofs.DueGives.{walk_under, registration_under}
 use Rattle.hp_model.proofs.NextStands.{free_does, next_stands, next_belongs}
 
@@ -79,9 +77,9 @@ first_gives head xs p e lawful a free h s b =
 walk_event_under : (head : Head) (xs : List Event) (k c : ℕ) (w : Walk) (e : Event) → walk c xs ≡ Some w → WalkEvent head xs k c e →
     Has (under_way head xs) e
 walk_event_under head xs k c w (Call seat cpu state inst dir how) at h =
-    rw (h.0, h.1) (walk_under head xs c w _ at (by_walk.gives_entry head xs k c state inst dir how h.2))
+    rw (h.0, h.1) (walk_under head xs c w _ at h.2.turn (by_walk.gives_entry head xs k c state inst dir how h.2))
 walk_event_under head xs k c w (WalkEnd seat cpu answer) at h =
-    rw (h.0, h.1) (walk_under head xs c w _ at (by_walk.gives_end head xs k c answer h.2))
+    rw (h.0, h.1) (walk_under head xs c w _ at h.2.turn (by_walk.gives_end head xs k c answer h.2))
 walk_event_under head xs k c w e at h = elim h [ ]
 
 registration_event_under : (head : Head) (xs : List Event) (k : ℕ) (e : Event) → RegistrationEvent head xs k e →
@@ -99,7 +97,7 @@ holder_gives : (head : Head) (xs : List Event) (p : Pending) (e : Event) → IsL
 holder_gives head xs p e lawful a busy h s b t =
     let at = t.held in
     let self = eq-eqb t.of.seat p.seat t.seat_is in
-    let still = t.no_walk in
+    let still = t.between in
     rw (at, self, still) (go (next head xs t.of.before t.of.op) refl)
   where
     waits_or : (c to : ℕ) → next head xs t.of.before t.of.op ≡ walks c to → (v : Option Wait) → wait_to_walk xs ≡ v →
@@ -108,14 +106,13 @@ holder_gives head xs p e lawful a busy h s b t =
     waits_or c to n (Some why) w =
         let at = t.held in
         let self : eqb t.of.seat p.seat ≡ true = eq-eqb t.of.seat p.seat t.seat_is in
-        let still = t.no_walk in
+        let still = t.between in
         absurd (waits_still head xs p.seat p.op why e lawful a.client (rw busy refl) (rw (busy, at, self, still, n) w) h.0 s b)
 
     go : (n : Next) → next head xs t.of.before t.of.op ≡ n → event_of_holder head xs p.seat n ≡ Some e
     go (walks c to) n = waits_or c to n (wait_to_walk xs) refl
     go (ends answer) n = ap Some (sym (t.event_is ∙ ap (λ z. event_next head xs p.seat z) n))
-    go nothing n =
-        absurd (next_some head xs t.of.before t.of.op (entered_op head xs t.of (facts head xs lawful).operations t.held) n)
+    go nothing n = absurd (t.moves n)
 
 or_else_none : (a b : Option Event) → or_else a b ≡ None → (a ≡ None) × (b ≡ None)
 or_else_none None b h = (refl, h)

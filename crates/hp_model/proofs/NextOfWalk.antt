@@ -1,32 +1,24 @@
 -- While a walk is in flight an event of it can come next: an entry, or its end.
-use Rattle.std.proofs.Common.{◌≡◌, ℕ, ◌≤◌, Bool, true, false, not, cond, Option, Some, None, List, [], ◌∷◌, ◌++◌, length, reverse, refl, ap, sym, ◌∙◌, inl, inr, ◌⊎◌, arith}
+use Rattle.std.proofs.Common.{◌≡◌, ℕ, ◌≤◌, Bool, true, false, not, cond, Option, Some, List, [], ◌∷◌, ◌++◌, length, reverse, refl, ap, sym, ◌∙◌, inl, inr, ◌⊎◌, arith}
 use Rattle.std.proofs.lemmas.List.{length-map}
 use Rattle.hp_states.specs.declared.dir.Dir.{Dir}
 use Rattle.hp_states.specs.declared.place.Place.TheVariants.{Forward, Back}
 use Rattle.hp_states.specs.Sections.{opposite}
 use Rattle.hp_event.specs.declared.how.How.{How}
-use Rattle.hp_event.specs.declared.op.Op.{Op}
 use Rattle.hp_event.specs.declared.answer.Answer.{Answer}
 use Rattle.hp_event.specs.declared.head.Head.{Head}
 use Rattle.hp_event.specs.declared.event.Event.{Event}
-use Rattle.hp_event.specs.declared.event.Event.TheVariants.{Call, WalkEnd}
-use Rattle.hp_model.specs.Events.{seat_of, BelongsTo}
-use Rattle.hp_model.specs.MapLock.{is_map_op}
 use Rattle.hp_model.specs.Walks.{Walk, walk, walk_entries}
 use Rattle.hp_model.specs.Registered.{keys}
-use Rattle.hp_model.specs.Seats.{ap_seat}
 use Rattle.hp_model.specs.Plan.{direction, plan}
 use Rattle.hp_model.specs.Entries.{is_done}
-use Rattle.hp_model.specs.Caller.{is_made_by_ap, caller}
 use Rattle.hp_model.specs.StandsCalls.{WalkEntry}
 use Rattle.hp_model.specs.StandsOperations.{WalkEnds}
 use Rattle.hp_model.specs.How.{how_in_walk}
 use Rattle.hp_model.specs.Faults.{Faulty, faults, walk_answer}
 use Rattle.hp_model.specs.Crossing.{Slot, Crossing, done, failed, slots}
-use Rattle.hp_model.specs.WalkShape.{Outcome, went, returned, stopped, crossed, IsWalkShape}
-use Rattle.hp_model.specs.Needs.{need}
-use Rattle.hp_model.specs.Lawful.{Comes}
-use Rattle.hp_model.specs.Moves.{IsOfThread}
+use Rattle.hp_model.specs.WalkShape.{Outcome, went, returned, stopped, crossed, IsWalkShape, IsWholeWalk}
+use Rattle.hp_model.specs.BatchTurn.{has_turn}
 use Rattle.hp_model.proofs.NextSlot.{with_fails, Tree, stop, dead, step, walk_tree, shape_follows, split-returned, split-stuck}
 use Rattle.hp_model.proofs.Cursor.{Runs, IsLive, sound_below, sound_walk, StandsAt, next_of, end_of_walk}
 use Rattle.hp_model.proofs.OneAnswer.{failing, failing-append, failing-visit, failing-crossed, failing-failed}
@@ -74,18 +66,12 @@ answer_of_few d (f ∷ []) h = (_, refl)
 answer_of_few d (f ∷ (g ∷ [])) h = (_, refl)
 answer_of_few d (f ∷ (g ∷ (j ∷ js))) h = absurd (omega (arith, h))
 
--- an event of the walk, by its own seat or by the processor's
-pub record WalkComes (head : Head) (xs : List Event) (c : ℕ) (w : Walk) : Type 0 where
-  pub event : Event
-  pub comes : Comes head xs event
-  pub takes_none : need head xs event ≡ None
-  pub by :
-      ((seat_of event ≡ w.seat) × ((op : Op) → is_map_op op ≡ true → BelongsTo op event)) ⊎ IsOfThread xs event
-
 -- what comes next in a walk: its end, or an entry
 pub record EndsNext (head : Head) (xs : List Event) (c : ℕ) (w : Walk) : Type 0 where
   pub answer : Answer
-  pub ends : WalkEnds head xs w.seat c answer
+  pub whole :
+      IsWholeWalk c (keys head w.before) (direction w.from w.to) (plan (keys head w.before) w.from w.to) (walk_entries c xs)
+      answer
 
 pub record EntryNext (head : Head) (xs : List Event) (c : ℕ) (w : Walk) : Type 0 where
   pub state : ℕ
@@ -109,8 +95,13 @@ walk_ends head xs c w at r =
     let a = answer_of_few d (faults es) (omega arith) in
     record {
       answer = a.0;
-      ends = record { of = w; in_flight = at; seat_is = refl; whole = whole_walk c K d p es a.0 r a.1 };
+      whole = whole_walk c K d p es a.0 r a.1;
     }
+
+-- the end that comes next stands where it is its turn
+pub ends_with : (head : Head) (xs : List Event) (c : ℕ) (w : Walk) → walk c xs ≡ Some w → (n : EndsNext head xs c w) →
+    has_turn head xs w.seat c ≡ true → WalkEnds head xs w.seat c n.answer
+ends_with head xs c w at n t = record { of = w; in_flight = at; seat_is = refl; turn = t; whole = n.whole }
 
 -- who makes an entry
 pub record CalledBy (b : Bool) (a : Option ℕ) (client : ℕ) : Type 0 where
@@ -186,28 +177,3 @@ walk_next head xs c w at kept =
           entry = e.1;
           client_is = e.2;
         })
-
-pub walk_comes : (head : Head) (xs : List Event) (c : ℕ) (w : Walk) → walk c xs ≡ Some w → WalkKept head c w xs → (k : ℕ) →
-    ap_seat c xs ≡ Some k → WalkComes head xs c w
-walk_comes head xs c w at kept k thread = go (walk_next head xs c w at kept)
-  where
-    made : (n : EntryNext head xs c w) (j : ℕ) → (j ≡ n.entry.of.seat) ⊎ (ap_seat c xs ≡ Some j) →
-        caller xs c n.state n.how n.entry.of.seat ≡ Some j → WalkComes head xs c w
-    made n j (inl h) by = record {
-      event = Call j c n.state n.inst n.dir n.how;
-      comes = inl (record { entry = n.entry; caller_is = by });
-      takes_none = refl;
-      by = inl (h ∙ n.client_is, λ op m. tt);
-    }
-    made n j (inr h) by = record {
-      event = Call j c n.state n.inst n.dir n.how;
-      comes = inl (record { entry = n.entry; caller_is = by });
-      takes_none = refl;
-      by = inr (c, h, refl);
-    }
-
-    go : EndsNext head xs c w ⊎ EntryNext head xs c w → WalkComes head xs c w
-    go (inl e) =
-        record { event = WalkEnd w.seat c e.answer; comes = e.ends; takes_none = refl; by = inl (refl, λ op m. m) }
-    go (inr n) =
-        let by = called_by (is_made_by_ap n.state n.how) (ap_seat c xs) k n.entry.of.seat thread in made n by.seat by.by by.is

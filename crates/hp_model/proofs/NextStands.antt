@@ -1,5 +1,5 @@
 -- What comes next of a seat and its operation, as a function gives it, stands and is of that operation.
-use Rattle.std.proofs.Common.{◌≡◌, ℕ, Bool, true, false, not, ◌&&◌, cond, eqb, is_some, Option, Some, None, List, refl, sym, ◌∙◌, subst, inl, inr, ◌⊎◌}
+use Rattle.std.proofs.Common.{◌≡◌, ℕ, Bool, true, false, ◌&&◌, cond, eqb, is_some, Option, Some, None, List, refl, sym, ◌∙◌, subst, inl, inr, ◌⊎◌}
 use Rattle.std.specs.Prelude.{find}
 use Rattle.std.proofs.lemmas.Bool.{false≢true, eqb-true, and_parts}
 use Rattle.hp_event.specs.declared.op.Op.{Op}
@@ -9,12 +9,11 @@ use Rattle.hp_event.specs.declared.head.Head.{Head}
 use Rattle.hp_event.specs.declared.event.Event.{Event}
 use Rattle.hp_event.specs.declared.event.Event.TheVariants.{WalkBegin}
 use Rattle.hp_model.specs.Events.{seat_of, is_registration_op, BelongsTo}
-use Rattle.hp_model.specs.Walks.{is_walking}
 use Rattle.hp_model.specs.MapLock.{Operation, operation, is_map_op}
 use Rattle.hp_model.specs.Subsystems.{names_sub}
 use Rattle.hp_model.specs.Seats.{role_of, is_busy, IsFree}
 use Rattle.hp_model.specs.Settled.{settled}
-use Rattle.hp_model.specs.Sequence.{Next, walks, ends, nothing, next}
+use Rattle.hp_model.specs.Sequence.{Next, walks, ends, nothing, next, is_between}
 use Rattle.hp_model.specs.Waits.{Wait, wait_to_walk, is_waiting}
 use Rattle.hp_model.specs.Refusals.{refusal}
 use Rattle.hp_model.specs.Room.{has_room}
@@ -26,7 +25,7 @@ use Rattle.hp_model.specs.UnderWay.{under_way}
 use Rattle.hp_model.specs.FirstEvent.{is_client, begin_of, refused_or_begun, first_event}
 use Rattle.hp_model.specs.NextEvent.{walk_begin, event_of_holder, next_of_holder, or_else, next_in_flight, if_room, next_event, walk_or_end}
 use Rattle.hp_model.proofs.Owners.{same_some, none_some}
-use Rattle.hp_model.proofs.OneFate.{not_true}
+use Rattle.hp_model.proofs.BatchLemmas.{ends_at_rest}
 use Rattle.hp_model.proofs.FirstEvents.{begins}
 use Rattle.hp_model.proofs.SomeMoves.{Facts, facts, entered_op, registers_op}
 use Rattle.hp_model.proofs.Kept.{RegistrationKept}
@@ -85,16 +84,16 @@ holder_does head xs k e h = go (operation xs) refl h
           belongs = λ op m. m;
         })
 
-    waits_or : (o : Operation) → operation xs ≡ Some o → o.seat ≡ k → is_walking xs ≡ false → (c to : ℕ) →
+    waits_or : (o : Operation) → operation xs ≡ Some o → o.seat ≡ k → is_between o.op xs ≡ true → (c to : ℕ) →
         next head xs o.before o.op ≡ walks c to → (v : Option Wait) → wait_to_walk xs ≡ v →
         cond (is_some v) None (Some (walk_begin head xs k c (settled c xs) to)) ≡ Some e → HolderDoes head xs k e
     waits_or o at s still c to n None f g =
         begins_or o at s c to
-        (record { of = o; held = at; seat_is = s; no_walk = still; gives = n; from_is = refl; no_wait = f })
+        (record { of = o; held = at; seat_is = s; between = still; gives = n; from_is = refl; no_wait = f })
         (has_room head xs (WalkBegin k c (settled c xs) to)) refl (same_some _ _ g)
     waits_or o at s still c to n (Some why) f g = absurd (none_some e g)
 
-    after : (o : Operation) → operation xs ≡ Some o → o.seat ≡ k → is_walking xs ≡ false → (n : Next) →
+    after : (o : Operation) → operation xs ≡ Some o → o.seat ≡ k → is_between o.op xs ≡ true → (n : Next) →
         next head xs o.before o.op ≡ n → event_of_holder head xs k n ≡ Some e → HolderDoes head xs k e
     after o at s still (walks c to) f g = waits_or o at s still c to f (wait_to_walk xs) refl g
     after o at s still (ends answer) f g =
@@ -103,22 +102,31 @@ holder_does head xs k e h = go (operation xs) refl h
           of = o;
           held = at;
           seat_is = s;
-          stands = (inl (record { of = o; held = at; seat_is = s; no_walk = still; gives = f }), refl);
+          stands = (
+            inl (record {
+              of = o;
+              held = at;
+              seat_is = s;
+              no_walk = ends_at_rest head xs o.before o.op answer still f;
+              gives = f;
+            }),
+            refl,
+          );
           by = refl;
           belongs = λ op m. m;
         })
     after o at s still nothing f g = absurd (none_some e g)
 
-    held : (o : Operation) → operation xs ≡ Some o → (b : Bool) → (eqb o.seat k && not (is_walking xs)) ≡ b →
+    held : (o : Operation) → operation xs ≡ Some o → (b : Bool) → (eqb o.seat k && is_between o.op xs) ≡ b →
         cond b (event_of_holder head xs k (next head xs o.before o.op)) None ≡ Some e → HolderDoes head xs k e
     held o at true f g =
-        let p = and_parts (eqb o.seat k) (not (is_walking xs)) f in
-        after o at (eqb-true o.seat k p.0) (not_true (is_walking xs) p.1) (next head xs o.before o.op) refl g
+        let p = and_parts (eqb o.seat k) (is_between o.op xs) f in
+        after o at (eqb-true o.seat k p.0) p.1 (next head xs o.before o.op) refl g
     held o at false f g = absurd (none_some e g)
 
     go : (o : Option Operation) → operation xs ≡ o → next_of_holder head xs k o ≡ Some e → HolderDoes head xs k e
     go None f g = absurd (none_some e g)
-    go (Some o) f g = held o f (eqb o.seat k && not (is_walking xs)) refl g
+    go (Some o) f g = held o f (eqb o.seat k && is_between o.op xs) refl g
 
 -- what a seat does in flight: an event under way, or that of the holder
 in_flight_is : (head : Head) (xs : List Event) (k : ℕ) (e : Event) → next_in_flight head xs k ≡ Some e →

@@ -6,6 +6,10 @@ use Rattle.hp_event.specs.declared.op.Op.{Op}
 use Rattle.hp_event.specs.declared.head.Head.{Head}
 use Rattle.hp_event.specs.declared.event.Event.{Event}
 use Rattle.hp_event.specs.declared.event.Event.TheVariants.{Call, WalkEnd, RegEnd}
+use Rattle.hp_model.specs.Walks.{is_walking}
+use Rattle.hp_model.specs.MapLock.{operation}
+use Rattle.hp_model.specs.Suspend.{held_by}
+use Rattle.hp_model.specs.Batch.{is_upmany}
 use Rattle.hp_model.specs.Events.{seat_of, is_call, answered, BelongsTo}
 use Rattle.hp_model.specs.Processors.{present}
 use Rattle.hp_model.specs.Tasks.{task_of, first_unanswered, Task, IsFor}
@@ -20,7 +24,7 @@ use Rattle.hp_model.proofs.InFlight.{walk_none}
 use Rattle.hp_model.proofs.OneRegistration.{one_registration_entry, registration_ended}
 use Rattle.hp_model.proofs.OneEntry.{one_entry}
 use Rattle.hp_model.proofs.OneNext.{walk_ended, one_stage, owners}
-use Rattle.hp_model.proofs.Owners.{Owners, same_some, none_some, idle_op, idle_reg, not_self}
+use Rattle.hp_model.proofs.Owners.{Owners, alone_at, same_some, none_some, idle_op, idle_reg, not_self}
 use Rattle.hp_model.proofs.Stages.{Before, Between, OnWalk, OnRegistration, WalkEvent, RegistrationEvent, Stage, stage_of}
 
 -- at most one seat has an event of a walk, and one an event of a registration
@@ -77,8 +81,12 @@ before_registration head xs p k j op e f o one h w =
     not_self w.of.seat k (idle_reg xs k w.of h.idle w.in_flight)
     (one w.of.seat (o.reg_client w.of w.in_flight) ∙ sym (one k h.client))
 
-between_walk : (head : Head) (xs : List Event) (k j : ℕ) (e f : Event) → Between head xs k e → OnWalk head xs j f → ⊥
-between_walk head xs k j e f h w = none_some w.of (sym (walk_none xs h.no_walk w.cpu) ∙ w.in_flight)
+between_walk : (head : Head) (xs : List Event) (k j : ℕ) (e f : Event) → held_by is_upmany (operation xs) ≡ false →
+    Between head xs k e → OnWalk head xs j f → ⊥
+between_walk head xs k j e f single h w =
+    let at = h.held in
+    let u : is_upmany h.of.op ≡ false = rw at at single in
+    none_some w.of (sym (walk_none xs (alone_at (is_upmany h.of.op) (is_walking xs) h.between u) w.cpu) ∙ w.in_flight)
 
 between_registration : (head : Head) (xs : List Event) (p k j : ℕ) (e f : Event) → Owners xs → OneClient p xs →
     Between head xs k e → OnRegistration head xs j f → ⊥
@@ -92,56 +100,57 @@ walk_registration head xs k j e f kept h w =
     let p : WalkKept head h.cpu h.of xs = rw h.in_flight at (kept.at h.cpu).kept in
     none_some w.of (sym p.no_registration ∙ w.in_flight)
 
-walking_seat : (head : Head) (xs : List Event) (k j : ℕ) (e f : Event) → Owners xs → OnWalk head xs k e → OnWalk head xs j f → k ≡ j
-walking_seat head xs k j e f o h w =
-    let same : w.cpu ≡ h.cpu = o.one_walk w.cpu h.cpu w.of h.of w.in_flight h.in_flight in
+walking_seat : (head : Head) (xs : List Event) (k j : ℕ) (e f : Event) → Owners xs → held_by is_upmany (operation xs) ≡ false →
+    OnWalk head xs k e → OnWalk head xs j f → k ≡ j
+walking_seat head xs k j e f o single h w =
+    let same : w.cpu ≡ h.cpu = o.one_walk w.cpu h.cpu w.of h.of w.in_flight h.in_flight single in
     walk_seat head xs k j h.cpu e f h.event_is (rw same at w.event_is)
 
--- so events of an operation that can stand are of one seat
-stage_seat : (head : Head) (xs : List Event) (p k j : ℕ) (op : Op) (e f : Event) → Owners xs → Kept head xs → OneClient p xs →
+-- so events of an operation that can stand are of one seat, but in an upmany
+stage_seat : (head : Head) (xs : List Event) (p k j : ℕ) (op : Op) (e f : Event) → Owners xs → Kept head xs → held_by is_upmany (operation xs) ≡ false → OneClient p xs →
     Stage head xs k op e → Stage head xs j op f → k ≡ j
-stage_seat head xs p k j op e f o kept one (inl h) (inl w) =
+stage_seat head xs p k j op e f o kept single one (inl h) (inl w) =
     before_seat head xs p k op e one h ∙ sym (before_seat head xs p j op f one w)
-stage_seat head xs p k j op e f o kept one (inl h) (inr (inl w)) =
+stage_seat head xs p k j op e f o kept single one (inl h) (inr (inl w)) =
     before_seat head xs p k op e one h ∙ sym (between_seat head xs p j f o one w)
-stage_seat head xs p k j op e f o kept one (inl h) (inr (inr (inl w))) =
+stage_seat head xs p k j op e f o kept single one (inl h) (inr (inr (inl w))) =
     absurd (before_walk head xs p k j op e f o one h w)
-stage_seat head xs p k j op e f o kept one (inl h) (inr (inr (inr w))) =
+stage_seat head xs p k j op e f o kept single one (inl h) (inr (inr (inr w))) =
     absurd (before_registration head xs p k j op e f o one h w)
-stage_seat head xs p k j op e f o kept one (inr (inl h)) (inl w) =
+stage_seat head xs p k j op e f o kept single one (inr (inl h)) (inl w) =
     between_seat head xs p k e o one h ∙ sym (before_seat head xs p j op f one w)
-stage_seat head xs p k j op e f o kept one (inr (inl h)) (inr (inl w)) =
+stage_seat head xs p k j op e f o kept single one (inr (inl h)) (inr (inl w)) =
     between_seat head xs p k e o one h ∙ sym (between_seat head xs p j f o one w)
-stage_seat head xs p k j op e f o kept one (inr (inl h)) (inr (inr (inl w))) =
-    absurd (between_walk head xs k j e f h w)
-stage_seat head xs p k j op e f o kept one (inr (inl h)) (inr (inr (inr w))) =
+stage_seat head xs p k j op e f o kept single one (inr (inl h)) (inr (inr (inl w))) =
+    absurd (between_walk head xs k j e f single h w)
+stage_seat head xs p k j op e f o kept single one (inr (inl h)) (inr (inr (inr w))) =
     absurd (between_registration head xs p k j e f o one h w)
-stage_seat head xs p k j op e f o kept one (inr (inr (inl h))) (inl w) =
+stage_seat head xs p k j op e f o kept single one (inr (inr (inl h))) (inl w) =
     absurd (before_walk head xs p j k op f e o one w h)
-stage_seat head xs p k j op e f o kept one (inr (inr (inl h))) (inr (inl w)) =
-    absurd (between_walk head xs j k f e w h)
-stage_seat head xs p k j op e f o kept one (inr (inr (inl h))) (inr (inr (inl w))) =
-    walking_seat head xs k j e f o h w
-stage_seat head xs p k j op e f o kept one (inr (inr (inl h))) (inr (inr (inr w))) =
+stage_seat head xs p k j op e f o kept single one (inr (inr (inl h))) (inr (inl w)) =
+    absurd (between_walk head xs j k f e single w h)
+stage_seat head xs p k j op e f o kept single one (inr (inr (inl h))) (inr (inr (inl w))) =
+    walking_seat head xs k j e f o single h w
+stage_seat head xs p k j op e f o kept single one (inr (inr (inl h))) (inr (inr (inr w))) =
     absurd (walk_registration head xs k j e f kept h w)
-stage_seat head xs p k j op e f o kept one (inr (inr (inr h))) (inl w) =
+stage_seat head xs p k j op e f o kept single one (inr (inr (inr h))) (inl w) =
     absurd (before_registration head xs p j k op f e o one w h)
-stage_seat head xs p k j op e f o kept one (inr (inr (inr h))) (inr (inl w)) =
+stage_seat head xs p k j op e f o kept single one (inr (inr (inr h))) (inr (inl w)) =
     absurd (between_registration head xs p j k f e o one w h)
-stage_seat head xs p k j op e f o kept one (inr (inr (inr h))) (inr (inr (inl w))) =
+stage_seat head xs p k j op e f o kept single one (inr (inr (inr h))) (inr (inr (inl w))) =
     absurd (walk_registration head xs j k f e kept w h)
-stage_seat head xs p k j op e f o kept one (inr (inr (inr h))) (inr (inr (inr w))) =
+stage_seat head xs p k j op e f o kept single one (inr (inr (inr h))) (inr (inr (inr w))) =
     registration_event_seat head xs k j e f h.event_is w.event_is
 
 -- of one client's operation at most one event can stand next, whatever its seat
-pub one_client_next : (head : Head) (xs : List Event) (p : ℕ) (op : Op) (e f : Event) → IsLawful head xs → OneClient p xs →
-    Stands head xs e → Stands head xs f → BelongsTo op e → BelongsTo op f → e ≡ f
-one_client_next head xs p op e f lawful one h w b c =
+pub one_client_next : (head : Head) (xs : List Event) (p : ℕ) (op : Op) (e f : Event) → IsLawful head xs → held_by is_upmany (operation xs) ≡ false →
+    OneClient p xs → Stands head xs e → Stands head xs f → BelongsTo op e → BelongsTo op f → e ≡ f
+one_client_next head xs p op e f lawful single one h w b c =
     let o = owners head xs lawful in
     let kept_by = kept head xs lawful in
     let s = stage_of head xs op e b h in
     let t = stage_of head xs op f c w in
-    let same = stage_seat head xs p (seat_of e) (seat_of f) op e f o kept_by one s t in
+    let same = stage_seat head xs p (seat_of e) (seat_of f) op e f o kept_by single one s t in
     one_stage head xs (seat_of f) op e f o kept_by (rw same at s) t
 
 -- an entry, or an event of the actor's first operation that isn't answered
@@ -176,20 +185,20 @@ of_actor head ops xs k e h = go (ltb k (length (present head))) refl h
     go true q h = inl h
     go false q h = let above : P ≤ k = ltb-false k P q in at_client (k - P) (omega arith) h
 
-one_of_actor : (head : Head) (xs : List Event) (p : ℕ) (next : Option Op) (e f : Event) → IsLawful head xs → OneClient p xs →
+one_of_actor : (head : Head) (xs : List Event) (p : ℕ) (next : Option Op) (e f : Event) → IsLawful head xs → held_by is_upmany (operation xs) ≡ false → OneClient p xs →
     Stands head xs e → Stands head xs f → IsOfActor next e → IsOfActor next f → e ≡ f
-one_of_actor head xs p next e f lawful one h w (inl b) (inl c) =
-    one_client_next head xs p Op.Lock e f lawful one h w (entry_belongs Op.Lock e b) (entry_belongs Op.Lock f c)
-one_of_actor head xs p next e f lawful one h w (inl b) (inr c) =
-    one_client_next head xs p c.0 e f lawful one h w (entry_belongs c.0 e b) c.2
-one_of_actor head xs p next e f lawful one h w (inr b) (inl c) =
-    one_client_next head xs p b.0 e f lawful one h w b.2 (entry_belongs b.0 f c)
-one_of_actor head xs p next e f lawful one h w (inr b) (inr c) =
+one_of_actor head xs p next e f lawful single one h w (inl b) (inl c) =
+    one_client_next head xs p Op.Lock e f lawful single one h w (entry_belongs Op.Lock e b) (entry_belongs Op.Lock f c)
+one_of_actor head xs p next e f lawful single one h w (inl b) (inr c) =
+    one_client_next head xs p c.0 e f lawful single one h w (entry_belongs c.0 e b) c.2
+one_of_actor head xs p next e f lawful single one h w (inr b) (inl c) =
+    one_client_next head xs p b.0 e f lawful single one h w b.2 (entry_belongs b.0 f c)
+one_of_actor head xs p next e f lawful single one h w (inr b) (inr c) =
     let same : c.0 ≡ b.0 = same_some c.0 b.0 (sym c.1 ∙ b.1) in
-    one_client_next head xs p b.0 e f lawful one h w b.2 (rw same at c.2)
+    one_client_next head xs p b.0 e f lawful single one h w b.2 (rw same at c.2)
 
 pub one_actor_next : (head : Head) (ops : List Op) (xs : List Event) (k j : ℕ) (e f : Event) → IsLawful head xs →
-    OneClient (length (present head)) xs → CanTakeAfter head (ops ∷ []) xs k e → CanTakeAfter head (ops ∷ []) xs j f → e ≡ f
-one_actor_next head ops xs k j e f lawful one h w =
-    one_of_actor head xs (length (present head)) (slice_get ops (answered (length (present head)) xs)) e f lawful one
-    h.stands w.stands (of_actor head ops xs k e h.is_for) (of_actor head ops xs j f w.is_for)
+    held_by is_upmany (operation xs) ≡ false → OneClient (length (present head)) xs → CanTakeAfter head (ops ∷ []) xs k e → CanTakeAfter head (ops ∷ []) xs j f → e ≡ f
+one_actor_next head ops xs k j e f lawful single one h w =
+    one_of_actor head xs (length (present head)) (slice_get ops (answered (length (present head)) xs)) e f lawful
+    single one h.stands w.stands (of_actor head ops xs k e h.is_for) (of_actor head ops xs j f w.is_for)

@@ -14,7 +14,7 @@ use Rattle.hp_model.specs.Walks.{Walk, walk, is_walking}
 use Rattle.hp_model.specs.Registrations.{Registration, registration}
 use Rattle.hp_model.specs.MapLock.{Operation, operation}
 use Rattle.hp_model.specs.Seats.{role_of, ap_seat, is_busy, IsFree}
-use Rattle.hp_model.specs.Sequence.{Next, walks, ends, nothing, next}
+use Rattle.hp_model.specs.Sequence.{Next, walks, ends, nothing, next, is_between}
 use Rattle.hp_model.specs.Waits.{Wait, wait_to_walk, wait_to_begin}
 use Rattle.hp_model.specs.SeatWaits.{wait_before, wait_of_holder, wait}
 use Rattle.hp_model.specs.Refusals.{refusal, Passes}
@@ -23,8 +23,11 @@ use Rattle.hp_model.specs.StandsCalls.{InWalk, InRegistration}
 use Rattle.hp_model.specs.StandsOperations.{WalkBegins, IsOver, IsCut}
 use Rattle.hp_model.specs.Lawful.{Comes, Stands, IsLawful}
 use Rattle.hp_model.specs.Full.{IsFull}
+use Rattle.hp_model.specs.Batch.{is_upmany}
 use Rattle.hp_model.proofs.InFlight.{walk_none}
-use Rattle.hp_model.proofs.Owners.{Owners, same_some, none_some, idle_op, idle_reg, not_self}
+use Rattle.hp_model.proofs.WaitLemmas.{later_walk}
+use Rattle.hp_model.proofs.BatchLemmas.{walking_begun}
+use Rattle.hp_model.proofs.Owners.{Owners, alone_at, same_some, none_some, idle_op, idle_reg, not_self}
 use Rattle.hp_model.proofs.Stages.{first_event, entered, shown_first, called_by, ap_no_client}
 use Rattle.hp_model.proofs.OneNext.{owners}
 
@@ -117,7 +120,7 @@ pub record HolderWaits (head : Head) (xs : List Event) (k : ℕ) : Type 0 where
   pub of : Operation
   pub held : operation xs ≡ Some of
   pub seat_is : of.seat ≡ k
-  pub no_walk : is_walking xs ≡ false
+  pub between : is_between of.op xs ≡ true
   pub cpu : ℕ
   pub to : ℕ
   pub gives : next head xs of.before of.op ≡ walks cpu to
@@ -130,28 +133,36 @@ not_true false h = refl
 pub holder_waits : (head : Head) (xs : List Event) (k : ℕ) (w : Wait) → wait_of_holder head xs k (operation xs) ≡ Some w → HolderWaits head xs k
 holder_waits head xs k w h = go (operation xs) refl h
   where
-    after : (o : Operation) → operation xs ≡ Some o → o.seat ≡ k → is_walking xs ≡ false → (n : Next) →
+    after : (o : Operation) → operation xs ≡ Some o → o.seat ≡ k → is_between o.op xs ≡ true → (n : Next) →
         next head xs o.before o.op ≡ n → wait_before xs n ≡ Some w → HolderWaits head xs k
     after o at s still (walks c to) e h =
-        record { of = o; held = at; seat_is = s; no_walk = still; cpu = c; to = to; gives = e; waits = ap is_some h }
+        record { of = o; held = at; seat_is = s; between = still; cpu = c; to = to; gives = e; waits = ap is_some h }
     after o at s still (ends answer) e h = absurd (none_some w h)
     after o at s still nothing e h = absurd (none_some w h)
 
-    held : (o : Operation) → operation xs ≡ Some o → (b : Bool) → (eqb o.seat k && not (is_walking xs)) ≡ b →
+    held : (o : Operation) → operation xs ≡ Some o → (b : Bool) → (eqb o.seat k && is_between o.op xs) ≡ b →
         cond b (wait_before xs (next head xs o.before o.op)) None ≡ Some w → HolderWaits head xs k
     held o at true e h =
-        let p = and_parts (eqb o.seat k) (not (is_walking xs)) e in
-        after o at (eqb-true o.seat k p.0) (not_true (is_walking xs) p.1) (next head xs o.before o.op) refl h
+        let p = and_parts (eqb o.seat k) (is_between o.op xs) e in
+        after o at (eqb-true o.seat k p.0) p.1 (next head xs o.before o.op) refl h
     held o at false e h = absurd (none_some w h)
 
     go : (o : Option Operation) → operation xs ≡ o → wait_of_holder head xs k o ≡ Some w → HolderWaits head xs k
     go None e h = absurd (none_some w h)
-    go (Some o) e h = held o e (eqb o.seat k && not (is_walking xs)) refl h
+    go (Some o) e h = held o e (eqb o.seat k && is_between o.op xs) refl h
 
 no_walk_begins : (head : Head) (xs : List Event) (seat cpu from to : ℕ) → WalkBegins head xs seat cpu from to →
     is_some (wait_to_walk xs) ≡ true → ⊥
 no_walk_begins head xs seat cpu from to h w =
     true≢false (sym w ∙ ap is_some h.no_wait)
+
+-- who waits before a walk has none in flight: an upmany waits before its first alone
+waits_at_rest : (head : Head) (xs : List Event) (k c : ℕ) (v : Walk) → Owners xs → HolderWaits head xs k → walk c xs ≡ Some v → ⊥
+waits_at_rest head xs k c v o w at = go (is_upmany w.of.op) refl
+  where
+    go : (b : Bool) → is_upmany w.of.op ≡ b → ⊥
+    go true u = true≢false (sym w.waits ∙ ap is_some (later_walk xs (walking_begun xs w.of c v o w.held u at)))
+    go false u = none_some v (sym (walk_none xs (alone_at (is_upmany w.of.op) (is_walking xs) w.between u) c) ∙ at)
 
 not_end : (answer : Answer) (c to : ℕ) → ends answer ≡ walks c to → ⊥
 not_end answer c to h = cc
@@ -167,13 +178,13 @@ holder_still head xs k op (OpEnd seat answer) o w client busy by h b = go h
         not_end answer w.cpu w.to (sym (rw same at v.gives) ∙ w.gives)
     go (inr c) = no_walk_begins head xs seat c.cpu c.from c.to c.begins w.waits
 holder_still head xs k op (WalkEnd seat cpu answer) o w client busy by h b =
-    none_some h.of (sym (walk_none xs w.no_walk cpu) ∙ h.in_flight)
+    waits_at_rest head xs k cpu h.of o w h.in_flight
 holder_still head xs k op (RegEnd seat answer) o w client busy by h b =
     o.apart w.of h.of w.held h.in_flight (w.seat_is ∙ sym (h.seat_is ∙ by))
 holder_still head xs k op (Call seat cpu state inst dir how) o w client busy by h b = go h
   where
     go : InWalk head xs seat cpu state inst dir how ⊎ InRegistration head xs seat cpu state inst dir how → ⊥
-    go (inl v) = none_some v.entry.of (sym (walk_none xs w.no_walk cpu) ∙ v.entry.in_flight)
+    go (inl v) = waits_at_rest head xs k cpu v.entry.of o w v.entry.in_flight
     go (inr r) = maker (called_by (is_made_by_ap state how) (ap_seat cpu xs) r.entry.of.seat seat r.caller_is)
       where
         maker : (r.entry.of.seat ≡ seat) ⊎ (ap_seat cpu xs ≡ Some seat) → ⊥

@@ -1,27 +1,30 @@
 -- What holds of the operation that holds the map lock: it stood when it entered, and it walks present processors.
-use Rattle.std.proofs.Common.{◌≡◌, ℕ, ◌+◌, ◌<◌, Bool, true, false, cond, not, ◌&&◌, eqb, ltb, leb, Option, Some, None, List, [], ◌∷◌, ◌++◌, length, refl, subst, arith}
+use Rattle.std.proofs.Common.{◌≡◌, ℕ, ◌+◌, ◌<◌, Bool, true, false, cond, not, ◌&&◌, eqb, ltb, leb, Option, Some, None, List, [], ◌∷◌, ◌++◌, length, refl, sym, subst, arith}
 use Rattle.std.specs.Prelude.{pos}
-use Rattle.std.specs.List.{filter}
-use Rattle.std.proofs.lemmas.Bool.{true≢false, eqb-true, and_parts, ltb-true, lt-ltb, eqb-false, eq-eqb}
+use Rattle.std.proofs.lemmas.Bool.{true≢false, eqb-true, and_parts, ltb-true, lt-ltb, eqb-false}
 use Rattle.hp_event.specs.declared.op.Op.{Op}
-use Rattle.hp_event.specs.declared.op.Op.TheVariants.{Up, Down, Target, Boot, Disable, Enable, Freeze, Thaw}
+use Rattle.hp_event.specs.declared.op.Op.TheVariants.{Up, Down, Target, Boot, Disable, Enable, Freeze, Thaw, UpMany}
 use Rattle.hp_event.specs.declared.answer.Answer.{Answer}
 use Rattle.hp_event.specs.declared.answer.Answer.TheVariants.{Ok}
 use Rattle.hp_event.specs.declared.head.Head.{Head}
 use Rattle.hp_event.specs.declared.event.Event.{Event}
 use Rattle.hp_event.specs.declared.event.Event.TheVariants.{Enter, WalkEnd, OpEnd}
+use Rattle.hp_states.specs.CpuSets.{has}
 use Rattle.hp_model.specs.Lists.{occurs, numbers, among}
+use Rattle.hp_model.specs.Walks.{is_walking}
+use Rattle.hp_model.specs.Batch.{batch, unbegun}
 use Rattle.hp_model.specs.Settled.{settled, is_online}
 use Rattle.hp_model.specs.Processors.{is_present, online}
 use Rattle.hp_model.specs.MapLock.{Operation, operation}
 use Rattle.hp_model.specs.Suspend.{frozen, is_freeze, is_thaw, held_by, is_ok, wakeup_pending}
-use Rattle.hp_model.specs.Sequence.{answers, begun, failures, primary_of, walks, ends, nothing, single_next, first_next, boot_next, freeze_next, to_boot, to_freeze, to_thaw, target_of, next}
+use Rattle.hp_model.specs.Sequence.{answers, begun, failures, primary_of, walks, ends, nothing, single_next, first_next, boot_next, freeze_next, batch_next, to_boot, to_freeze, to_thaw, target_of, next}
 use Rattle.hp_model.specs.RefusalsAtOnce.{first_that_holds}
 use Rattle.hp_model.specs.Refusals.{refusals_after_waits}
 use Rattle.hp_model.specs.StandsOperations.{Enters, WalkBegins}
 use Rattle.hp_model.specs.Lawful.{Comes}
 use Rattle.hp_model.proofs.Counts.{occurs-append}
-use Rattle.hp_model.proofs.ListLemmas.{occurs-filter}
+pub use Rattle.hp_model.proofs.ListLemmas.{in_filter, once_in}
+use Rattle.hp_model.proofs.ListLemmas.{filtered_out}
 use Rattle.hp_model.proofs.Laws.{operation_push, frozen_push}
 use Rattle.hp_model.proofs.Kept.{WalkKept, Kept}
 use Rattle.hp_model.proofs.Passing.{none_holds, passed}
@@ -98,9 +101,6 @@ single_walk c to now [] cpu to' h = go (eqb now to) h
     go false h = (same_cpu c to cpu to' h, refl)
 single_walk c to now (answer ∷ xs) cpu to' h = absurd (not_walk answer cpu to' h)
 
-pub once_in : (c : ℕ) (xs : List ℕ) → 0 < occurs c (c ∷ xs)
-once_in c xs = let h : eqb c c ≡ true = eq-eqb c c refl in rw h (omega arith)
-
 pub first_walk : (t : ℕ) (todo : List ℕ) (answer : Answer) (cpu to : ℕ) → first_next t todo answer ≡ walks cpu to →
     0 < occurs cpu todo
 first_walk t [] answer cpu to h = absurd (not_walk answer cpu to h)
@@ -117,16 +117,23 @@ freeze_walk waking [] [] cpu to h = absurd (not_walk (Ok (pos 0)) cpu to h)
 freeze_walk true [] (c ∷ cs) cpu to h = absurd (not_walk (Answer.Refused 16) cpu to h)
 freeze_walk false [] (c ∷ cs) cpu to h = let P : ℕ → Type 0 = λ z. 0 < occurs z (c ∷ cs) in subst P (same_cpu c 0 cpu to h) (once_in c cs)
 
-pub in_filter : (p : ℕ → Bool) (c : ℕ) (xs : List ℕ) → 0 < occurs c (filter p xs) → (p c ≡ true) × (0 < occurs c xs)
-in_filter p c xs h = go (p c) (rw (occurs-filter p c xs) at h)
-  where
-    go : (b : Bool) → 0 < cond b (occurs c xs) 0 → (b ≡ true) × (0 < occurs c xs)
-    go true h = (refl, h)
-    go false h = absurd (omega arith)
+pub not_nothing : (c to : ℕ) → nothing ≡ walks c to → ⊥
+not_nothing c to h = cc
+
+pub batch_walk : (todo : List ℕ) (walking : Bool) (answer : Answer) (cpu to : ℕ) → batch_next todo walking answer ≡ walks cpu to →
+    0 < occurs cpu todo
+batch_walk (c ∷ cs) walking answer cpu to h =
+    let P : ℕ → Type 0 = λ z. 0 < occurs z (c ∷ cs) in subst P (same_cpu c 200 cpu to h) (once_in c cs)
+batch_walk [] true answer cpu to h = absurd (not_nothing cpu to h)
+batch_walk [] false answer cpu to h = absurd (not_walk answer cpu to h)
 
 pub there : (b : Bool) → not b ≡ false → b ≡ true
 there true h = refl
 there false h = absurd (true≢false h)
+
+listed_there : (a b : Bool) → a ≡ true → (a && not b) ≡ false → b ≡ true
+listed_there true b h k = there b k
+listed_there false b h k = absurd (true≢false (sym h))
 
 -- a processor above 0 isn't away
 pub above_there : (b : Bool) (n : ℕ) → 0 < n → (b ≡ false → n ≡ 0) → b ≡ true
@@ -143,9 +150,6 @@ target_there false n m to e f ne h =
     let away : m ≡ to → ⊥ = eqb-false m to ne in
     let up : ltb n to ≡ true = lt-ltb n to (omega arith) in
     absurd (true≢false (rw up at h))
-
-pub not_nothing : (c to : ℕ) → nothing ≡ walks c to → ⊥
-not_nothing c to h = cc
 
 pub present_by : (head : Head) (events before : List Event) (op : Op) (cpu to : ℕ) →
     first_that_holds (refusals_after_waits head before op) ≡ None →
@@ -181,6 +185,13 @@ present_by head events before Thaw cpu to r away now frozen_there h =
     let w = first_walk 200 (to_thaw events) (Ok (pos (length (failures (answers events))))) cpu to h in
     let p = in_filter (λ c. ltb (settled c events) 200 && not (among c (begun events))) cpu (frozen events) w in
     frozen_there cpu p.1
+present_by head events before (UpMany set) cpu to r away now frozen_there h =
+    let w = batch_walk (unbegun (batch head before (UpMany set)) events) (is_walking events) (Ok (pos (length (failures (answers events))))) cpu to h in
+    let u = in_filter (λ c. not (among c (begun events))) cpu (batch head before (UpMany set)) w in
+    let b = in_filter (λ c. has set c && ltb (settled c before) 200) cpu (numbers head.possible) u.1 in
+    let p = none_holds (refusals_after_waits head before (UpMany set)) r in
+    let away = filtered_out (λ c. has set c && not (is_present head c)) cpu (numbers head.possible) p.1.0 b.1 in
+    listed_there (has set cpu) (is_present head cpu) (and_parts (has set cpu) (ltb (settled cpu before) 200) b.0).0 away
 present_by head events before Disable cpu to r away now frozen_there h = absurd (not_walk (Ok (pos 0)) cpu to h)
 present_by head events before Enable cpu to r away now frozen_there h = absurd (not_walk (Ok (pos 0)) cpu to h)
 present_by head events before op cpu to r away now frozen_there h = absurd (not_nothing cpu to h)

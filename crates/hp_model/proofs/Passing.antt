@@ -15,7 +15,8 @@ use Rattle.hp_model.specs.Resolved.{lowest_free, resolved}
 use Rattle.hp_model.specs.Walks.{is_walking}
 use Rattle.hp_model.specs.Seats.{is_busy}
 use Rattle.hp_model.specs.Waits.{is_waiting}
-use Rattle.hp_model.proofs.WaitLemmas.{register_waits}
+use Rattle.hp_model.specs.Batch.{is_batch_begun}
+use Rattle.hp_model.proofs.WaitLemmas.{is_writing, register_waits}
 use Rattle.hp_model.specs.RefusalsAtOnce.{Check, first_that_holds, refusals_at_once}
 use Rattle.hp_model.specs.Refusals.{refusals_after_waits, refusal, is_multi_state}
 use Rattle.hp_model.proofs.CanBegin.{CanBegin}
@@ -166,15 +167,26 @@ begins_above head xs (Del s i form) state none r h =
     let c = can_begin head xs (Del s i form) state r h in some_above head xs state c.0 none c.1
 begins_above head xs op state none r h = absurd (some_none state (sym r))
 
--- a registration that waits for nothing finds no walk and no registration in flight
+-- a registration that waits for nothing finds the write side free and no registration in flight
+begins_free : (head : Head) (xs : List Event) (op : Op) (state : ℕ) → resolved head xs op ≡ Some state →
+    is_waiting xs op ≡ false → (is_writing xs ≡ false) × (is_registering xs ≡ false)
+begins_free head xs (Setup s sub form) state r h =
+    or_parts (is_writing xs) (is_registering xs) (sym (register_waits xs) ∙ h)
+begins_free head xs (Remove s form) state r h =
+    or_parts (is_writing xs) (is_registering xs) (sym (register_waits xs) ∙ h)
+begins_free head xs (Add s i form) state r h =
+    or_parts (is_writing xs) (is_registering xs) (sym (register_waits xs) ∙ h)
+begins_free head xs (Del s i form) state r h =
+    or_parts (is_writing xs) (is_registering xs) (sym (register_waits xs) ∙ h)
+begins_free head xs op state r h = absurd (some_none state (sym r))
+
+-- so no walk is in flight, and no upmany that has begun one
 pub begins_alone : (head : Head) (xs : List Event) (op : Op) (state : ℕ) → resolved head xs op ≡ Some state →
     is_waiting xs op ≡ false → (is_walking xs ≡ false) × (is_registering xs ≡ false)
-begins_alone head xs (Setup s sub form) state r h =
-    or_parts (is_walking xs) (is_registering xs) (sym (register_waits xs) ∙ h)
-begins_alone head xs (Remove s form) state r h =
-    or_parts (is_walking xs) (is_registering xs) (sym (register_waits xs) ∙ h)
-begins_alone head xs (Add s i form) state r h =
-    or_parts (is_walking xs) (is_registering xs) (sym (register_waits xs) ∙ h)
-begins_alone head xs (Del s i form) state r h =
-    or_parts (is_walking xs) (is_registering xs) (sym (register_waits xs) ∙ h)
-begins_alone head xs op state r h = absurd (some_none state (sym r))
+begins_alone head xs op state r h =
+    let f = begins_free head xs op state r h in ((or_parts (is_walking xs) (is_batch_begun xs) f.0).0, f.1)
+
+pub begins_no_batch : (head : Head) (xs : List Event) (op : Op) (state : ℕ) → resolved head xs op ≡ Some state →
+    is_waiting xs op ≡ false → is_batch_begun xs ≡ false
+begins_no_batch head xs op state r h =
+    (or_parts (is_walking xs) (is_batch_begun xs) (begins_free head xs op state r h).0).1

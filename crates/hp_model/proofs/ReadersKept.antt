@@ -1,17 +1,20 @@
 -- While a seat reads, no walk is in flight and no settled state changes.
 use Rattle.std.proofs.Common.{◌≡◌, ℕ, Bool, true, false, cond, eqb, Option, Some, None, List, [], ◌∷◌, ◌++◌, refl, sym, ◌∙◌, append_assoc}
+use Rattle.std.proofs.lemmas.Bool.{or_parts}
 use Rattle.std.proofs.lemmas.List.{append-nil}
 use Rattle.hp_event.specs.declared.head.Head.{Head}
 use Rattle.hp_event.specs.declared.event.Event.{Event}
 use Rattle.hp_event.specs.declared.event.Event.TheVariants.{WalkBegin, WalkEnd, ReadLock, ReadUnlock}
 use Rattle.hp_model.specs.Journal.{EachAfter}
-use Rattle.hp_model.specs.Walks.{Walk, walk}
+use Rattle.hp_model.specs.Walks.{Walk, walk, is_walking}
+use Rattle.hp_model.specs.Batch.{is_batch_begun}
 use Rattle.hp_model.specs.Readers.{reading_since}
 use Rattle.hp_model.specs.Settled.{settled}
 use Rattle.hp_model.specs.Lawful.{Comes, Stands, IsLawful}
 use Rattle.hp_model.proofs.Laws.{walk_push, settled_push, reading_since_push}
 use Rattle.hp_model.proofs.InFlight.{walk_none, reader_none}
 use Rattle.hp_model.proofs.WaitLemmas.{writer_waits, walks_alone}
+use Rattle.hp_model.proofs.Owners.{Owners, owners_none, owners_step}
 
 abbrev pub ReaderBy : List Event → Option (List Event) → Type 0
 ReaderBy events None = Unit {0}
@@ -37,23 +40,23 @@ not_reading xs c w (Some before) e r = absurd (some_none w (sym e ∙ (r c).0))
     some_none : (w : Walk) → Some w ≡ None → ⊥
     some_none w h = cc
 
-pub readers_step : (head : Head) (xs : List Event) (e : Event) → Comes head xs e → Readers xs → Readers (xs ++ e ∷ [])
-readers_step head xs (WalkBegin seat cpu from to) h r =
+pub readers_step : (head : Head) (xs : List Event) (e : Event) → Comes head xs e → Owners xs → Readers xs → Readers (xs ++ e ∷ [])
+readers_step head xs (WalkBegin seat cpu from to) h o r =
     readers_none xs (xs ++ WalkBegin seat cpu from to ∷ [])
-    (λ k. reading_since_push k xs (WalkBegin seat cpu from to) ∙ reader_none xs (walks_alone xs h.no_wait).0 k)
-readers_step head xs (WalkEnd seat cpu answer) h r =
+    (λ k. reading_since_push k xs (WalkBegin seat cpu from to) ∙ reader_none xs (walks_alone xs h.no_wait o.batch_alone).0 k)
+readers_step head xs (WalkEnd seat cpu answer) h o r =
     readers_none xs (xs ++ WalkEnd seat cpu answer ∷ [])
     (λ k. reading_since_push k xs (WalkEnd seat cpu answer)
     ∙ not_reading xs cpu h.of (reading_since k xs) h.in_flight (r.at k))
-readers_step head xs (ReadLock seat) h r =
+readers_step head xs (ReadLock seat) h o r =
     record { at = λ k. rw (reading_since_push k xs (ReadLock seat)) (go k (eqb seat k)) }
   where
     go : (k : ℕ) (same : Bool) → ReaderBy (xs ++ ReadLock seat ∷ []) (cond same (Some xs) (reading_since k xs))
-    go k true = λ c. (walk_push c xs (ReadLock seat) ∙ walk_none xs (sym (writer_waits xs) ∙ h.passes.not_waiting) c, settled_push c xs (ReadLock seat))
+    go k true = λ c. (walk_push c xs (ReadLock seat) ∙ walk_none xs (or_parts (is_walking xs) (is_batch_begun xs) (sym (writer_waits xs) ∙ h.passes.not_waiting)).0 c, settled_push c xs (ReadLock seat))
     go k false =
         readers_on xs (xs ++ ReadLock seat ∷ []) (reading_since k xs) (λ c. walk_push c xs (ReadLock seat))
         (λ c. settled_push c xs (ReadLock seat)) (r.at k)
-readers_step head xs (ReadUnlock seat) h r =
+readers_step head xs (ReadUnlock seat) h o r =
     record { at = λ k. rw (reading_since_push k xs (ReadUnlock seat)) (go k (eqb seat k)) }
   where
     go : (k : ℕ) (same : Bool) → ReaderBy (xs ++ ReadUnlock seat ∷ []) (cond same None (reading_since k xs))
@@ -61,17 +64,17 @@ readers_step head xs (ReadUnlock seat) h r =
     go k false =
         readers_on xs (xs ++ ReadUnlock seat ∷ []) (reading_since k xs) (λ c. walk_push c xs (ReadUnlock seat))
         (λ c. settled_push c xs (ReadUnlock seat)) (r.at k)
-readers_step head xs e h r = record {
+readers_step head xs e h o r = record {
   at = λ k.
       rw (reading_since_push k xs e)
       (readers_on xs (xs ++ e ∷ []) (reading_since k xs) (λ c. walk_push c xs e) (λ c. settled_push c xs e) (r.at k));
 }
 
-pub readers_from : (head : Head) (before es : List Event) → Readers before → EachAfter (Stands head) before es →
+pub readers_from : (head : Head) (before es : List Event) → Owners before → Readers before → EachAfter (Stands head) before es →
     Readers (before ++ es)
-readers_from head before [] r h = rw append-nil r
-readers_from head before (e ∷ es) r h =
-    let q = readers_from head (before ++ e ∷ []) es (readers_step head before e h.0.0 r) h.1 in
+readers_from head before [] o r h = rw append-nil r
+readers_from head before (e ∷ es) o r h =
+    let q = readers_from head (before ++ e ∷ []) es (owners_step head before e h.0.0 o) (readers_step head before e h.0.0 o r) h.1 in
     rw (append_assoc before (e ∷ []) es) at q
 
 pub none_reads_at_first : (k : ℕ) → reading_since k [] ≡ None
@@ -79,4 +82,4 @@ unfolding reading_since
 none_reads_at_first k = refl
 
 pub readers : (head : Head) (events : List Event) → IsLawful head events → Readers events
-readers head events h = readers_from head [] events (record { at = λ k. rw (none_reads_at_first k) tt }) h.1
+readers head events h = readers_from head [] events owners_none (record { at = λ k. rw (none_reads_at_first k) tt }) h.1

@@ -10,7 +10,7 @@ use Rattle.hp_event.specs.declared.answer.Answer.{Answer}
 use Rattle.hp_event.specs.declared.answer.Answer.TheVariants.{Ok, LogFull}
 use Rattle.hp_event.specs.declared.head.Head.{Head}
 use Rattle.hp_event.specs.declared.event.Event.{Event}
-use Rattle.hp_event.specs.declared.event.Event.TheVariants.{WalkBegin, OpEnd}
+use Rattle.hp_event.specs.declared.event.Event.TheVariants.{WalkBegin, Call, WalkEnd, OpEnd}
 use Rattle.hp_model.specs.Lists.{among}
 use Rattle.hp_model.specs.Events.{seat_of, is_registration_op, BelongsTo}
 use Rattle.hp_model.specs.Walks.{Walk, walk, walking, is_walking}
@@ -18,7 +18,11 @@ use Rattle.hp_model.specs.Registrations.{Registration, registration}
 use Rattle.hp_model.specs.Registered.{Registered}
 use Rattle.hp_model.specs.MapLock.{Operation, operation, is_map_op}
 use Rattle.hp_model.specs.Readers.{readers, is_reading, is_read}
-use Rattle.hp_model.specs.Seats.{holds_map, IsFree}
+use Rattle.hp_model.specs.Seats.{ap_seat, holds_map, IsFree}
+use Rattle.hp_model.specs.Caller.{is_made_by_ap, caller}
+use Rattle.hp_model.specs.Batch.{is_upmany, batch, unbegun, is_batch_begun}
+use Rattle.hp_model.specs.BatchTurn.{has_turn}
+use Rattle.hp_model.specs.Sequence as seq
 use Rattle.hp_model.specs.Settled.{settled}
 use Rattle.hp_model.specs.Sequence.{Next, walks, ends, nothing, answers, failures, target_of, to_boot, to_freeze, to_thaw, single_next, first_next, boot_next, freeze_next, next}
 use Rattle.hp_model.specs.Suspend.{wakeup_pending}
@@ -26,19 +30,22 @@ use Rattle.hp_model.specs.Processors.{online}
 use Rattle.hp_model.specs.Needs.{need}
 use Rattle.hp_model.specs.Room.{has_room}
 use Rattle.hp_model.specs.StandsOperations.{WalkBegins}
-use Rattle.hp_model.specs.Lawful.{IsLawful}
+use Rattle.hp_model.specs.Lawful.{Comes, IsLawful}
 use Rattle.hp_model.specs.Pending.{Pending, IsAllowed}
 use Rattle.hp_model.specs.Moves.{ArePending, IsOfPending, IsOfThread, CanMove}
 use Rattle.hp_model.proofs.CanBegin.{CanBegin}
-use Rattle.hp_model.proofs.InFlight.{walking_is, readers_are}
-use Rattle.hp_model.proofs.WaitLemmas.{first_among, can_walk}
+use Rattle.hp_model.proofs.InFlight.{walking_is, readers_are, reader_none}
+use Rattle.hp_model.proofs.WaitLemmas.{is_writing, first_among, can_walk}
 use Rattle.hp_model.proofs.Kept.{Kept, WalkKept, RegistrationKept}
 use Rattle.hp_model.proofs.Operations.{Operations, Entered}
 use Rattle.hp_model.proofs.Induction.{held_none, held_from}
 use Rattle.hp_model.proofs.Owners.{Owners}
 use Rattle.hp_model.proofs.OneNext.{owners}
 use Rattle.hp_model.proofs.HoldersDontRead.{HoldersDontRead, holders}
-use Rattle.hp_model.proofs.NextOfWalk.{walk_comes}
+use Rattle.hp_model.proofs.NextOfWalk.{EndsNext, EntryNext, ends_with, called_by, walk_next}
+use Rattle.hp_model.proofs.BatchLemmas.{between_rest}
+use Rattle.hp_model.proofs.TurnLemmas.{thread_turn, single_turn}
+use Rattle.hp_model.proofs.BatchNext.{ThreadNext, BatchNext, begins, makes, threads, batch_next}
 use Rattle.hp_model.proofs.NextOfRegistration.{registration_comes}
 use Rattle.hp_model.proofs.FirstEvents.{ComesOf, first_comes, nothing_waits, reader_waits}
 
@@ -70,22 +77,78 @@ takes_none head xs e h = rw h refl
 pub entered_op : (head : Head) (xs : List Event) (o : Operation) → Operations head xs → operation xs ≡ Some o → is_map_op o.op ≡ true
 entered_op head xs o k at = let e : Entered head o = rw at at k.entered in e.enters.takes_map
 
--- a walk is in flight
-by_walk : (head : Head) (xs : List Event) (pending : List Pending) (c : ℕ) (w : Walk) → Facts head xs → ArePending head xs pending →
-    walk c xs ≡ Some w → CanMove head xs pending
-by_walk head xs pending c w f p at =
-    let kept : WalkKept head c w xs = rw at at (f.kept.at c).kept in
-    let thread = p.threads c kept.present in
-    let m = walk_comes head xs c w at kept thread.0 thread.1 in
-    let o = f.owners.walk_op c w at in
-    inl (m.event, (m.comes, takes_none head xs m.event m.takes_none), go m.event o.0 o.1 o.2 m.by)
+-- a walk is in flight, and each has its turn
+by_walk : (head : Head) (xs : List Event) (pending : List Pending) (o : Operation) (c : ℕ) (w : Walk) → Facts head xs →
+    ArePending head xs pending → operation xs ≡ Some o → o.seat ≡ w.seat → walk c xs ≡ Some w →
+    ((k : ℕ) → has_turn head xs k c ≡ true) → CanMove head xs pending
+by_walk head xs pending o c w f p held own at turns = go (walk_next head xs c w at kept)
   where
-    go : (e : Event) (o : Operation) → operation xs ≡ Some o → o.seat ≡ w.seat →
-        ((seat_of e ≡ w.seat) × ((op : Op) → is_map_op op ≡ true → BelongsTo op e)) ⊎ IsOfThread xs e →
+    kept : WalkKept head c w xs
+    kept = rw at at (f.kept.at c).kept
+
+    mine : (e : Event) → Comes head xs e → need head xs e ≡ None → seat_of e ≡ w.seat → BelongsTo o.op e → CanMove head xs pending
+    mine e h n s b =
+        inl (e, (h, takes_none head xs e n), inl (held_as o, p.in_flight (held_as o) (inl (o, held, refl, refl)), s ∙ sym own, b))
+
+    made : (n : EntryNext head xs c w) (j : ℕ) → (j ≡ n.entry.of.seat) ⊎ (ap_seat c xs ≡ Some j) →
+        caller xs c n.state n.how n.entry.of.seat ≡ Some j → CanMove head xs pending
+    made n j (inl s) by =
+        mine (Call j c n.state n.inst n.dir n.how) (inl (record { entry = n.entry; caller_is = by; turn = turns j })) refl
+        (s ∙ n.client_is) tt
+    made n j (inr a) by =
+        inl (
+          Call j c n.state n.inst n.dir n.how,
+          (inl (record { entry = n.entry; caller_is = by; turn = turns j }), refl),
+          inr (c, a, refl),
+        )
+
+    go : EndsNext head xs c w ⊎ EntryNext head xs c w → CanMove head xs pending
+    go (inl e) =
+        mine (WalkEnd w.seat c e.answer) (ends_with head xs c w at e (turns w.seat)) refl refl (entered_op head xs o f.operations held)
+    go (inr n) =
+        let thread = p.threads c kept.present in
+        let by = called_by (is_made_by_ap n.state n.how) (ap_seat c xs) thread.0 n.entry.of.seat thread.1 in
+        made n by.seat by.by by.is
+
+-- an upmany walks
+by_batch : (head : Head) (xs : List Event) (pending : List Pending) (o : Operation) (c : ℕ) (w : Walk) → Facts head xs →
+    ArePending head xs pending → operation xs ≡ Some o → is_upmany o.op ≡ true → walk c xs ≡ Some w → CanMove head xs pending
+by_batch head xs pending o c w f p held u at = go (batch_next head xs o c w f.owners f.kept held u at)
+  where
+    takes_map : is_map_op o.op ≡ true
+    takes_map = entered_op head xs o f.operations held
+
+    is : Contains pending (held_as o)
+    is = p.in_flight (held_as o) (inl (o, held, refl, refl))
+
+    by : (v : Walk) (e : Event) → seat_of e ≡ o.seat →
+        ((seat_of e ≡ v.seat) × ((op : Op) → is_map_op op ≡ true → BelongsTo op e)) ⊎ IsOfThread xs e →
         IsOfPending pending e ⊎ IsOfThread xs e
-    go e o at s (inl h) =
-        inl (held_as o, p.in_flight (held_as o) (inl (o, at, refl, refl)), h.0 ∙ sym s, h.1 o.op (entered_op head xs o f.operations at))
-    go e o at s (inr h) = inr h
+    by v e s (inl h) = inl (held_as o, is, s, h.1 o.op takes_map)
+    by v e s (inr h) = inr h
+
+    thread : (n : ThreadNext head xs c w) → CanMove head xs pending
+    thread n =
+        let kept : WalkKept head c w xs = rw at at (f.kept.at c).kept in
+        let a = p.threads c kept.present in
+        let m = n.by_thread in
+        inl (
+          Call a.0 c n.next.state n.next.inst n.next.dir n.next.how,
+          (
+            inl (record {
+              entry = n.next.entry;
+              caller_is = rw m a.1;
+              turn = thread_turn head xs c c a.0 f.owners a.1;
+            }),
+            refl,
+          ),
+          inr (c, a.1, refl),
+        )
+
+    go : BatchNext head xs o → CanMove head xs pending
+    go (begins d b r) = inl (WalkBegin o.seat d (settled d xs) 200, (b, r), inl (held_as o, is, refl, takes_map))
+    go (makes v e s g) = inl (e, (g.comes, takes_none head xs e g.takes_none), by v e s g.by)
+    go (threads n t all) = thread (all c w at)
 
 pub registers_op : (op : Op) (found : Option Registered) → CanBegin op found → is_registration_op op ≡ true
 registers_op (Setup s sub form) found h = refl
@@ -125,8 +188,16 @@ by_reader head xs pending k f p still none reads =
     let a : IsAllowed head xs (record { seat = k; op = r.0 }) = All-contains (IsAllowed head xs) pending (record { seat = k; op = r.0 }) p.allowed r.1 in
     let free : IsFree xs k = record { client = a.client; idle = rw none (idle (operation xs) refl) } in
     first_moves head xs pending (record { seat = k; op = r.0 }) r.1 free
-    (first_comes head xs k r.0 free a.has_sub (λ h. reader_waits head xs k r.0 still (rw none refl) free reads h))
+    (first_comes head xs k r.0 free a.has_sub (λ h. reader_waits head xs k r.0 unwritten (rw none refl) free reads h))
   where
+    no_batch : (b : Bool) → is_batch_begun xs ≡ b → b ≡ false
+    no_batch false e = refl
+    no_batch true e =
+        let r = reader_none xs (f.owners.batch_alone e).0 k in absurd (true≢false (sym reads ∙ ap is_some r))
+
+    unwritten : is_writing xs ≡ false
+    unwritten = let b = no_batch (is_batch_begun xs) refl in rw (still, b) refl
+
     other : (o : Operation) (b : Bool) → eqb o.seat k ≡ b → is_reading o.seat xs ≡ false → b ≡ false
     other o true e h = let s = eqb-true o.seat k e in absurd (true≢false (sym reads ∙ (rw s at h)))
     other o false e h = refl
@@ -158,19 +229,26 @@ freeze_some waking [] [] h = cc
 freeze_some true [] (c ∷ cs) h = cc
 freeze_some false [] (c ∷ cs) h = cc
 
-pub next_some : (head : Head) (xs before : List Event) (op : Op) → is_map_op op ≡ true → next head xs before op ≡ nothing → ⊥
-next_some head xs before (Op.Up c) m h = single_some c 200 (settled c xs) (answers xs) h
-next_some head xs before (Op.Down c) m h = single_some c 0 (settled c xs) (answers xs) h
-next_some head xs before (Target c v) m h = single_some c (target_of v) (settled c xs) (answers xs) h
-next_some head xs before (Boot n) m h =
+batch_some : (cs : List ℕ) (answer : Answer) → seq.batch_next cs false answer ≡ nothing → ⊥
+batch_some [] answer h = cc
+batch_some (c ∷ cs) answer h = cc
+
+pub next_some : (head : Head) (xs before : List Event) (op : Op) → is_map_op op ≡ true → is_walking xs ≡ false →
+    next head xs before op ≡ nothing → ⊥
+next_some head xs before (Op.Up c) m still h = single_some c 200 (settled c xs) (answers xs) h
+next_some head xs before (Op.Down c) m still h = single_some c 0 (settled c xs) (answers xs) h
+next_some head xs before (Target c v) m still h = single_some c (target_of v) (settled c xs) (answers xs) h
+next_some head xs before (Boot n) m still h =
     boot_some (leb n (length (online head xs))) (to_boot head xs) (length (failures (answers xs))) h
-next_some head xs before Disable m h = cc
-next_some head xs before Enable m h = cc
-next_some head xs before (Freeze q) m h =
+next_some head xs before Disable m still h = cc
+next_some head xs before Enable m still h = cc
+next_some head xs before (Freeze q) m still h =
     freeze_some (wakeup_pending xs) (failures (answers xs)) (to_freeze head q before xs) h
-next_some head xs before Thaw m h =
+next_some head xs before Thaw m still h =
     first_some 200 (to_thaw xs) (Ok (pos (length (failures (answers xs))))) h
-next_some head xs before op m h = true≢false (sym m)
+next_some head xs before (Op.UpMany set) m still h =
+    batch_some (unbegun (batch head before (Op.UpMany set)) xs) (Ok (pos (length (failures (answers xs))))) (rw still at h)
+next_some head xs before op m still h = true≢false (sym m)
 
 -- a seat holds the map lock
 by_holder : (head : Head) (xs : List Event) (pending : List Pending) (o : Operation) → Facts head xs → ArePending head xs pending →
@@ -201,7 +279,7 @@ by_holder head xs pending o f p still none unread at = go (next head xs o.before
           of = o;
           held = at;
           seat_is = refl;
-          no_walk = still;
+          between = between_rest o.op xs still;
           gives = e;
           from_is = refl;
           no_wait = can_walk xs unread (rw none refl);
@@ -213,7 +291,7 @@ by_holder head xs pending o f p still none unread at = go (next head xs o.before
           (inl (record { of = o; held = at; seat_is = refl; no_walk = still; gives = e }), refl),
           inl (held_as o, is, refl, takes_map),
         )
-    go nothing e = absurd (next_some head xs o.before o.op takes_map e)
+    go nothing e = absurd (next_some head xs o.before o.op takes_map still e)
 
 -- nothing is in flight
 first_is : (p : Pending) (ps : List Pending) → Contains (p ∷ ps) p
@@ -236,6 +314,11 @@ some_moves head xs pending lawful p = walk_or (walking xs) refl
     f : Facts head xs
     f = facts head xs lawful
 
+    single_or : (o : Operation) (c : ℕ) (w : Walk) → operation xs ≡ Some o → o.seat ≡ w.seat → walk c xs ≡ Some w → (b : Bool) →
+        is_upmany o.op ≡ b → CanMove head xs pending
+    single_or o c w held s at true u = by_batch head xs pending o c w f p held u at
+    single_or o c w held s at false u = by_walk head xs pending o c w f p held s at (λ k. single_turn head xs o k c held u)
+
     holder_or : (o : Option Operation) → operation xs ≡ o → is_walking xs ≡ false → registration xs ≡ None → is_read xs ≡ false →
         CanMove head xs pending
     holder_or None e still none unread = by_first head xs pending p still none e
@@ -254,4 +337,5 @@ some_moves head xs pending lawful p = walk_or (walking xs) refl
     walk_or [] e = registration_or (registration xs) refl (rw e refl)
     walk_or (c ∷ cs) e =
         let w = some_of (walk c xs) (sym (walking_is c xs) ∙ (ap (λ z. among c z) e ∙ first_among c cs)) in
-        by_walk head xs pending c w.0 f p w.1
+        let q = f.owners.walk_op c w.0 w.1 in
+        single_or q.0 c w.0 q.1 q.2 w.1 (is_upmany q.0.op) refl

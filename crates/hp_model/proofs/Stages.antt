@@ -7,16 +7,17 @@ use Rattle.hp_event.specs.declared.op.Op.TheVariants.{Lock, Unlock, Arm, ShowSta
 use Rattle.hp_event.specs.declared.event.File.{File}
 use Rattle.hp_event.specs.declared.event.File.TheVariants.{State, Target, Fail, States}
 use Rattle.hp_event.specs.declared.event.Role.TheVariants.{Client, Ap}
+use Rattle.hp_event.specs.declared.answer.Answer.{Answer}
 use Rattle.hp_event.specs.declared.head.Head.{Head}
 use Rattle.hp_event.specs.declared.event.Event.{Event}
 use Rattle.hp_event.specs.declared.event.Event.TheVariants.{Enter, Refused, WalkBegin, Call, WalkEnd, OpEnd, RegBegin, RegEnd, ReadLock, ReadUnlock, Armed, Shown, Wakeup}
 use Rattle.hp_model.specs.Events.{seat_of, showing, BelongsTo}
-use Rattle.hp_model.specs.Walks.{Walk, walk, is_walking}
+use Rattle.hp_model.specs.Walks.{Walk, walk}
 use Rattle.hp_model.specs.Registrations.{Registration, registration}
 use Rattle.hp_model.specs.MapLock.{Operation, operation, is_map_op}
 use Rattle.hp_model.specs.Seats.{role_of, ap_seat, is_busy}
 use Rattle.hp_model.specs.Settled.{settled}
-use Rattle.hp_model.specs.Sequence.{Next, walks, ends, nothing, next}
+use Rattle.hp_model.specs.Sequence.{Next, walks, ends, nothing, next, is_between}
 use Rattle.hp_model.specs.Resolved.{resolved}
 use Rattle.hp_model.specs.Refusals.{refusal}
 use Rattle.hp_model.specs.Files.{file_value}
@@ -27,8 +28,8 @@ use Rattle.hp_model.specs.StandsOperations.{Enters, WalkEnds, IsOver, IsCut}
 use Rattle.hp_model.specs.StandsFiles.{Shows}
 use Rattle.hp_model.specs.StandsRegistrations.{RegEnds}
 use Rattle.hp_model.specs.Lawful.{Stands}
+use Rattle.hp_model.proofs.BatchLemmas.{between_rest}
 use Rattle.hp_model.proofs.Kept.{Kept, WalkKept}
-use Rattle.hp_model.proofs.InFlight.{walk_none}
 use Rattle.hp_model.proofs.Owners.{Owners, same_some, none_some, idle_op, idle_reg, not_self}
 
 -- the first event of an operation: its refusal, or its begin
@@ -62,12 +63,13 @@ pub record Before (head : Head) (xs : List Event) (k : ℕ) (op : Op) (e : Event
   pub idle : is_busy k xs ≡ false
   pub event_is : e ≡ first_event head xs k op
 
--- it holds the map lock, and no walk is in flight
+-- it holds the map lock, and begins a walk or ends
 pub record Between (head : Head) (xs : List Event) (k : ℕ) (e : Event) : Type 0 where
   pub of : Operation
   pub held : operation xs ≡ Some of
   pub seat_is : of.seat ≡ k
-  pub no_walk : is_walking xs ≡ false
+  pub between : is_between of.op xs ≡ true
+  pub moves : next head xs of.before of.op ≡ nothing → ⊥
   pub event_is : e ≡ event_next head xs k (next head xs of.before of.op)
 
 abbrev pub WalkEvent : Head → List Event → (seat cpu : ℕ) → Event → Type 0
@@ -114,6 +116,7 @@ entered head xs k op h = rw h.passes.not_refused (go op h.takes_map)
     go Op.Enable m = refl
     go (Op.Freeze p) m = refl
     go Op.Thaw m = refl
+    go (Op.UpMany set) m = refl
     go op m = absurd (true≢false (sym m))
 
 pub shown_first : (head : Head) (xs : List Event) (seat : ℕ) (file : File) (cpu : ℕ) (value : ℤ) → Shows head xs seat file cpu value →
@@ -122,6 +125,12 @@ shown_first head xs seat State cpu value h = rw (h.passes.not_refused, h.value_i
 shown_first head xs seat Target cpu value h = rw (h.passes.not_refused, h.value_is) refl
 shown_first head xs seat Fail cpu value h = rw (h.passes.not_refused, h.value_is) refl
 shown_first head xs seat States cpu value h = rw (h.passes.not_refused, h.value_is, h.has_file) refl
+
+walks_something : (c to : ℕ) → walks c to ≡ nothing → ⊥
+walks_something c to h = cc
+
+ends_something : (answer : Answer) → ends answer ≡ nothing → ⊥
+ends_something answer h = cc
 
 -- the stage of an event that stands and belongs to an operation
 pub stage_of : (head : Head) (xs : List Event) (op : Op) (e : Event) → BelongsTo op e → Stands head xs e →
@@ -143,7 +152,8 @@ stage_of head xs op (WalkBegin seat cpu from to) b h =
       of = w.of;
       held = w.held;
       seat_is = w.seat_is;
-      no_walk = w.no_walk;
+      between = w.between;
+      moves = λ n. walks_something cpu to (sym w.gives ∙ n);
       event_is = rw (w.gives, ← w.from_is, h.1) refl;
     }))
 stage_of head xs op (OpEnd seat answer) b h = go h.0
@@ -154,7 +164,8 @@ stage_of head xs op (OpEnd seat answer) b h = go h.0
           of = o.of;
           held = o.held;
           seat_is = o.seat_is;
-          no_walk = o.no_walk;
+          between = between_rest o.of.op xs o.no_walk;
+          moves = λ n. ends_something answer (sym o.gives ∙ n);
           event_is = rw o.gives refl;
         }))
     go (inr c) =
@@ -163,7 +174,8 @@ stage_of head xs op (OpEnd seat answer) b h = go h.0
           of = w.of;
           held = w.held;
           seat_is = w.seat_is;
-          no_walk = w.no_walk;
+          between = w.between;
+          moves = λ n. walks_something c.cpu c.to (sym w.gives ∙ n);
           event_is = rw (w.gives, ← w.from_is, c.no_room, c.answer_is) refl;
         }))
 stage_of head xs op (WalkEnd seat cpu answer) b h =
@@ -232,9 +244,6 @@ before_registration head xs k op e f o h w = go w.by
     go : (w.of.seat ≡ k) ⊎ (ap_seat w.cpu xs ≡ Some k) → ⊥
     go (inl s) = not_self w.of.seat k (idle_reg xs k w.of h.idle w.in_flight) s
     go (inr a) = ap_no_client xs w.cpu k o a h.client
-
-pub between_walk : (head : Head) (xs : List Event) (k : ℕ) (e f : Event) → Between head xs k e → OnWalk head xs k f → ⊥
-between_walk head xs k e f h w = none_some w.of (sym (walk_none xs h.no_walk w.cpu) ∙ w.in_flight)
 
 pub between_registration : (head : Head) (xs : List Event) (k : ℕ) (e f : Event) → Owners xs → Between head xs k e →
     OnRegistration head xs k f → ⊥

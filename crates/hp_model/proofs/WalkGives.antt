@@ -16,12 +16,13 @@ use Rattle.hp_model.specs.Seats.{ap_seat}
 use Rattle.hp_model.specs.Plan.{direction, plan}
 use Rattle.hp_model.specs.Entries.{codes_of_faults}
 use Rattle.hp_model.specs.Caller.{is_made_by_ap, caller}
-use Rattle.hp_model.specs.StandsCalls.{InWalk}
+use Rattle.hp_model.specs.StandsCalls.{WalkEntry, InWalk}
+use Rattle.hp_model.specs.BatchTurn.{has_turn}
 use Rattle.hp_model.specs.StandsOperations.{WalkEnds}
 use Rattle.hp_model.specs.How.{how_in_walk}
 use Rattle.hp_model.specs.Faults.{Faulty, faults, walk_answer}
 use Rattle.hp_model.specs.Crossing.{Slot, slots}
-use Rattle.hp_model.specs.WalkShape.{IsAnswer}
+use Rattle.hp_model.specs.WalkShape.{IsAnswer, IsWholeWalk}
 use Rattle.hp_model.specs.Needs.{need}
 use Rattle.hp_model.specs.Lawful.{Comes}
 use Rattle.hp_model.specs.Moves.{IsOfThread}
@@ -80,30 +81,35 @@ of_left : (head : Head) (xs : List Event) (c : ℕ) (w : Walk) (t : Tree) (e : E
 of_left head xs c w t e at left h =
     ap (λ z. next_of_walk head xs c z) at ∙ (ap (λ z. event_of_walk head xs c w z) left ∙ h)
 
--- an entry that can come is given
-pub gives_entry : (head : Head) (xs : List Event) (k c state inst : ℕ) (dir : Dir) (how : How) →
-    InWalk head xs k c state inst dir how → next_of_walk head xs c (walk c xs) ≡ Some (Call k c state inst dir how)
-gives_entry head xs k c state inst dir how h =
-    let w = h.entry.of in
+-- an entry that comes next is given, whether it is its turn or not
+pub gives_call : (head : Head) (xs : List Event) (k c state inst : ℕ) (dir : Dir) (how : How)
+    (h : WalkEntry head xs c state inst dir how) → caller xs c state how h.of.seat ≡ Some k →
+    next_of_walk head xs c (walk c xs) ≡ Some (Call k c state inst dir how)
+gives_call head xs k c state inst dir how h by =
+    let w = h.of in
     let K = keys head w.before in
     let d = direction w.from w.to in
     let p = plan K w.from w.to in
     let t = walk_tree c K d [] p in
-    let f = rw h.entry.is_next.slots_are at (shape_follows c K d p h.entry.crossings h.entry.outcome h.entry.shape) in
-    let s = step_at t h.entry.is_next.front h.entry.slot h.entry.is_next.rest (walk_entries c xs) f h.entry.is_next.filled in
+    let f = rw h.is_next.slots_are at (shape_follows c K d p h.crossings h.outcome h.shape) in
+    let s = step_at t h.is_next.front h.slot h.is_next.rest (walk_entries c xs) f h.is_next.filled in
     let left = remains t (walk_entries c xs) (step s.slot s.done_tree s.fault_tree) s.runs in
-    let a : c ≡ s.slot.cpu = h.entry.fits.0 ∙ ap (λ z. z.cpu) s.slot_is in
-    let b : state ≡ s.slot.state = h.entry.fits.1 ∙ ap (λ z. z.state) s.slot_is in
-    let i : inst ≡ s.slot.inst = h.entry.fits.2 ∙ ap (λ z. z.inst) s.slot_is in
-    let e : dir ≡ s.slot.dir = h.entry.fits.3 ∙ ap (λ z. z.dir) s.slot_is in
-    let place : h.entry.slot.place ≡ s.slot.place = ap (λ z. z.place) s.slot_is in
-    let first : h.entry.slot.first ≡ s.slot.first = ap (λ z. z.first) s.slot_is in
+    let a : c ≡ s.slot.cpu = h.fits.0 ∙ ap (λ z. z.cpu) s.slot_is in
+    let b : state ≡ s.slot.state = h.fits.1 ∙ ap (λ z. z.state) s.slot_is in
+    let i : inst ≡ s.slot.inst = h.fits.2 ∙ ap (λ z. z.inst) s.slot_is in
+    let e : dir ≡ s.slot.dir = h.fits.3 ∙ ap (λ z. z.dir) s.slot_is in
+    let place : h.slot.place ≡ s.slot.place = ap (λ z. z.place) s.slot_is in
+    let first : h.slot.first ≡ s.slot.first = ap (λ z. z.first) s.slot_is in
     let made : how ≡ how_in_walk head xs s.slot.cpu s.slot.state s.slot.inst s.slot.dir s.slot.place s.slot.first =
-    made_at head xs s.slot c state inst dir h.entry.slot.place h.entry.slot.first how h.entry.how_is a b i e place first in
-    of_left head xs c w (step s.slot s.done_tree s.fault_tree) (Call k c state inst dir how) h.entry.in_flight left
+    made_at head xs s.slot c state inst dir h.slot.place h.slot.first how h.how_is a b i e place first in
+    of_left head xs c w (step s.slot s.done_tree s.fault_tree) (Call k c state inst dir how) h.in_flight left
     (entry_is xs w.seat s.slot
     (how_in_walk head xs s.slot.cpu s.slot.state s.slot.inst s.slot.dir s.slot.place s.slot.first) k c state inst dir how a b i e made
-    h.caller_is)
+    by)
+
+pub gives_entry : (head : Head) (xs : List Event) (k c state inst : ℕ) (dir : Dir) (how : How) →
+    InWalk head xs k c state inst dir how → next_of_walk head xs c (walk c xs) ≡ Some (Call k c state inst dir how)
+gives_entry head xs k c state inst dir how h = gives_call head xs k c state inst dir how h.entry h.caller_is
 
 -- the answer of the faults
 first_code : (a b : ℕ) (xs ys : List ℕ) → a ∷ xs ≡ b ∷ ys → a ≡ b
@@ -124,39 +130,43 @@ answer_only d es answer (f ∷ (g ∷ [])) h k =
     rw (k.3, first_code f.code k.0 _ _ q, second_code f.code k.0 g.code k.1 [] [] q) refl
 answer_only d es answer (f ∷ (g ∷ (j ∷ js))) h k = absurd (no_third f.code k.0 g.code k.1 j.code _ (sym h ∙ k.2))
 
--- an end that can come is given
-pub gives_end : (head : Head) (xs : List Event) (k c : ℕ) (answer : Answer) → WalkEnds head xs k c answer →
-    next_of_walk head xs c (walk c xs) ≡ Some (WalkEnd k c answer)
-gives_end head xs k c answer h =
-    let w = h.of in
+-- an end that comes next is given, whether it is its turn or not
+pub gives_whole : (head : Head) (xs : List Event) (c : ℕ) (w : Walk) (answer : Answer) → walk c xs ≡ Some w →
+    IsWholeWalk c (keys head w.before) (direction w.from w.to) (plan (keys head w.before) w.from w.to) (walk_entries c xs) answer →
+    next_of_walk head xs c (walk c xs) ≡ Some (WalkEnd w.seat c answer)
+gives_whole head xs c w answer at v =
     let K = keys head w.before in
     let d = direction w.from w.to in
     let p = plan K w.from w.to in
     let t = walk_tree c K d [] p in
     let es = walk_entries c xs in
-    let v = h.whole in
     let left = remains t es stop (stop_at t (slots c K v.crossings) es (shape_follows c K d p v.crossings v.outcome v.shape) v.filled) in
     let f = fill_faults (slots c K v.crossings) es v.filled in
     let o = shape_outcome c K d p v.crossings v.outcome v.shape in
     let a = answer_only d es answer (faults es) f.1 (rw (o, f.0) at v.answered) in
-    of_left head xs c w stop (WalkEnd k c answer) h.in_flight left
-    (ap (λ z. walk_end w.seat c z) a ∙ ap (λ z. Some (WalkEnd z c answer)) h.seat_is)
+    of_left head xs c w stop (WalkEnd w.seat c answer) at left (ap (λ z. walk_end w.seat c z) a)
+
+pub gives_end : (head : Head) (xs : List Event) (k c : ℕ) (answer : Answer) → WalkEnds head xs k c answer →
+    next_of_walk head xs c (walk c xs) ≡ Some (WalkEnd k c answer)
+gives_end head xs k c answer h =
+    gives_whole head xs c h.of answer h.in_flight h.whole ∙ ap (λ z. Some (WalkEnd z c answer)) h.seat_is
 
 -- what is given can come
 entry_comes : (head : Head) (xs : List Event) (c : ℕ) (w : Walk) (s : Slot) (a b : Tree) → walk c xs ≡ Some w →
     Runs (walk_tree c (keys head w.before) (direction w.from w.to) [] (plan (keys head w.before) w.from w.to)) (walk_entries c xs) (step s a b) →
-    (k : ℕ) → caller xs s.cpu s.state (how_in_walk head xs s.cpu s.state s.inst s.dir s.place s.first) w.seat ≡ Some k →
+    (k : ℕ) → has_turn head xs k c ≡ true →
+    caller xs s.cpu s.state (how_in_walk head xs s.cpu s.state s.inst s.dir s.place s.first) w.seat ≡ Some k →
     InWalk head xs k s.cpu s.state s.inst s.dir (how_in_walk head xs s.cpu s.state s.inst s.dir s.place s.first)
-entry_comes head xs c w s a b at r k by =
+entry_comes head xs c w s a b at r k turn by =
     let e = walk_entry head xs c w s a b at r in
     let Made : ℕ → Type 0 = λ z. caller xs z s.state (how_in_walk head xs z s.state s.inst s.dir s.place s.first) w.seat ≡ Some k in
     let by' : Made c = subst Made e.0 by in
     subst (λ z. InWalk head xs k z s.state s.inst s.dir (how_in_walk head xs z s.state s.inst s.dir s.place s.first)) (sym e.0)
-    (record { entry = e.1; caller_is = rw e.2 by' })
+    (record { entry = e.1; caller_is = rw e.2 by'; turn = turn })
 
 pub walk_given : (head : Head) (xs : List Event) (c : ℕ) (w : Walk) (e : Event) → walk c xs ≡ Some w →
-    next_of_walk head xs c (Some w) ≡ Some e → Given head xs w.seat is_map_op e
-walk_given head xs c w e at h = go (walk_left head xs c w) refl h
+    has_turn head xs (seat_of e) c ≡ true → next_of_walk head xs c (Some w) ≡ Some e → Given head xs w.seat is_map_op e
+walk_given head xs c w e at turn h = go (walk_left head xs c w) refl h
   where
     ended : (o : Option Answer) → walk_answer (direction w.from w.to) (faults (walk_entries c xs)) ≡ o →
         walk_left head xs c w ≡ stop → walk_end w.seat c o ≡ Some e → Given head xs w.seat is_map_op e
@@ -170,7 +180,7 @@ walk_given head xs c w e at h = go (walk_left head xs c w) refl h
         let whole = whole_walk c K d p es answer (record { runs = r }) f in
         rw (sym (same_some _ _ k))
         (record {
-          comes = record { of = w; in_flight = at; seat_is = refl; whole = whole };
+          comes = record { of = w; in_flight = at; seat_is = refl; turn = rw (← (same_some _ _ k)) at turn; whole = whole };
           takes_none = refl;
           by = inl (refl, λ op m. m);
         })
@@ -184,4 +194,4 @@ walk_given head xs c w e at h = go (walk_left head xs c w) refl h
         (walk_entries c xs) (step s a b) f tt in
         let n = entry_only xs w.seat s how e g in
         subst (λ z. Given head xs w.seat is_map_op z) (sym n.2)
-        (entry_by head xs w.seat is_map_op n.0 s.cpu s.state s.inst s.dir how (inl (entry_comes head xs c w s a b at r n.0 n.1)) n.1)
+        (entry_by head xs w.seat is_map_op n.0 s.cpu s.state s.inst s.dir how (inl (entry_comes head xs c w s a b at r n.0 (subst (λ z. has_turn head xs (seat_of z) c ≡ true) n.2 turn) n.1)) n.1)

@@ -24,8 +24,6 @@ use Rattle.hp_model.proofs.Counts.{done_entries-none, done_entries_push}
 use Rattle.hp_model.proofs.Path.{path_nets, plan_path, shape_path, end_of}
 use Rattle.hp_model.proofs.Laws.{walk_push, walk_entries_push, registration_push, registration_entries_push, registered_push, settled_push}
 use Rattle.hp_model.proofs.Kept.{Balanced, WalkKept, KeptAt, Kept, Unmoved, unmoved, quiet}
-use Rattle.hp_model.proofs.WaitLemmas.{walks_alone}
-use Rattle.hp_model.proofs.InFlight.{none_of, walk_none}
 
 pub unmoved_event : (head : Head) (c : ℕ) (xs : List Event) (e : Event) →
     ((w : Option Walk) → walk_step c w xs e ≡ w) →
@@ -96,17 +94,17 @@ walk_so_far head xs seat cpu state inst dir how b = record {
 }
 
 pub begin_at : (head : Head) (xs : List Event) (seat cpu from to : ℕ) → WalkBegins head xs seat cpu from to →
-    is_present head cpu ≡ true → KeptAt head cpu xs → KeptAt head cpu (xs ++ WalkBegin seat cpu from to ∷ [])
-begin_at head xs seat cpu from to b present k =
+    is_present head cpu ≡ true → walk cpu xs ≡ None → registration xs ≡ None → KeptAt head cpu xs → KeptAt head cpu (xs ++ WalkBegin seat cpu from to ∷ [])
+begin_at head xs seat cpu from to b present still none k =
     let self : eqb cpu cpu ≡ true = eq-eqb cpu cpu refl in
     let e : Event = WalkBegin seat cpu from to in
     let w : Walk = record { seat = seat; from = from; to = to; before = xs } in
     let at_walk : walk cpu (xs ++ e ∷ []) ≡ Some w = walk_push cpu xs e ∙ rw self refl in
     let no_entries : walk_entries cpu (xs ++ e ∷ []) ≡ [] = walk_entries_push cpu xs e ∙ rw self refl in
-    let balanced : Balanced head cpu xs = rw (walk_none xs b.no_walk cpu, none_of (registration xs) (walks_alone xs b.no_wait).1) at k.kept in
+    let balanced : Balanced head cpu xs = rw (still, none) at k.kept in
     let kept : WalkKept head cpu w (xs ++ e ∷ []) = record {
       present = present;
-      no_registration = registration_push xs e ∙ none_of (registration xs) (walks_alone xs b.no_wait).1;
+      no_registration = registration_push xs e ∙ none;
       from_is = b.from_is;
       settled_same = settled_push cpu xs e;
       registered_same = λ s. registered_push head s xs e;
@@ -122,10 +120,11 @@ begin_at head xs seat cpu from to b present k =
     record { kept = rw at_walk kept; away = λ h. settled_push cpu xs e ∙ k.away h }
 
 pub begin_step : (head : Head) (xs : List Event) (seat cpu from to : ℕ) → WalkBegins head xs seat cpu from to →
-    is_present head cpu ≡ true → Kept head xs → Kept head (xs ++ WalkBegin seat cpu from to ∷ [])
-begin_step head xs seat cpu from to b present k = record {
+    is_present head cpu ≡ true → walk cpu xs ≡ None → registration xs ≡ None → Kept head xs →
+    Kept head (xs ++ WalkBegin seat cpu from to ∷ [])
+begin_step head xs seat cpu from to b present still none k = record {
   at = λ c. go c (eqb cpu c) refl;
-  registration_kept = rw (registration_push xs (WalkBegin seat cpu from to), none_of (registration xs) (walks_alone xs b.no_wait).1) tt;
+  registration_kept = rw (registration_push xs (WalkBegin seat cpu from to), none) tt;
   once = λ s i. rw (registered_push head s xs (WalkBegin seat cpu from to)) (k.once s i);
   none_at_0 = registered_push head 0 xs (WalkBegin seat cpu from to) ∙ k.none_at_0;
 }
@@ -133,7 +132,7 @@ begin_step head xs seat cpu from to b present k = record {
     go : (c : ℕ) (same : Bool) → eqb cpu c ≡ same → KeptAt head c (xs ++ WalkBegin seat cpu from to ∷ [])
     go c true f =
         let P : ℕ → Type 0 = λ z. KeptAt head z (xs ++ WalkBegin seat cpu from to ∷ []) in
-        subst P (eqb-true cpu c f) (begin_at head xs seat cpu from to b present (k.at cpu))
+        subst P (eqb-true cpu c f) (begin_at head xs seat cpu from to b present still none (k.at cpu))
     go c false f = begin_other head c xs seat cpu from to f (k.at c)
 
 pub call_unmoved : (head : Head) (c : ℕ) (xs : List Event) (seat cpu state inst : ℕ) (dir : Dir) (how : How) → eqb cpu c ≡ false →

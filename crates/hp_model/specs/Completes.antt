@@ -3,7 +3,7 @@
 use Rattle.std.specs.Prelude.{◌≡◌, ℕ, ℤ, pos, Bool, true, false, ◌↔◌, ◌⊎◌, Some, None, List, [], ◌∷◌, ◌++◌, length}
 use Rattle.hp_states.specs.declared.limits.TheConstants.{EBUSY}
 use Rattle.hp_event.specs.declared.op.Op.{Op}
-use Rattle.hp_event.specs.declared.op.Op.TheVariants.{Boot, Freeze, Thaw}
+use Rattle.hp_event.specs.declared.op.Op.TheVariants.{Boot, Freeze, Thaw, UpMany}
 use Rattle.hp_event.specs.declared.answer.Answer.{Answer}
 use Rattle.hp_event.specs.declared.answer.Answer.TheVariants.{Ok, Refused, LogFull}
 use Rattle.hp_event.specs.declared.head.Head.{Head}
@@ -49,6 +49,7 @@ pub record IsAnswerOf (head : Head) (o : Operation) (events : List Event) (answe
 abbrev pub counts_failures : Op → Bool
 counts_failures (Boot n) = true
 counts_failures Thaw = true
+counts_failures (UpMany set) = true
 counts_failures _ = false
 
 -- What these answer, with faults or without: how many of their walks weren't Ok, or LogFull exactly where a walk is kept out by room

@@ -1,7 +1,8 @@
 -- The line of an event in the text of a journal, version 1. This project's own.
-use Rattle.std.specs.Prelude.{ℕ, if◌then◌else◌, List, [], ◌∷◌, ◌++◌, codes, decimal}
+use Rattle.std.specs.Prelude.{ℕ, if◌then◌else◌, List, [], ◌∷◌, ◌++◌, map, codes, decimal}
 use Rattle.std.specs.Fmt.{signed_decimal}
 use Rattle.hp_event.specs.declared.op.Op.{Op}
+use Rattle.hp_model.specs.Listed.{listed}
 use Rattle.hp_event.specs.declared.op.Op.TheVariants as op
 use Rattle.hp_event.specs.declared.how.How.{How}
 use Rattle.hp_event.specs.declared.how.How.TheVariants.{RanOk, RanFault, Injected, Empty, Presumed, Overruled}
@@ -42,6 +43,7 @@ op_words op.Enable = codes "enable" ∷ []
 op_words (op.Freeze primary) = codes "freeze" ∷ signed_decimal primary ∷ []
 op_words op.Thaw = codes "thaw" ∷ []
 op_words op.Wakeup = codes "wakeup" ∷ []
+op_words (op.UpMany set) = codes "upmany" ∷ map decimal (listed set)
 
 abbrev pub how_words : How → List (List ℕ)
 how_words RanOk = codes "ok" ∷ []

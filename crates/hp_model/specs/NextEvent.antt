@@ -7,11 +7,10 @@ use Rattle.hp_event.specs.declared.head.Head.{Head}
 use Rattle.hp_event.specs.declared.event.Event.{Event}
 use Rattle.hp_event.specs.declared.event.Event.TheVariants.{WalkBegin, OpEnd}
 use Rattle.hp_model.specs.Events.{seat_of, is_call}
-use Rattle.hp_model.specs.Walks.{is_walking}
 use Rattle.hp_model.specs.MapLock.{Operation, operation}
 use Rattle.hp_model.specs.Seats.{is_busy}
 use Rattle.hp_model.specs.Settled.{settled}
-use Rattle.hp_model.specs.Sequence.{Next, walks, ends, nothing, next}
+use Rattle.hp_model.specs.Sequence.{Next, walks, ends, nothing, next, is_between}
 use Rattle.hp_model.specs.Waits.{wait_to_walk}
 use Rattle.hp_model.specs.Room.{has_room}
 use Rattle.hp_model.specs.UnderWay.{under_way}
@@ -39,7 +38,7 @@ event_of_holder head events k nothing = None
 abbrev pub next_of_holder : Head → List Event → (seat : ℕ) → Option Operation → Option Event
 next_of_holder head events k None = None
 next_of_holder head events k (Some o) =
-    if o.seat == k && not (is_walking events)
+    if o.seat == k && is_between o.op events
     then event_of_holder head events k (next head events o.before o.op)
     else None
 

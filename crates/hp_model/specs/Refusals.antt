@@ -1,15 +1,16 @@
 -- Refusals: those at once, and where nothing is waited for those after the waits. After `cpu_up`, `cpu_down`,
 -- `target_store`, `fail_store` and the registration calls of `kernel/cpu.c`; each condition, its number and
 -- its place are this project's own.
-use Rattle.std.specs.Prelude.{◌≡◌, ℕ, zero, suc, ℤ, pos, negsuc, Bool, true, false, not, ◌&&◌, ◌||◌, ◌==◌, nat_le, nat_lt, if◌then◌else◌, is_none, Option, Some, None, List, [], ◌∷◌, ◌++◌, length}
+use Rattle.std.specs.Prelude.{◌≡◌, ℕ, zero, suc, ℤ, pos, negsuc, Bool, true, false, not, ◌&&◌, ◌||◌, ◌==◌, nat_le, nat_lt, if◌then◌else◌, is_none, Option, Some, None, List, [], ◌∷◌, ◌++◌, length, filter}
 use Rattle.hp_states.specs.declared.dir.Dir.TheVariants.{Up, Down}
 use Rattle.hp_states.specs.declared.limits.TheConstants.{BRINGUP_CPU, ONLINE, EBUSY, EINVAL, ENOSPC, MAX_INSTANCES, MAX_TABLE_INSTANCES}
 use Rattle.hp_states.specs.Sections.{is_stop, is_atomic_state, is_dynamic}
 use Rattle.hp_event.specs.declared.op.Op.{Op}
-use Rattle.hp_event.specs.declared.op.Op.TheVariants.{Target, Arm, Setup, Remove, Add, Del, Boot, Enable}
+use Rattle.hp_event.specs.declared.op.Op.TheVariants.{Target, Arm, Setup, Remove, Add, Del, Boot, Enable, UpMany}
 use Rattle.hp_event.specs.declared.head.Head.{Head}
 use Rattle.hp_event.specs.declared.event.Event.{Event}
-use Rattle.hp_model.specs.Lists.{is_empty, among}
+use Rattle.hp_states.specs.CpuSets.{has}
+use Rattle.hp_model.specs.Lists.{is_empty, among, numbers}
 use Rattle.hp_model.specs.Settled.{settled}
 use Rattle.hp_model.specs.Shown.{shown}
 use Rattle.hp_model.specs.Processors.{is_present, online}
@@ -70,6 +71,9 @@ refusals_after_waits head events (Op.Down c) =
     ∷ if_so (not (is_present head c)) EINVAL ∷ []
 refusals_after_waits head events (Target c v) = refusals_of_target head events c (target_of v) (settled c events)
 refusals_after_waits head events (Boot n) = if_so (is_disabled events) EBUSY ∷ []
+refusals_after_waits head events (UpMany set) =
+    if_so (is_disabled events) EBUSY
+    ∷ if_so (not (is_empty (filter (λ c. has set c && not (is_present head c)) (numbers head.possible)))) EINVAL ∷ []
 refusals_after_waits head events Enable = if_so (disabled events == 0) EINVAL ∷ []
 refusals_after_waits head events (Arm c v) = refusals_of_arm head events c v
 refusals_after_waits head events (Setup s sub form) =

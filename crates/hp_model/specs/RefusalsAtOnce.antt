@@ -1,12 +1,14 @@
 -- Refusals at once, before any wait: conditions in their order, each with its error number. After the calls of
 -- `kernel/cpu.c`; each condition, its number and its place are this project's own.
-use Rattle.std.specs.Prelude.{ℕ, ℤ, pos, negsuc, Bool, false, not, ◌&&◌, ◌||◌, ◌==◌, nat_le, if◌then◌else◌, Option, Some, None, List, [], ◌∷◌}
+use Rattle.std.specs.Prelude.{ℕ, ℤ, pos, negsuc, Bool, false, not, ◌&&◌, ◌||◌, ◌==◌, nat_le, if◌then◌else◌, Option, Some, None, List, [], ◌∷◌, filter}
 use Rattle.hp_states.specs.declared.limits.TheConstants.{ONLINE, EPERM, EINVAL, EDEADLK}
 use Rattle.hp_event.specs.declared.op.Form.{Form}
 use Rattle.hp_event.specs.declared.op.Op.{Op}
-use Rattle.hp_event.specs.declared.op.Op.TheVariants.{Up, Down, Target, Arm, ShowState, ShowTarget, ShowFail, ShowStates, Setup, Remove, Add, Del, Lock, Unlock, Boot, Disable, Enable, Freeze, Thaw, Wakeup}
+use Rattle.hp_event.specs.declared.op.Op.TheVariants.{Up, Down, Target, Arm, ShowState, ShowTarget, ShowFail, ShowStates, Setup, Remove, Add, Del, Lock, Unlock, Boot, Disable, Enable, Freeze, Thaw, Wakeup, UpMany}
 use Rattle.hp_event.specs.declared.head.Head.{Head}
 use Rattle.hp_event.specs.declared.event.Event.{Event}
+use Rattle.hp_model.specs.Lists.{is_empty}
+use Rattle.hp_model.specs.Listed.{listed}
 use Rattle.hp_model.specs.Readers.{is_reading}
 use Rattle.hp_model.specs.Processors.{is_possible}
 use Rattle.hp_model.specs.Subsystems.{sub_numbered, has_no_name}
@@ -49,6 +51,9 @@ refusals_at_once head events k Disable = if_so (is_reading k events) EDEADLK ∷
 refusals_at_once head events k Enable = if_so (is_reading k events) EDEADLK ∷ []
 refusals_at_once head events k (Freeze p) = if_so (is_reading k events) EDEADLK ∷ []
 refusals_at_once head events k Thaw = if_so (is_reading k events) EDEADLK ∷ []
+refusals_at_once head events k (UpMany set) =
+    if_so (is_reading k events) EDEADLK
+    ∷ if_so (not (is_empty (filter (λ c. not (is_possible head c)) (listed set)))) EINVAL ∷ []
 refusals_at_once head events k Wakeup = []
 refusals_at_once head events k (Arm c v) = if_so (not (is_possible head c)) EINVAL ∷ []
 refusals_at_once head events k (ShowState c) = if_so (not (is_possible head c)) EINVAL ∷ []

@@ -1,29 +1,23 @@
--- What an operation of the map lock does next: a walk, or its end. After `cpu_up`, `cpu_down`,
+-- What an operation of the map lock does next: a walk, or its end; in an upmany nothing, while its walks go on. After `cpu_up`, `cpu_down`,
 -- `bringup_nonboot_cpus`, `freeze_secondary_cpus` and `thaw_secondary_cpus` of `kernel/cpu.c`; what the
 -- ends answer is this project's own.
-use Rattle.std.specs.Prelude.{ℕ, ℤ, pos, negsuc, Bool, true, false, not, ◌&&◌, ◌==◌, nat_le, nat_lt, if◌then◌else◌, List, [], ◌∷◌, ◌++◌, length, filter}
+use Rattle.std.specs.Prelude.{ℕ, ℤ, pos, negsuc, Bool, true, false, not, ◌&&◌, ◌||◌, ◌==◌, nat_le, nat_lt, if◌then◌else◌, List, [], ◌∷◌, ◌++◌, length, filter}
 use Rattle.hp_states.specs.declared.limits.TheConstants.{OFFLINE, ONLINE, EBUSY}
 use Rattle.hp_event.specs.declared.op.Op.{Op}
-use Rattle.hp_event.specs.declared.op.Op.TheVariants.{Up, Down, Target, Boot, Disable, Enable, Freeze, Thaw}
+use Rattle.hp_event.specs.declared.op.Op.TheVariants.{Up, Down, Target, Boot, Disable, Enable, Freeze, Thaw, UpMany}
 use Rattle.hp_event.specs.declared.answer.Answer.{Answer}
 use Rattle.hp_event.specs.declared.answer.Answer.TheVariants.{Ok, Refused}
 use Rattle.hp_event.specs.declared.head.Head.{Head}
 use Rattle.hp_event.specs.declared.event.Event.{Event}
-use Rattle.hp_event.specs.declared.event.Event.TheVariants.{Enter, WalkBegin, WalkEnd}
+use Rattle.hp_event.specs.declared.event.Event.TheVariants.{Enter, WalkEnd}
 use Rattle.hp_model.specs.Journal.{over}
 use Rattle.hp_model.specs.Lists.{among, numbers}
+use Rattle.hp_model.specs.Walks.{is_walking}
 use Rattle.hp_model.specs.Settled.{settled, is_online}
 use Rattle.hp_model.specs.Processors.{is_present, online}
 use Rattle.hp_model.specs.Suspend.{is_ok, frozen, wakeup_pending}
-
-abbrev pub begun_step : List ℕ → List Event → Event → List ℕ
-begun_step found before (Enter seat op) = []
-begun_step found before (WalkBegin seat cpu from to) = found ++ cpu ∷ []
-begun_step found before _ = found
-
--- the processors whose walks began since the last Enter
-unfoldable pub begun : List Event → List ℕ
-begun events = over begun_step [] events
+unfoldable pub use Rattle.hp_model.specs.Batch.{begun_step, begun}
+use Rattle.hp_model.specs.Batch.{is_upmany, batch, unbegun}
 
 abbrev pub answers_step : List Answer → List Event → Event → List Answer
 answers_step found before (Enter seat op) = []
@@ -91,6 +85,12 @@ freeze_next waking [] (c ∷ cs) = if waking then ends (Refused EBUSY) else walk
 abbrev pub to_thaw : List Event → List ℕ
 to_thaw events = filter (λ c. nat_lt (settled c events) ONLINE && not (among c (begun events))) (frozen events)
 
+-- an upmany begins the walks of its batch in rising number, and ends when all have ended
+abbrev pub batch_next : List ℕ → (walking : Bool) → Answer → Next
+batch_next (c ∷ cs) walking answer = walks c ONLINE
+batch_next [] true answer = nothing
+batch_next [] false answer = ends answer
+
 abbrev pub next : Head → List Event → (entered : List Event) → Op → Next
 next head events entered (Up c) = single_next c ONLINE (settled c events) (answers events)
 next head events entered (Down c) = single_next c OFFLINE (settled c events) (answers events)
@@ -103,4 +103,11 @@ next head events entered (Freeze p) =
     freeze_next (wakeup_pending events) (failures (answers events)) (to_freeze head p entered events)
 next head events entered Thaw =
     first_next ONLINE (to_thaw events) (Ok (pos (length (failures (answers events)))))
+next head events entered (UpMany set) =
+    batch_next (unbegun (batch head entered (UpMany set)) events) (is_walking events)
+    (Ok (pos (length (failures (answers events)))))
 next head events entered _ = nothing
+
+-- whether an operation may begin a walk: where none is in flight, and in an upmany beside others
+abbrev pub is_between : Op → List Event → Bool
+is_between op events = is_upmany op || not (is_walking events)

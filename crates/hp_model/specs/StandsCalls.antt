@@ -1,6 +1,6 @@
 -- Where an entry stands: it goes on with the walk of its processor or with the registration in flight, is made
 -- as its place wants, and by the seat that makes it. This project's own.
-use Rattle.std.specs.Prelude.{◌≡◌, ℕ, Some, List, ◌∷◌, ◌++◌, ◌⊎◌}
+use Rattle.std.specs.Prelude.{◌≡◌, ℕ, true, Some, List, ◌∷◌, ◌++◌, ◌⊎◌}
 use Rattle.hp_states.specs.declared.dir.Dir.{Dir}
 use Rattle.hp_event.specs.declared.how.How.{How}
 use Rattle.hp_event.specs.declared.head.Head.{Head}
@@ -14,6 +14,7 @@ use Rattle.hp_model.specs.Caller.{caller}
 use Rattle.hp_model.specs.Crossing.{Crossing, Slot, slots, Fill, FitsAt}
 use Rattle.hp_model.specs.Plan.{direction, plan}
 use Rattle.hp_model.specs.WalkShape.{Outcome, IsWalkShape, IsWalkSoFar}
+use Rattle.hp_model.specs.BatchTurn.{has_turn}
 use Rattle.hp_model.specs.RegistrationShape.{key_of, is_adding, Registering, IsRegistrationShape}
 
 -- some entries begin the walk of a processor, along the plan of the registered states at its WalkBegin
@@ -62,10 +63,11 @@ pub record RegistrationEntry (head : Head) (before : List Event) (cpu state inst
   pub fits : FitsAt slot cpu state inst dir how
   pub how_is : how ≡ how_in_registration head before of.op cpu state inst dir slot.place
 
--- such an entry, by the seat that makes it
+-- such an entry, by the seat that makes it; in an upmany its own seat makes it in its turn
 pub record InWalk (head : Head) (before : List Event) (seat cpu state inst : ℕ) (dir : Dir) (how : How) : Type 0 where
   pub entry : WalkEntry head before cpu state inst dir how
   pub caller_is : caller before cpu state how entry.of.seat ≡ Some seat
+  pub turn : has_turn head before seat cpu ≡ true
 
 pub record InRegistration (head : Head) (before : List Event) (seat cpu state inst : ℕ) (dir : Dir) (how : How) : Type 0 where
   pub entry : RegistrationEntry head before cpu state inst dir how

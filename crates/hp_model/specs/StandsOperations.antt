@@ -13,15 +13,17 @@ use Rattle.hp_model.specs.Seats.{IsFree}
 use Rattle.hp_model.specs.Waits.{wait_to_walk}
 use Rattle.hp_model.specs.Registered.{keys}
 use Rattle.hp_model.specs.Settled.{settled}
-use Rattle.hp_model.specs.Sequence.{next, walks, ends}
+use Rattle.hp_model.specs.Sequence.{next, walks, ends, is_between}
 use Rattle.hp_model.specs.Subsystems.{names_sub}
 use Rattle.hp_model.specs.Refusals.{refusal, Passes}
 use Rattle.hp_model.specs.Room.{has_room}
 use Rattle.hp_model.specs.Plan.{direction, plan}
 use Rattle.hp_model.specs.WalkShape.{IsWholeWalk}
+use Rattle.hp_model.specs.BatchTurn.{has_turn}
 
 pub record Enters (head : Head) (before : List Event) (seat : ℕ) (op : Op) : Type 0 where
   pub free : IsFree before seat
+  pub has_sub : names_sub head op ≡ true
   pub takes_map : is_map_op op ≡ true
   pub passes : Passes head before seat op
 
@@ -34,7 +36,7 @@ pub record WalkBegins (head : Head) (before : List Event) (seat cpu from to : �
   pub of : Operation
   pub held : operation before ≡ Some of
   pub seat_is : of.seat ≡ seat
-  pub no_walk : is_walking before ≡ false
+  pub between : is_between of.op before ≡ true
   pub gives : next head before of.before of.op ≡ walks cpu to
   pub from_is : from ≡ settled cpu before
   pub no_wait : wait_to_walk before ≡ None
@@ -43,6 +45,7 @@ pub record WalkEnds (head : Head) (before : List Event) (seat cpu : ℕ) (answer
   pub of : Walk
   pub in_flight : walk cpu before ≡ Some of
   pub seat_is : of.seat ≡ seat
+  pub turn : has_turn head before seat cpu ≡ true
   pub whole :
       IsWholeWalk cpu (keys head of.before) (direction of.from of.to) (plan (keys head of.before) of.from of.to)
       (walk_entries cpu before) answer

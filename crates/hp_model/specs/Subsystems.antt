@@ -1,18 +1,20 @@
 -- The subsystems of a head: their numbers from 1, their callbacks and their plans. This project's own.
-use Rattle.std.specs.Prelude.{ℕ, Bool, true, false, is_some, Option, Some, None, List, []}
+use Rattle.std.specs.Prelude.{ℕ, Bool, true, false, not, is_some, Option, Some, None, List, []}
 use Rattle.hp_states.specs.declared.dir.Dir.{Dir}
 use Rattle.hp_states.specs.declared.dir.Dir.TheVariants.{Up, Down}
 use Rattle.hp_states.specs.declared.plan.Rule.{Rule}
 use Rattle.hp_event.specs.declared.op.Op.{Op}
-use Rattle.hp_event.specs.declared.op.Op.TheVariants.{Setup}
+use Rattle.hp_event.specs.declared.op.Op.TheVariants.{Setup, UpMany}
 use Rattle.hp_event.specs.declared.head.Sub.{Sub}
 use Rattle.hp_event.specs.declared.head.Head.{Head}
 pub use Rattle.hp_event.specs.Heads.{sub_numbered}
 use Rattle.hp_model.specs.Lists.{is_empty}
+use Rattle.hp_model.specs.Listed.{listed}
 
--- an operation speaks of subsystems of the head alone
+-- an operation speaks of subsystems of the head alone, and an upmany of a processor
 abbrev pub names_sub : Head → Op → Bool
 names_sub head (Setup state sub form) = is_some (sub_numbered head sub)
+names_sub head (UpMany set) = not (is_empty (listed set))
 names_sub head _ = true
 
 abbrev pub has_no_name : Option Sub → Bool

@@ -1,50 +1,21 @@
--- What comes next in what is under way, whoever makes it: in each walk and in the registration in flight the next entry, or
--- the end. This project's own.
-use Rattle.std.specs.Prelude.{ℕ, Option, Some, None, option_map, option_to_list, List, [], ◌++◌, filter_map}
+-- What comes next in what is under way: in each walk and in the registration in flight the next entry, or the end. Of the walks of
+-- an upmany its own seat makes one event at a time. This project's own.
+use Rattle.std.specs.Prelude.{ℕ, if◌then◌else◌, Option, Some, None, option_map, option_to_list, List, ◌++◌, filter_map}
 use Rattle.hp_event.specs.declared.answer.Answer.{Answer}
-use Rattle.hp_event.specs.declared.how.How.{How}
 use Rattle.hp_event.specs.declared.head.Head.{Head}
 use Rattle.hp_event.specs.declared.event.Event.{Event}
-use Rattle.hp_event.specs.declared.event.Event.TheVariants.{Call, WalkEnd, RegEnd}
-use Rattle.hp_model.specs.Crossing.{Slot}
-use Rattle.hp_model.specs.Walks.{Walk, walk, walk_entries, walking}
+use Rattle.hp_event.specs.declared.event.Event.TheVariants.{RegEnd}
+use Rattle.hp_model.specs.Events.{seat_of}
+use Rattle.hp_model.specs.Walks.{walk, walking}
 use Rattle.hp_model.specs.Registrations.{Registration, registration, registration_entries}
-use Rattle.hp_model.specs.Registered.{keys}
 use Rattle.hp_model.specs.Processors.{processors}
-use Rattle.hp_model.specs.Plan.{direction, plan}
 use Rattle.hp_model.specs.RegistrationShape.{key_of, is_adding, ok_value}
-use Rattle.hp_model.specs.How.{how_in_walk, how_in_registration}
-use Rattle.hp_model.specs.Caller.{caller}
-use Rattle.hp_model.specs.Faults.{faults, walk_answer, registration_answer}
-use Rattle.hp_model.specs.Trees.{Tree, stop, dead, step, walk_tree, registration_tree}
+use Rattle.hp_model.specs.How.{how_in_registration}
+use Rattle.hp_model.specs.Faults.{faults, registration_answer}
+use Rattle.hp_model.specs.Trees.{Tree, stop, dead, step, registration_tree}
 use Rattle.hp_model.specs.Remaining.{remaining}
-
-abbrev pub made_by : Slot → How → Option ℕ → Option Event
-made_by x how by = option_map (λ k. Call k x.cpu x.state x.inst x.dir how) by
-
--- the entry of a slot, by who makes it; none where that is a processor's thread which isn't in
-abbrev pub entry : List Event → (client : ℕ) → Slot → How → Option Event
-entry events client x how = made_by x how (caller events x.cpu x.state how client)
-
--- what is left of a walk
-abbrev pub walk_left : Head → List Event → (cpu : ℕ) → Walk → Tree
-walk_left head events c w =
-    remaining (walk_tree c (keys head w.before) (direction w.from w.to) [] (plan (keys head w.before) w.from w.to))
-    (walk_entries c events)
-
-abbrev pub walk_end : (seat cpu : ℕ) → Option Answer → Option Event
-walk_end k c given = option_map (λ answer. WalkEnd k c answer) given
-
-abbrev pub event_of_walk : Head → List Event → (cpu : ℕ) → Walk → (left : Tree) → Option Event
-event_of_walk head events c w stop =
-    walk_end w.seat c (walk_answer (direction w.from w.to) (faults (walk_entries c events)))
-event_of_walk head events c w dead = None
-event_of_walk head events c w (step x a b) =
-    entry events w.seat x (how_in_walk head events x.cpu x.state x.inst x.dir x.place x.first)
-
-abbrev pub next_of_walk : Head → List Event → (cpu : ℕ) → Option Walk → Option Event
-next_of_walk head events c None = None
-next_of_walk head events c (Some w) = event_of_walk head events c w (walk_left head events c w)
+pub use Rattle.hp_model.specs.NextInWalk.{made_by, entry, walk_left, walk_end, event_of_walk, next_of_walk}
+use Rattle.hp_model.specs.BatchTurn.{has_turn}
 
 -- what is left of a registration
 abbrev pub registration_left : Head → List Event → Registration → Tree
@@ -66,8 +37,16 @@ abbrev pub next_of_registration : Head → List Event → Option Registration �
 next_of_registration head events None = None
 next_of_registration head events (Some r) = event_of_registration head events r (registration_left head events r)
 
--- an event of each walk, and one of the registration
+abbrev pub in_turn : Head → List Event → (cpu : ℕ) → Option Event → Option Event
+in_turn head events c None = None
+in_turn head events c (Some e) = if has_turn head events (seat_of e) c then Some e else None
+
+-- what comes next in the walk of a processor, where whoever makes it has the turn
+abbrev pub event_in_turn : Head → List Event → (cpu : ℕ) → Option Event
+event_in_turn head events c = in_turn head events c (next_of_walk head events c (walk c events))
+
+-- an event of each walk whose turn it is, and one of the registration
 unfoldable pub under_way : Head → List Event → List Event
 under_way head events =
-    filter_map (λ c. next_of_walk head events c (walk c events)) (walking events)
+    filter_map (event_in_turn head events) (walking events)
     ++ option_to_list (next_of_registration head events (registration events))

@@ -1,14 +1,16 @@
 -- What an operation waits for before it begins, and before a walk of it begins. After `cpu_add_remove_lock` and
 -- `cpu_hotplug_lock` of `kernel/cpu.c`; that a registration keeps out a target, a fault's arming and the `states`
 -- file is this project's own.
-use Rattle.std.specs.Prelude.{zero, suc, ℕ, ℤ, pos, negsuc, Bool, true, false, if◌then◌else◌, is_some, Option, Some, None, List, [], ◌∷◌, length}
+use Rattle.std.specs.Prelude.{zero, suc, ℕ, ℤ, pos, negsuc, Bool, true, false, not, ◌&&◌, if◌then◌else◌, is_some, Option, Some, None, List, [], ◌∷◌, length}
 use Rattle.hp_event.specs.declared.op.Op.{Op}
-use Rattle.hp_event.specs.declared.op.Op.TheVariants.{Up, Down, Target, Arm, ShowStates, Setup, Remove, Add, Del, Lock, Boot, Disable, Enable, Freeze, Thaw}
+use Rattle.hp_event.specs.declared.op.Op.TheVariants.{Up, Down, Target, Arm, ShowStates, Setup, Remove, Add, Del, Lock, Boot, Disable, Enable, Freeze, Thaw, UpMany}
 use Rattle.hp_event.specs.declared.event.Event.{Event}
 use Rattle.hp_model.specs.Walks.{Walk, walk, walking}
 use Rattle.hp_model.specs.Registrations.{Registration, registration}
 use Rattle.hp_model.specs.MapLock.{Operation, operation}
+use Rattle.hp_model.specs.Lists.{is_empty}
 use Rattle.hp_model.specs.Readers.{readers}
+use Rattle.hp_model.specs.Batch.{begun, is_upmany, is_batch_begun}
 
 -- that seat holds the map lock; so many readers are in; that seat's registration is in flight; that seat holds the
 -- write side of the hotplug lock
@@ -34,9 +36,15 @@ abbrev pub wait_for_walk : Option Walk → Option Wait
 wait_for_walk None = None
 wait_for_walk (Some w) = Some (writer_in w.seat)
 
--- the walks in flight are of one operation, so the first of the processors that walk says who holds the write side
+-- an upmany that has begun a walk
+abbrev pub wait_for_batch : (begun : List ℕ) → Option Operation → Option Wait
+wait_for_batch cs None = None
+wait_for_batch cs (Some o) = if is_upmany o.op && not (is_empty cs) then Some (writer_in o.seat) else None
+
+-- the walks in flight are of one operation, so the first of the processors that walk says who holds the write side; an upmany
+-- holds it to its end
 abbrev pub wait_for_writer : (cpus : List ℕ) → List Event → Option Wait
-wait_for_writer [] events = None
+wait_for_writer [] events = wait_for_batch (begun events) (operation events)
 wait_for_writer (c ∷ cs) events = wait_for_walk (walk c events)
 
 -- the first of two waits
@@ -47,9 +55,12 @@ first_wait (Some w) second = Some w
 abbrev pub wait_to_register : List Event → Option Wait
 wait_to_register events = first_wait (wait_for_writer (walking events) events) (wait_for_registration (registration events))
 
--- before a walk begins
+-- before a walk begins; in an upmany the walks after the first wait for nothing
 abbrev pub wait_to_walk : List Event → Option Wait
-wait_to_walk events = first_wait (wait_for_readers (readers events)) (wait_for_registration (registration events))
+wait_to_walk events =
+    if is_batch_begun events
+    then None
+    else first_wait (wait_for_readers (readers events)) (wait_for_registration (registration events))
 
 -- -1 disarms
 abbrev pub is_disarming : ℤ → Bool
@@ -68,6 +79,7 @@ wait_to_begin events Disable = wait_for_map (operation events)
 wait_to_begin events Enable = wait_for_map (operation events)
 wait_to_begin events (Freeze primary) = wait_for_map (operation events)
 wait_to_begin events Thaw = wait_for_map (operation events)
+wait_to_begin events (UpMany set) = wait_for_map (operation events)
 wait_to_begin events (Arm cpu value) =
     if is_disarming value then None else wait_for_registration (registration events)
 wait_to_begin events ShowStates = wait_for_registration (registration events)

@@ -10,18 +10,21 @@
 //!    force. `Walks`, `Registrations`, `MapLock`, `Readers`, `Seats`: what is in flight, and who is in.
 //! 3. `Crossing`, `Plan`, `WalkShape`, `RegistrationShape`: what a walk and a registration make.
 //! 4. `Armed`, `Calls`, `How`, `Caller`: how an entry is made, and by whom.
-//! 5. `Waits`, `RefusalsAtOnce`, `Refusals`, `Resolved`, `Sequence`, `Suspend`, `Files`: the rules of
+//! 5. `Waits`, `RefusalsAtOnce`, `Refusals`, `Resolved`, `Batch`, `Sequence`, `Suspend`, `Files`: the rules of
 //!    operations. `Needs`, `Promised`, `Room`: the room that they take.
-//! 6. `StandsCalls`, `StandsSeats`, `StandsOperations`, `StandsRegistrations`, `StandsFiles`, and
+//! 6. `NextInWalk`, `BatchTurn`: whose turn it is in an upmany. `SeatNext`, `BatchQueue`: how that is
+//!    found. `StandsCalls`, `StandsSeats`, `StandsOperations`, `StandsRegistrations`, `StandsFiles`, and
 //!    `Lawful`: which event stands after which events.
-//! 7. `Headline`, `OneWalk`, `Keys`, `Front`, `Own`, `Completes`: what holds of every lawful journal.
+//! 7. `Headline`, `OneWalk`, `NoUpmany`, `Keys`, `Front`, `Own`, `Completes`: what holds of every lawful
+//!    journal.
 //! 8. `Pending`, `SeatWaits`, `ApTurn`, `Full`, `Turns`, `Moves`: what a turn finds, and that some seat
 //!    can move. `Trees`, `Remaining`, `UnderWay`, `FirstEvent`, `NextEvent`: what comes next, found by
 //!    functions.
 //! 9. `Scripts`, `Admissions`, `Tasks`, `ScriptTurns`, `ScriptRun`, `Draws`, `Schedule`, `TurnMakes`,
 //!    `WithoutEvent`, `Distance`: the run of a script by its schedule. `RunByRounds`, `Steps`,
 //!    `OneClient`: a run by rounds as a relation, with one actor.
-//! 10. `EventLine`, `JournalText`, `Summary`: the texts.
+//! 10. `Listed`, `SetOf`: sets of processors as they are written. `EventLine`, `JournalText`, `Summary`: the
+//!     texts.
 //!
 //! The functions of this file have empty bodies: their contracts are the laws, which callers cite.
 //! `net_of` and its kin compute a notion from the events alone, slowly, for tests.
@@ -41,15 +44,22 @@ ghost use Rattle.hp_model.specs.Lawful.{Comes, Stands, IsLawful};
 ghost use Rattle.hp_model.specs.Pending.{Pending, IsAllowed};
 ghost use Rattle.hp_model.specs.Turns.{IsKeptWaiting, NeedsThread, TurnFinds, FindsOne};
 ghost use Rattle.hp_model.specs.Full.{IsFull};
-ghost use Rattle.hp_model.specs.Lent.{arms_walker};
+ghost use Rattle.hp_model.specs.Lent.{arms_walker, calls_beside, cpu_of};
+ghost use Rattle.hp_model.specs.BatchQueue.{IsQueue, first, is_own, queue_after};
+ghost use Rattle.hp_model.specs.SeatNext.{IsThreadsDue, IsHoldersDue, IsHoldersNext, IsHoldersWait};
 ghost use Rattle.hp_model.specs.NextEvent.{due_entry as due_entry_of, next_event as next_event_of, is_full as is_full_of};
 ghost use Rattle.hp_model.specs.Moves.{ArePending, CanMove};
 ghost use Rattle.hp_model.specs.Walks.{walk};
 ghost use Rattle.hp_model.specs.Registrations.{registration};
+ghost use Rattle.hp_model.specs.MapLock.{Operation, operation};
+ghost use Rattle.hp_model.specs.BatchTurn.{turn_of};
+ghost use Rattle.hp_model.specs.Suspend.{held_by};
+ghost use Rattle.hp_model.specs.Batch.{is_upmany, to_begin};
 ghost use Rattle.hp_model.specs.Net.{keys_in_force as keys_in_force_of};
 ghost use Rattle.hp_model.specs.Headline.{Headline};
 ghost use Rattle.hp_model.specs.Completes.{Completes};
 ghost use Rattle.hp_model.specs.OneWalk.{WalksAlone};
+ghost use Rattle.hp_model.specs.NoUpmany.{IsPlain, IsNoUpmany};
 ghost use Rattle.hp_model.specs.Keys.{AreKeysInForce, AreKeysAtRest};
 ghost use Rattle.hp_model.specs.Events.{seat_of, is_call, answered, BelongsTo};
 ghost use Rattle.hp_model.specs.Admissions.{admissions};
@@ -68,6 +78,7 @@ ghost use Rattle.hp_model.specs.Seats.{admits};
 mod lists;
 mod net;
 mod registered;
+mod sets;
 mod settled;
 mod subsystems;
 
@@ -76,6 +87,7 @@ use hp_states::{MAX_EVENTS, MAX_SEATS};
 pub use lists::without;
 pub use net::net_of;
 pub use registered::{Found, instances_of_keys, registered_at, registered_of};
+pub use sets::{numbers_are_listed, put_number, set_is_of_its_numbers};
 pub use settled::{settled_after, settled_of};
 pub use subsystems::is_multi;
 
@@ -143,8 +155,9 @@ pub fn one_next(head: &Head, before: &[Event], op: &Op, one: &Event, other: &Eve
         one.now ≡ other.now }
 {}
 
-/// After a lawful journal at most one processor walks, for the operation that holds the map lock. So a walk
-/// leaves every other processor as it was when the walk began, whatever answer it ends with.
+/// After a lawful journal the walks in flight are those of the operation that holds the map lock, and but in an
+/// upmany at most one processor walks. A walk leaves each processor that hasn't walked beside it as it was
+/// when the walk began, whatever answer it ends with.
 #[tactic(auto, using(crate::proofs::OneWalkProof::one_walk))]
 pub fn one_walk(head: &Head, events: &[Event])
     ensures { IsLawful head.now events.now → WalksAlone events.now }
@@ -154,6 +167,48 @@ pub fn one_walk(head: &Head, events: &[Event])
 #[tactic(auto, using(crate::proofs::OneWalkProof::one_walk_of_front))]
 pub fn one_walk_of_front(head: &Head, front: &[Event], rest: &[Event])
     ensures { IsLawful head.now (front.now ++ rest.now) → WalksAlone front.now }
+{}
+
+/// What the definitions say with several walks in mind they say of one where no upmany is in flight, and so
+/// of each journal that no upmany enters: who waits, whose turn it is, what is promised, what comes next.
+pub fn no_upmany(head: &Head, events: &[Event])
+    ensures in_flight { held_by is_upmany (operation events.now) ≡ false → IsPlain head.now events.now }
+    ensures ever { All IsNoUpmany events.now → IsPlain head.now events.now }
+{}
+
+/// The walk whose turn it is in an upmany keeps it until the operation's own seat makes an event, whatever
+/// other seats do meanwhile.
+pub fn turn_stays(head: &Head, before: &[Event], event: &Event)
+    ensures { (o : Operation) (cpu : ℕ) → IsLawful head.now before.now → Comes head.now before.now event.now →
+        operation before.now ≡ Some o → is_upmany o.op ≡ true → seat_of event.now ≢ o.seat →
+        turn_of head.now before.now o.seat ≡ Some cpu →
+        turn_of head.now (before.now ++ event.now ∷ []) o.seat ≡ Some cpu }
+{}
+
+/// What comes next of one seat is found in one walk. While its processor walks, what is due from a thread is
+/// the next entry there. Of the seat of an upmany it is in the walk whose turn it is: what is due from it, and
+/// what comes next of it; and where it is nobody's turn it waits for the thread of the lowest that walks.
+pub fn seat_next(head: &Head, events: &[Event])
+    ensures thread { IsLawful head.now events.now → IsThreadsDue head.now events.now }
+    ensures due { IsLawful head.now events.now → IsHoldersDue head.now events.now }
+    ensures next { IsLawful head.now events.now → IsHoldersNext head.now events.now }
+    ensures waits { IsLawful head.now events.now → IsHoldersWait head.now events.now }
+{}
+
+/// The walks of an upmany that its seat goes on with are a queue, in the order of their last events: the first
+/// has the turn, where no walk is left to begin, and one event changes it at its front and its end alone. It
+/// is no longer than there are possible processors.
+pub fn batch_queue(head: &Head, events: &[Event], event: &Event, queue: &[u32])
+    ensures begins { (seat : ℕ) → ((cpu : ℕ) → walk cpu events.now ≡ None) → IsQueue head.now events.now seat [] }
+    ensures turn { (seat : ℕ) → to_begin head.now events.now ≡ [] → IsQueue head.now events.now seat queue.now →
+        turn_of head.now events.now seat ≡ first queue.now }
+    ensures moves { (o : Operation) → IsLawful head.now events.now → Comes head.now events.now event.now →
+        operation events.now ≡ Some o → is_upmany o.op ≡ true →
+        operation (events.now ++ event.now ∷ []) ≡ Some o → IsQueue head.now events.now o.seat queue.now →
+        IsQueue head.now (events.now ++ event.now ∷ []) o.seat
+        (queue_after (is_own head.now (events.now ++ event.now ∷ []) o.seat) queue.now event.now) }
+    ensures fits { (seat : ℕ) → IsLawful head.now events.now → IsQueue head.now events.now seat queue.now →
+        length queue.now ≤ head.now.possible }
 {}
 
 /// What is promised to a lawful journal fits into it: with all its promises it is within the limit.
@@ -203,16 +258,23 @@ pub fn due_entry(head: &Head, events: &[Event], entry: &Event)
     ensures leaves { (seat : ℕ) → Stands head.now events.now (Leave seat) → due_entry_of head.now events.now seat ≡ None }
 {}
 
-/// An entry that is due from a seat, the one entry that is, stays due after an event of another seat, but
-/// for one that arms its processor in the middle of its walk.
+/// An entry that is due from a seat stays due after an event of another seat, but for one that arms its
+/// processor in the middle of its walk, and for a call of the same hook beside it. It is the one entry that
+/// is due of its processor, and but in an upmany the one that is due at all.
 pub fn due_stays(head: &Head, events: &[Event], entry: &Event, event: &Event)
     ensures stays { (seat : ℕ) → IsLawful head.now events.now →
         due_entry_of head.now events.now seat ≡ Some entry.now → Stands head.now events.now event.now →
         seat_of event.now ≢ seat → arms_walker events.now entry.now event.now ≡ false →
+        calls_beside entry.now event.now ≡ false →
         due_entry_of head.now (events.now ++ event.now ∷ []) seat ≡ Some entry.now }
+    ensures one { (seat other : ℕ) → IsLawful head.now events.now →
+        due_entry_of head.now events.now seat ≡ Some entry.now →
+        due_entry_of head.now events.now other ≡ Some event.now → cpu_of entry.now ≡ cpu_of event.now →
+        entry.now ≡ event.now }
     ensures alone { (seat other : ℕ) → IsLawful head.now events.now →
         due_entry_of head.now events.now seat ≡ Some entry.now →
-        due_entry_of head.now events.now other ≡ Some event.now → entry.now ≡ event.now }
+        due_entry_of head.now events.now other ≡ Some event.now →
+        held_by is_upmany (operation events.now) ≡ false → entry.now ≡ event.now }
 {}
 
 /// What comes next of a seat and its operation stands, after any journal, and after a lawful one, of a
@@ -252,10 +314,11 @@ pub fn run_lawful(head: &Head, events: &[Event])
         IsRunByRounds head.now actors events.now → IsLawful head.now events.now }
 {}
 
-/// With one actor, after a lawful journal in which no seat but the actor's is in as a client, at
-/// most one event can be taken next, whatever seats' turns it is.
+/// With one actor, after a lawful journal in which no seat but the actor's is in as a client and no
+/// upmany is in flight, at most one event can be taken next, whatever seats' turns it is.
 pub fn one_actor_next(head: &Head, ops: &[Op], before: &[Event], one: &Event, other: &Event)
     ensures { (seat another : ℕ) → IsLawful head.now before.now →
+        held_by is_upmany (operation before.now) ≡ false →
         OneClient (length (present head.now)) before.now →
         CanTakeAfter head.now (ops.now ∷ []) before.now seat one.now →
         CanTakeAfter head.now (ops.now ∷ []) before.now another other.now →

@@ -1,7 +1,7 @@
 //! What no clause says: that the tables come out as written by hand, and plans as they are filled.
 
 use hp_states::{
-    Dir, HookPlan, Place, Range, Rule, Section, builtin_name, can_stop, first_state, is_ap,
+    CpuSet, Dir, HookPlan, Place, Range, Rule, Section, builtin_name, can_stop, first_state, is_ap,
     is_atomic, is_builtin, is_name, is_name_byte, may_fail, section_of,
 };
 
@@ -190,4 +190,56 @@ fn a_ninth_rule_is_not_added(rt: HostRuntime) {
     for (i, kept) in plan.rules().iter().enumerate() {
         assert!(rt; kept.code as usize == i + 1);
     }
+}
+
+/// The numbers at both ends of the first word, the first of the second, and the last of all.
+#[test]
+fn a_set_has_the_numbers_that_were_put_into_it(rt: HostRuntime) {
+    let mut set = CpuSet::none();
+    assert!(rt; set.words == [0, 0, 0, 0]);
+    assert!(rt; set.is_empty());
+    assert!(rt; set.first_from(0) == None);
+    set.put(64);
+    assert!(rt; set.words == [0, 1, 0, 0]);
+    assert!(rt; !set.is_empty());
+    set.put(255);
+    set.put(63);
+    set.put(0);
+    set.put(63);
+    assert!(rt; set.words == [0x8000_0000_0000_0001, 1, 0, 0x8000_0000_0000_0000]);
+    assert!(rt; set.has(0) && set.has(63) && set.has(64) && set.has(255));
+    assert!(rt; !set.has(1) && !set.has(62) && !set.has(65) && !set.has(254));
+    for &(from, wanted) in [
+        (0, Some(0)),
+        (1, Some(63)),
+        (63, Some(63)),
+        (64, Some(64)),
+        (65, Some(255)),
+        (255, Some(255)),
+        (256, None),
+        (u32::MAX, None),
+    ]
+    .iter()
+    {
+        assert!(rt; set.first_from(from) == wanted, "from {from}");
+    }
+}
+
+#[test]
+fn a_set_has_no_number_that_was_taken_out(rt: HostRuntime) {
+    let mut set = CpuSet {
+        words: [0x8000_0000_0000_0001, 1, 0, 0x8000_0000_0000_0000],
+    };
+    set.take(1);
+    set.take(0);
+    assert!(rt; set.words == [0x8000_0000_0000_0000, 1, 0, 0x8000_0000_0000_0000]);
+    assert!(rt; !set.has(0) && set.first_from(0) == Some(63));
+    set.take(63);
+    assert!(rt; set.words == [0, 1, 0, 0x8000_0000_0000_0000]);
+    assert!(rt; !set.has(63) && set.first_from(0) == Some(64));
+    set.take(64);
+    assert!(rt; !set.has(64) && set.first_from(0) == Some(255) && !set.is_empty());
+    set.take(255);
+    assert!(rt; !set.has(255) && set.first_from(0) == None && set.is_empty());
+    assert!(rt; set == CpuSet::none());
 }

@@ -1,8 +1,9 @@
-//! What no clause says: the walks and the ends of some freezes, thaws and boots, as worked out by hand
-//! from the rules, with lists that change as the answers say.
+//! What no clause says: the walks and the ends of some freezes, thaws, boots and upmanys, as worked out by
+//! hand from the rules, with lists that change as the answers say.
 
 use hp_event::Answer;
-use hp_suspend::{Asked, Boot, Freeze, Thaw, WalkAsk};
+use hp_states::CpuSet;
+use hp_suspend::{Asked, Batch, Boot, Freeze, Thaw, Turns, WalkAsk};
 use std::process::Abort;
 use std::test::Fail;
 
@@ -125,5 +126,69 @@ fn a_stuck_walk_of_a_boot(rt: HostRuntime) -> Result<(), Fail> {
     assert!(&rt;
         boot.next(&present, &[true, true, false, false, true]) == Asked::Ended(Answer::Ok(2))
     );
+    Ok(())
+}
+
+/// Of processors 1, 2, 3 and 5 the second is up. The others begin in rising number before any of them
+/// ends, and the last that begins ends first.
+#[test]
+fn an_upmany_begins_those_that_are_not_up(rt: HostRuntime) -> Result<(), Fail> {
+    let mut set = CpuSet::none();
+    set.put(5);
+    set.put(3);
+    set.put(2);
+    set.put(1);
+    let mut batch = Batch::begin(&set, &[200, 0, 200, 150, 0, 0]);
+    assert!(&rt; !batch.is_begun());
+    assert!(&rt; batch.is_left(3));
+    assert!(&rt; !batch.is_left(2));
+    assert!(&rt; batch.next() == Some(1));
+    batch.began(1);
+    assert!(&rt; batch.is_begun());
+    assert!(&rt; !batch.is_left(1));
+    assert!(&rt; batch.next() == Some(3));
+    batch.began(3);
+    assert!(&rt; batch.next() == Some(5));
+    batch.began(5);
+    assert!(&rt; batch.next() == None);
+    assert!(&rt; batch.failed() == 0);
+    batch.took(Answer::Ok(0));
+    assert!(&rt; batch.failed() == 0);
+    batch.took(Answer::Fault(7));
+    assert!(&rt; batch.failed() == 1);
+    batch.took(Answer::Stuck {
+        first: 7,
+        second: 8,
+        at: 150,
+    });
+    assert!(&rt; batch.failed() == 2);
+    assert!(&rt; batch.next() == None);
+    Ok(())
+}
+
+/// Three walks begin. The second comes to an entry that its processor's thread makes, and comes back
+/// after the others' next events; then the walks end one after the other.
+#[test]
+fn turns_go_round(rt: HostRuntime) -> Result<(), Fail> {
+    let mut turns = Turns::new(rt.alloc(), 3)?;
+    assert!(&rt; turns.first() == None);
+    turns.moved(1, true);
+    turns.moved(3, true);
+    turns.moved(5, true);
+    assert!(&rt; turns.first() == Some(1));
+    turns.moved(1, true);
+    assert!(&rt; turns.first() == Some(3));
+    turns.moved(3, false);
+    assert!(&rt; turns.first() == Some(5));
+    turns.moved(5, true);
+    assert!(&rt; turns.first() == Some(1));
+    turns.moved(3, true);
+    assert!(&rt; turns.first() == Some(1));
+    turns.moved(1, false);
+    assert!(&rt; turns.first() == Some(5));
+    turns.moved(5, false);
+    assert!(&rt; turns.first() == Some(3));
+    turns.moved(3, false);
+    assert!(&rt; turns.first() == None);
     Ok(())
 }

@@ -18,8 +18,8 @@ use Rattle.hp_play.specs.Outputs.{output}
 use Rattle.hp_play.specs.Racks.{Racks, IsRackAfter}
 
 -- It is the run of the script's actors by its schedule; each event stands after those before it; every front of it has the headline, and
--- completes, and at most one processor walks after it, which leaves the others as they were; nothing is in flight at its end, and the
--- keys that its summary shows of a processor are those registered at or below its state.
+-- completes, and but in an upmany at most one processor walks after it; a walk leaves those that haven't walked beside it as they were;
+-- nothing is in flight at its end, and the keys that its summary shows of a processor are those registered at or below its state.
 pub record IsJournalOf (script : Contents) (events : List Event) : Type 0 where
   pub run : IsRunBy script.head script.actors (schedule_written script.schedule) events
   pub lawful : IsLawful script.head events

@@ -1,4 +1,5 @@
 pub mod Texts
+pub mod SetText
 pub mod Digits
 pub mod KeyOrder
 pub mod SuspendTallyStep

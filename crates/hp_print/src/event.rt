@@ -1,8 +1,9 @@
 //! The line of an event.
 
-ghost use Rattle.std.specs.Prelude.{◌≡◌, ◌++◌, ◌∷◌, [], OnOk, IfOk, decimal};
+ghost use Rattle.std.specs.Prelude.{◌≡◌, ◌++◌, ◌∷◌, [], OnOk, IfOk, decimal, true};
 ghost use Rattle.hp_event.specs.declared.event.Event.TheVariants as event;
 ghost use Rattle.hp_model.specs.Words.{spaced, joined, dir_word};
+ghost use Rattle.hp_model.specs.HasLine.{lists_one as lists_one_of, has_line as has_line_of};
 ghost use Rattle.hp_model.specs.EventLine.{event_line as line_of, event_words, how_words, answer_words, walk_answer_words, role_words, file_words};
 
 use crate::op::append_op;
@@ -99,8 +100,8 @@ fn append_admit(out: &mut Vec<u8>, seat: u32, role: Role) -> Result<(), AllocErr
 }
 
 /// Appends the words of an operation that takes the map lock.
-fn append_enter(out: &mut Vec<u8>, seat: u32, op: Op) -> Result<(), AllocError>
-    ensures { OnOk result (out.new.items ≡ out.old.items ++ joined (event_words (event.Enter seat op))) }
+fn append_enter(out: &mut Vec<u8>, seat: u32, op: &Op) -> Result<(), AllocError>
+    ensures { OnOk result (out.new.items ≡ out.old.items ++ joined (event_words (event.Enter seat op.now))) }
 {
     append_of(out, b"enter", seat)?;
     append_op(out, op)
@@ -123,8 +124,8 @@ fn append_regged(out: &mut Vec<u8>, seat: u32, answer: Answer) -> Result<(), All
 }
 
 /// Appends the words of an operation that is refused.
-fn append_refused(out: &mut Vec<u8>, seat: u32, errno: u32, op: Op) -> Result<(), AllocError>
-    ensures { OnOk result (out.new.items ≡ out.old.items ++ joined (event_words (event.Refused seat errno op))) }
+fn append_refused(out: &mut Vec<u8>, seat: u32, errno: u32, op: &Op) -> Result<(), AllocError>
+    ensures { OnOk result (out.new.items ≡ out.old.items ++ joined (event_words (event.Refused seat errno op.now))) }
 {
     append_of(out, b"refused", seat)?;
     append_number(out, errno)?;
@@ -183,8 +184,8 @@ fn append_walked(out: &mut Vec<u8>, seat: u32, cpu: u32, answer: Answer) -> Resu
 }
 
 /// Appends the words of a registration that begins.
-fn append_reg(out: &mut Vec<u8>, seat: u32, state: u32, op: Op) -> Result<(), AllocError>
-    ensures { OnOk result (out.new.items ≡ out.old.items ++ joined (event_words (event.RegBegin seat state op))) }
+fn append_reg(out: &mut Vec<u8>, seat: u32, state: u32, op: &Op) -> Result<(), AllocError>
+    ensures { OnOk result (out.new.items ≡ out.old.items ++ joined (event_words (event.RegBegin seat state op.now))) }
 {
     append_of(out, b"reg", seat)?;
     append_number(out, state)?;
@@ -219,17 +220,17 @@ fn append_shown(
 fn append_words(out: &mut Vec<u8>, event: &Event) -> Result<(), AllocError>
     ensures { OnOk result (out.new.items ≡ out.old.items ++ joined (event_words event.now)) }
 {
-    match *event {
-        Event::Admit { seat, role } => append_admit(out, seat, role),
-        Event::Leave { seat } => append_of(out, b"leave", seat),
-        Event::Enter { seat, op } => append_enter(out, seat, op),
-        Event::Refused { seat, errno, op } => append_refused(out, seat, errno, op),
+    match event {
+        Event::Admit { seat, role } => append_admit(out, *seat, *role),
+        Event::Leave { seat } => append_of(out, b"leave", *seat),
+        Event::Enter { seat, op } => append_enter(out, *seat, op),
+        Event::Refused { seat, errno, op } => append_refused(out, *seat, *errno, op),
         Event::WalkBegin {
             seat,
             cpu,
             from,
             to,
-        } => append_walk(out, seat, cpu, from, to),
+        } => append_walk(out, *seat, *cpu, *from, *to),
         Event::Call {
             seat,
             cpu,
@@ -237,21 +238,31 @@ fn append_words(out: &mut Vec<u8>, event: &Event) -> Result<(), AllocError>
             inst,
             dir,
             how,
-        } => append_call(out, seat, cpu, Key { state, inst }, dir, how),
-        Event::WalkEnd { seat, cpu, answer } => append_walked(out, seat, cpu, answer),
-        Event::OpEnd { seat, answer } => append_done(out, seat, answer),
-        Event::RegBegin { seat, state, op } => append_reg(out, seat, state, op),
-        Event::RegEnd { seat, answer } => append_regged(out, seat, answer),
-        Event::ReadLock { seat } => append_of(out, b"lock", seat),
-        Event::ReadUnlock { seat } => append_of(out, b"unlock", seat),
-        Event::Armed { seat, cpu, value } => append_armed(out, seat, cpu, value),
+        } => append_call(
+            out,
+            *seat,
+            *cpu,
+            Key {
+                state: *state,
+                inst: *inst,
+            },
+            *dir,
+            *how,
+        ),
+        Event::WalkEnd { seat, cpu, answer } => append_walked(out, *seat, *cpu, *answer),
+        Event::OpEnd { seat, answer } => append_done(out, *seat, *answer),
+        Event::RegBegin { seat, state, op } => append_reg(out, *seat, *state, op),
+        Event::RegEnd { seat, answer } => append_regged(out, *seat, *answer),
+        Event::ReadLock { seat } => append_of(out, b"lock", *seat),
+        Event::ReadUnlock { seat } => append_of(out, b"unlock", *seat),
+        Event::Armed { seat, cpu, value } => append_armed(out, *seat, *cpu, *value),
         Event::Shown {
             seat,
             file,
             cpu,
             value,
-        } => append_shown(out, seat, file, cpu, value),
-        Event::Wakeup { seat } => append_of(out, b"wakeup", seat),
+        } => append_shown(out, *seat, *file, *cpu, *value),
+        Event::Wakeup { seat } => append_of(out, b"wakeup", *seat),
     }
 }
 
@@ -263,12 +274,37 @@ pub fn append_event(out: &mut Vec<u8>, event: &Event) -> Result<(), AllocError>
     end_line(out)
 }
 
+/// Whether an operation lists a processor, where it is an upmany.
+fn lists_one(op: &Op) -> bool
+    ensures { result ≡ lists_one_of op.now }
+{
+    match op {
+        Op::UpMany(set) => !set.is_empty(),
+        _ => true,
+    }
+}
+
+/// Whether an event has a line: it has, unless it is of an upmany of no processor.
+///
+/// Takes no memory. The rule is `has_line` of `specs/HasLine.antt` of hp_model.
+pub fn has_line(event: &Event) -> bool
+    ensures { result ≡ has_line_of event.now }
+{
+    match event {
+        Event::Enter { op, .. } | Event::Refused { op, .. } | Event::RegBegin { op, .. } => {
+            lists_one(op)
+        }
+        _ => true,
+    }
+}
+
 /// The line of an event, as the text of a journal has it.
 ///
-/// Takes memory for the line; where it is wanting the answer is `NoMemory`. The form of the line is
-/// this project's own: the kind's word, the seat, and what else the kind has, one space between two
-/// words and a newline at the end.
+/// The event is one that has a line, as each of a lawful journal has. Takes memory for the line; where
+/// it is wanting the answer is `NoMemory`. The form of the line is this project's own: the kind's word,
+/// the seat, and what else the kind has, one space between two words and a newline at the end.
 pub fn event_line(alloc: Global, event: &Event) -> Result<Vec<u8>, NoMemory>
+    requires { has_line_of event.now ≡ true }
     ensures { IfOk result (λ v. v.items ≡ line_of event.now) }
 {
     let mut out = Vec::new(alloc);

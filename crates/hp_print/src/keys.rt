@@ -181,7 +181,9 @@ impl KeyCounts {
         let slot = slot_of(key);
         let remembered = self.places[slot] as usize;
         let at = count(&mut self.counts, key, remembered, dir, done)?;
-        self.places[slot] = u32::try_from(at).unwrap_or(0);
+        if at != remembered {
+            self.places[slot] = u32::try_from(at).unwrap_or(0);
+        }
         Ok(())
     }
 }

@@ -20,6 +20,6 @@ mod suspend_tally;
 mod tally;
 mod words;
 
-pub use event::event_line;
+pub use event::{event_line, has_line};
 pub use journal::journal_text;
 pub use summary_lines::{journal_and_summary, summary};

@@ -2,13 +2,14 @@
 //! shown.
 
 use hp_event::{Answer, Event, File, Form, How, Op, Role};
-use hp_print::event_line;
-use hp_states::Dir;
+use hp_print::{event_line, has_line};
+use hp_states::{CpuSet, Dir};
 use std::alloc::Global;
 use std::process::Abort;
 use std::test::Fail;
 
 fn check(rt: &impl Abort, alloc: Global, event: Event, wanted: &[u8]) -> Result<(), Fail> {
+    assert!(rt; has_line(&event));
     let line = event_line(alloc, &event)?;
     assert!(rt; line.as_slice() == wanted);
     Ok(())
@@ -25,6 +26,10 @@ fn refused(op: Op) -> Event {
 
 fn form(nocalls: bool, locked: bool) -> Form {
     Form { nocalls, locked }
+}
+
+fn upmany(words: [u64; 4]) -> Op {
+    Op::UpMany(CpuSet { words })
 }
 
 #[test]
@@ -174,6 +179,40 @@ fn a_line_of_each_operation(rt: HostRuntime) -> Result<(), Fail> {
         check(&rt, rt.alloc(), refused(op), wanted.as_bytes())?;
     }
     Ok(())
+}
+
+#[test]
+fn a_line_of_an_upmany_lists_its_processors(rt: HostRuntime) -> Result<(), Fail> {
+    for &(words, wanted) in [
+        ([1, 0, 0, 0], "refused 3 22 upmany 0\n"),
+        ([0b1010_0110, 0, 0, 0], "refused 3 22 upmany 1 2 5 7\n"),
+        ([1 << 63, 1, 0, 0], "refused 3 22 upmany 63 64\n"),
+        ([0, 0, 0, 1 << 63], "refused 3 22 upmany 255\n"),
+        (
+            [1 << 9, 1 << 36, 3, 1 << 8],
+            "refused 3 22 upmany 9 100 128 129 200\n",
+        ),
+    ]
+    .iter()
+    {
+        check(&rt, rt.alloc(), refused(upmany(words)), wanted.as_bytes())?;
+    }
+    let mut set = CpuSet::none();
+    let empty = Op::UpMany(set);
+    assert!(rt; !has_line(&refused(empty)));
+    assert!(rt;
+        !has_line(&Event::Enter {
+            seat: 3,
+            op: empty,
+        })
+    );
+    set.put(12);
+    set.put(3);
+    let enter = Event::Enter {
+        seat: 3,
+        op: Op::UpMany(set),
+    };
+    check(&rt, rt.alloc(), enter, b"enter 3 upmany 3 12\n")
 }
 
 #[test]

@@ -109,6 +109,7 @@ impl Reg {
     ///
     /// After `__cpuhp_setup_state_cpuslocked`, `__cpuhp_state_add_instance_cpuslocked`,
     /// `cpuhp_rollback_install` and `__cpuhp_remove_state_cpuslocked` of `kernel/cpu.c`.
+    #[inline(always)]
     pub fn next<H: Hook>(&self, table: &Table<H>, settled: &[u32], absent: &[u32]) -> RegStep
         requires { length settled.now ≤ MAX_CPUS }
         ensures asks { result ≡ asked (key_at table.now self.now) (cpus_at settled.now absent.now self.now) self.now }

@@ -93,13 +93,13 @@ pub event_again : (e : Event) → EventFits e → IsSpelled e → event (event_w
 unfolding event
 event_again (Admit seat r) h s = rw (number_again seat h.0, role_again r h.1) refl
 event_again (Leave seat) h s = rw (number_again seat h) refl
-event_again (Enter seat o) h s = rw (number_again seat h.0, op_again o h.1) refl
-event_again (Refused seat errno o) h s = rw (number_again seat h.0, number_again errno h.1, op_again o h.2) refl
+event_again (Enter seat o) h s = rw (number_again seat h.0, op_again o h.1 s) refl
+event_again (Refused seat errno o) h s = rw (number_again seat h.0, number_again errno h.1, op_again o h.2 s) refl
 event_again (WalkBegin seat cpu from to) h s = rw (number_again seat h.0, number_again cpu h.1, number_again from h.2, number_again to h.3) refl
 event_again (Call seat cpu state inst dir x) h s = rw (number_again seat h.0, number_again cpu h.1, number_again state h.2, number_again inst h.3, direction_again dir, how_again x h.4) refl
 event_again (WalkEnd seat cpu a) h s = rw (number_again seat h.0, number_again cpu h.1, walk_answer_again a h.2 s) refl
 event_again (OpEnd seat a) h s = rw (number_again seat h.0, answer_again a h.1) refl
-event_again (RegBegin seat state o) h s = rw (number_again seat h.0, number_again state h.1, op_again o h.2) refl
+event_again (RegBegin seat state o) h s = rw (number_again seat h.0, number_again state h.1, op_again o h.2 s) refl
 event_again (RegEnd seat a) h s = rw (number_again seat h.0, answer_again a h.1) refl
 event_again (ReadLock seat) h s = rw (number_again seat h) refl
 event_again (ReadUnlock seat) h s = rw (number_again seat h) refl

@@ -132,9 +132,9 @@ rows_say = one_spells event_rows (
   (
     bind_spells number_field (λ seat a. done_spells (Leave seat) refl (a, tt)),
     (
-      bind_spells number_field (λ seat a. mapped_spells (λ o. Enter seat o) op_spells (λ o f. (refl, ((a, f), tt)))),
+      bind_spells number_field (λ seat a. mapped_spells (λ o. Enter seat o) op_spells (λ o f. (refl, ((a, f.0), f.1)))),
       (
-        bind_spells number_field (λ seat a. bind_spells number_field (λ errno b. mapped_spells (λ o. Refused seat errno o) op_spells (λ o f. (refl, ((a, b, f), tt))))),
+        bind_spells number_field (λ seat a. bind_spells number_field (λ errno b. mapped_spells (λ o. Refused seat errno o) op_spells (λ o f. (refl, ((a, b, f.0), f.1))))),
         (
           bind_spells number_field (λ seat a. bind_spells number_field (λ cpu b. bind_spells number_field (λ from c. bind_spells number_field (λ to d. done_spells (WalkBegin seat cpu from to) refl ((a, b, c, d), tt))))),
           (
@@ -144,7 +144,7 @@ rows_say = one_spells event_rows (
               (
                 bind_spells number_field (λ seat a. mapped_spells (λ x. OpEnd seat x) answer_spells (λ x f. (refl, ((a, f), tt)))),
                 (
-                  bind_spells number_field (λ seat a. bind_spells number_field (λ state b. mapped_spells (λ o. RegBegin seat state o) op_spells (λ o f. (refl, ((a, b, f), tt))))),
+                  bind_spells number_field (λ seat a. bind_spells number_field (λ state b. mapped_spells (λ o. RegBegin seat state o) op_spells (λ o f. (refl, ((a, b, f.0), f.1))))),
                   (
                     bind_spells number_field (λ seat a. mapped_spells (λ x. RegEnd seat x) answer_spells (λ x f. (refl, ((a, f), tt)))),
                     (

@@ -12,7 +12,7 @@ use Rattle.hp_replay.specs.declared.first_word.OpWord.{OpWord}
 use Rattle.hp_replay.specs.declared.first_word.OpWord.TheVariants as op_word
 use Rattle.hp_replay.specs.Readers.{Tail, Row, done, row, row_of}
 use Rattle.hp_replay.specs.Tails.{numbered, valued}
-use Rattle.hp_replay.specs.OpAt.{show_tail, setup_tail, remove_tail, add_tail, del_tail, freeze_tail, op_rows, op as op_at}
+use Rattle.hp_replay.specs.OpAt.{show_tail, setup_tail, remove_tail, add_tail, del_tail, freeze_tail, upmany_tail, op_rows, op as op_at}
 use Rattle.hp_replay.specs.EventAt.{admit_tail, enter_tail, refused_tail, walk_tail, call_tail, walked_tail, done_tail, reg_tail, regged_tail, armed_tail, shown_tail, event_rows, event as event_at}
 use Rattle.hp_replay.specs.WordsLeft.{first_of, others_of}
 use Rattle.hp_replay.specs.FirstWords.{text_of_event, event_words, event_word_of, text_of_op, op_words, op_word_of}
@@ -106,6 +106,7 @@ op_tail op_word.Enable = done op.Enable
 op_tail op_word.Freeze = freeze_tail
 op_tail op_word.Thaw = done op.Thaw
 op_tail op_word.Wakeup = done op.Wakeup
+op_tail op_word.UpMany = upmany_tail
 
 op_says : (v : OpWord) (words : List (List ℕ)) (word : List ℕ) → Some word ≡ first_of words → Some v ≡ op_word_of word → op_tail v (others_of words) ≡ op_at words
 unfolding op_word_of op_at

@@ -9,10 +9,12 @@ use Rattle.hp_event.specs.declared.head.Sub.{Sub}
 use Rattle.hp_model.specs.Lists.{is_empty}
 use Rattle.hp_model.specs.Words.{line, dir_word, name_word, any_word, calls_word, kind_word, list_words}
 use Rattle.hp_model.specs.Heads.{IsName, IsRule}
+use Rattle.hp_model.proofs.Rising.{Rise}
 use Rattle.hp_replay.specs.Numbers.{is_number, value}
 use Rattle.hp_replay.specs.LineWords.{words_at}
 use Rattle.hp_replay.specs.Readers.{one_of}
-use Rattle.hp_replay.specs.HeadLines.{HeadLine, a_sub, a_rule, the_events, cpus_rows, cpus_at, rising_from, absent_tail, absent_rows, absent_at, head_rows, head_line_at}
+use Rattle.hp_replay.specs.Rising.{rising_from}
+use Rattle.hp_replay.specs.HeadLines.{HeadLine, a_sub, a_rule, the_events, cpus_rows, cpus_at, absent_tail, absent_rows, absent_at, head_rows, head_line_at}
 use Rattle.hp_replay.specs.EndAt.{any_number, end_tail, end_rows, end_at}
 use Rattle.hp_replay.proofs.Basics.{passed, some_is}
 use Rattle.hp_replay.proofs.NumberLaws.{number_is, decimal_written}
@@ -21,7 +23,7 @@ use Rattle.hp_replay.proofs.ReaderLaws.{Spells, done_spells, bind_spells, one_sp
 use Rattle.hp_replay.proofs.EventTakes.{direction_field}
 use Rattle.hp_replay.proofs.EventAgain.{direction_again, dir_free}
 use Rattle.hp_replay.proofs.HeadFields.{InRange, AnyInRange, decimal_other, range_field, from_below_again, any_field, any_again, any_free, name_field, name_again, name_free, calls_field, calls_again, calls_free, kind_field, kind_again, kind_free}
-use Rattle.hp_replay.proofs.AbsentLaws.{Rise, rising_takes, rising_again, rise_free}
+use Rattle.hp_replay.proofs.AbsentLaws.{rising_takes, rising_again, rise_free}
 
 -- ---- the possible processors
 

@@ -31,6 +31,7 @@ mod Rows
 mod FirstWordLaws
 mod LineForms
 mod RisingLoop
+mod CpuSetLoop
 mod ReadingLaws
 mod HeadReading
 mod EventReading

@@ -4,13 +4,15 @@ use Rattle.std.specs.Prelude.{codes, decimal, pos, negsuc}
 use Rattle.std.specs.Fmt.{digits}
 use Rattle.hp_states.specs.declared.dir.Dir.TheVariants as dir
 use Rattle.hp_states.specs.declared.limits.TheConstants.{MAX_EVENTS}
-use Rattle.hp_event.specs.declared.op.Op.TheVariants.{Up, Target, Setup, Freeze}
+use Rattle.hp_event.specs.declared.op.Op.{Op}
+use Rattle.hp_event.specs.declared.op.Op.TheVariants.{Up, Target, Setup, Freeze, UpMany}
 use Rattle.hp_event.specs.declared.how.How.TheVariants.{RanOk, RanFault}
 use Rattle.hp_event.specs.declared.answer.Answer.TheVariants.{Ok, Refused as RefusedWith, Stuck, LogFull}
 use Rattle.hp_event.specs.declared.event.Role.TheVariants.{Client, Ap}
 use Rattle.hp_event.specs.declared.event.File.TheVariants.{State, States}
 use Rattle.hp_event.specs.declared.event.Event.{Event}
-use Rattle.hp_event.specs.declared.event.Event.TheVariants.{Admit, Leave, Enter, Call, WalkEnd, OpEnd, RegBegin, RegEnd, Shown}
+use Rattle.hp_event.specs.declared.event.Event.TheVariants.{Admit, Leave, Enter, Refused, Call, WalkEnd, OpEnd, RegBegin, RegEnd, Shown}
+use Rattle.hp_model.specs.SetOf.{bits_of, set_of}
 use Rattle.hp_replay.specs.Numbers.{number_below, integer}
 use Rattle.hp_replay.specs.LineWords.{words_at}
 use Rattle.hp_replay.specs.OpAt.{flags, form, op}
@@ -45,6 +47,15 @@ event_lines =
     (codes "enter 2 target 1 2147483648", None) ∷
     (codes "enter 2 freeze -1", Some (Enter 2 (Freeze (negsuc 0)))) ∷
     (codes "enter 2 freeze -0", None) ∷
+    (codes "enter 2 upmany", None) ∷
+    (codes "enter 2 upmany ", None) ∷
+    (codes "enter 2 upmany one", None) ∷
+    (codes "enter 2 upmany -1", None) ∷
+    (codes "enter 2 upmany 01", None) ∷
+    (codes "enter 2 upmany 256", None) ∷
+    (codes "enter 2 upmany 1 256", None) ∷
+    (codes "enter 2 upmany 2 1", None) ∷
+    (codes "enter 2 upmany 1 1", None) ∷
     (codes "reg 2 120 setup 120 1", Some (RegBegin 2 120 (Setup 120 1 (flags false false)))) ∷
     (codes "reg 2 120 setup 120 1 nocalls locked", Some (RegBegin 2 120 (Setup 120 1 (flags true true)))) ∷
     (codes "reg 2 120 setup 120 1 locked nocalls", None) ∷
@@ -65,8 +76,22 @@ event_lines =
     []
 
 event_lines_say : map (λ row. event_at (ended row.0)) event_lines ≡ map (λ row. row.1) event_lines
-unfolding event_at words_at event op form number_below integer direction role how answer walk_answer
+unfolding event_at words_at event op form number_below from_below integer direction role how answer walk_answer
 event_lines_say = refl
+
+-- an upmany with the words of its set
+abbrev upmany : List ℕ → Op
+upmany words = UpMany (record { words = words })
+
+abbrev upmany_lines : List (List ℕ × Option Event)
+upmany_lines =
+    (codes "enter 2 upmany 0", Some (Enter 2 (upmany (1 ∷ 0 ∷ 0 ∷ 0 ∷ [])))) ∷
+    (codes "refused 2 22 upmany 1 2 64 255", Some (Refused 2 22 (upmany (6 ∷ 1 ∷ 0 ∷ 9223372036854775808 ∷ [])))) ∷
+    []
+
+upmany_lines_say : map (λ row. event_at (ended row.0)) upmany_lines ≡ map (λ row. row.1) upmany_lines
+unfolding event_at words_at event op number_below from_below set_of bits_of
+upmany_lines_say = refl
 
 no_newline : event_at (codes "leave 7") ≡ None
 unfolding event_at words_at

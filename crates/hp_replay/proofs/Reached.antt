@@ -19,6 +19,7 @@ use Rattle.hp_model.specs.JournalText.{rule_line, title_line, journal_text}
 use Rattle.hp_model.specs.Summary.{summary}
 use Rattle.hp_model.specs.Lawful.{Stands}
 use Rattle.hp_model.proofs.HeadlineProof.{lawful_more}
+use Rattle.hp_model.proofs.Rising.{Rise, rise_below, rise_increases}
 use Rattle.hp_replay.specs.Fits.{EventFits}
 use Rattle.hp_replay.specs.declared.error.ReplayKind.TheVariants.{Header, Count, Trailing}
 use Rattle.hp_replay.specs.InputLines.{lines_of}
@@ -29,7 +30,7 @@ use Rattle.hp_replay.specs.CanStand.{IsJournal, CanStand}
 use Rattle.hp_replay.specs.Stages.{Stage, begins, titled, counted, headed, ruled, among_events, whole, among_summary, goes, stops, with_sub, cpus_step, absent_step, headed_step, ruled_step, event_step, end_step, summary_step, step}
 use Rattle.hp_replay.proofs.ReaderLaws.{same_word}
 use Rattle.hp_replay.proofs.EventTakes.{event_at_takes}
-use Rattle.hp_replay.proofs.AbsentLaws.{Rise, rise_below, rise_increases, zero_not_among}
+use Rattle.hp_replay.proofs.AbsentLaws.{zero_not_among}
 use Rattle.hp_replay.proofs.HeadLaws.{cpus_words, IsCount, cpus_takes, absent_words, absent_takes, head_words, head_takes, end_words, end_takes}
 use Rattle.hp_replay.proofs.TextLines.{lines_of_sub, rule_lines, front_lines, events_line, event_lines, text_lines, text_lines_are}
 use Rattle.hp_replay.specs.Judged.{Leads}

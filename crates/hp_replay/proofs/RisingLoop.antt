@@ -1,9 +1,9 @@
--- The absent processors read one by one: those so far, in front of what the other words say, are what all words say.
+-- Numbers that rise, read one by one: those so far, in front of what the other words say, are what all words say.
 use Rattle.std.proofs.Common.{◌≡◌, ℕ, ◌+◌, List, [], ◌∷◌, ◌++◌, Option, Some, None, refl, sym, ap, ◌∙◌, append_assoc}
 use Rattle.std.proofs.lemmas.List.{append-nil}
 use Rattle.std.specs.Option.{option_map, option_and_then}
 use Rattle.hp_replay.specs.HeadWords.{from_below}
-use Rattle.hp_replay.specs.HeadLines.{rising_from}
+use Rattle.hp_replay.specs.Rising.{rising_from}
 
 -- so far these numbers
 abbrev pub behind : (numbers : List ℕ) → Option (List ℕ) → Option (List ℕ)
@@ -20,8 +20,8 @@ none_behind : (said : Option (List ℕ)) → behind [] said ≡ said
 none_behind None = refl
 none_behind (Some ns) = refl
 
-pub begun : (limit : ℕ) (ws : List (List ℕ)) → behind [] (rising_from 1 limit ws) ≡ rising_from 1 limit ws
-begun limit ws = none_behind (rising_from 1 limit ws)
+pub begun : (low limit : ℕ) (ws : List (List ℕ)) → behind [] (rising_from low limit ws) ≡ rising_from low limit ws
+begun low limit ws = none_behind (rising_from low limit ws)
 
 pub one_more : (low limit n : ℕ) (numbers : List ℕ) (w : List ℕ) (ws : List (List ℕ)) → Some n ≡ from_below low limit w →
     behind (numbers ++ n ∷ []) (rising_from (n + 1) limit ws) ≡ behind numbers (rising_from low limit (w ∷ ws))

@@ -13,13 +13,14 @@ use Rattle.hp_model.specs.Words.{line}
 use Rattle.hp_model.specs.Heads.{IsHead, IsSub, IsRule}
 use Rattle.hp_model.specs.EventLine.{event_words, event_line}
 use Rattle.hp_model.specs.JournalText.{rule_line, sub_lines, processor_lines, title_line, head_text, journal_text}
+use Rattle.hp_model.proofs.Rising.{Rise}
 use Rattle.hp_replay.specs.Fits.{EventFits}
 use Rattle.hp_replay.specs.InputLines.{lines_of}
 use Rattle.hp_replay.specs.HeadLines.{a_sub, a_rule}
 use Rattle.hp_replay.proofs.LineLaws.{all_free}
 use Rattle.hp_replay.proofs.InputLaws.{line_first}
 use Rattle.hp_replay.proofs.EventAgain.{event_free}
-use Rattle.hp_replay.proofs.AbsentLaws.{Rise, absent_rise}
+use Rattle.hp_replay.proofs.AbsentLaws.{absent_rise}
 use Rattle.hp_replay.proofs.HeadLaws.{cpus_words, IsCount, cpus_free, absent_words, absent_free, head_words, sub_free, rule_free, end_words, end_free}
 
 -- a text's lines, whatever follows it

@@ -51,11 +51,13 @@ text_of_op op.Enable = codes "enable"
 text_of_op op.Freeze = codes "freeze"
 text_of_op op.Thaw = codes "thaw"
 text_of_op op.Wakeup = codes "wakeup"
+text_of_op op.UpMany = codes "upmany"
 
 abbrev pub op_words : List OpWord
 op_words =
     op.Up ∷ op.Down ∷ op.Target ∷ op.Fail ∷ op.Show ∷ op.Setup ∷ op.Remove ∷ op.Add ∷ op.Del
-    ∷ op.Lock ∷ op.Unlock ∷ op.Boot ∷ op.Disable ∷ op.Enable ∷ op.Freeze ∷ op.Thaw ∷ op.Wakeup ∷ []
+    ∷ op.Lock ∷ op.Unlock ∷ op.Boot ∷ op.Disable ∷ op.Enable ∷ op.Freeze ∷ op.Thaw ∷ op.Wakeup
+    ∷ op.UpMany ∷ []
 
 -- the first word of an operation that this word is
 unfoldable pub op_word_of : (word : List ℕ) → Option OpWord

@@ -1,4 +1,5 @@
--- Which events are values of their type: each number is within the range of its field. This project's own.
+-- Which events are values of their type: each number is within the range of its field, and a set of processors has four
+-- words of 64 bits. This project's own.
 use Rattle.std.specs.Prelude.{ℕ, ◌<◌, ◌^◌, ℤ, pos, negsuc}
 use Rattle.hp_event.specs.declared.op.Op.{Op}
 use Rattle.hp_event.specs.declared.op.Op.TheVariants as op
@@ -10,6 +11,7 @@ use Rattle.hp_event.specs.declared.event.Role.{Role}
 use Rattle.hp_event.specs.declared.event.Role.TheVariants.{Client, Ap}
 use Rattle.hp_event.specs.declared.event.Event.{Event}
 use Rattle.hp_event.specs.declared.event.Event.TheVariants.{Admit, Leave, Enter, Refused, WalkBegin, Call, WalkEnd, OpEnd, RegBegin, RegEnd, ReadLock, ReadUnlock, Armed, Shown, Wakeup}
+use Rattle.hp_model.specs.SetOf.{IsSet}
 
 -- a number of the type u32
 abbrev pub IsU32 : ℕ → Type 0
@@ -41,6 +43,7 @@ OpFits op.Enable = Unit {0}
 OpFits (op.Freeze primary) = IsI32 primary
 OpFits op.Thaw = Unit {0}
 OpFits op.Wakeup = Unit {0}
+OpFits (op.UpMany set) = IsSet set
 
 abbrev pub HowFits : How → Type 0
 HowFits RanOk = Unit {0}

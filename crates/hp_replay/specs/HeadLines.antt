@@ -1,7 +1,7 @@
 -- What the lines before the events say: how many processors are possible, which of them are absent, a subsystem, a
 -- rule of it, or that the events follow. This project's own.
-use Rattle.std.specs.Prelude.{ℕ, ◌+◌, Bool, ◌&&◌, if◌then◌else◌, List, [], ◌∷◌, Option, Some, None, codes}
-use Rattle.std.specs.Option.{option_map, option_and_then}
+use Rattle.std.specs.Prelude.{ℕ, Bool, ◌&&◌, if◌then◌else◌, List, [], ◌∷◌, Option, Some, None, codes}
+use Rattle.std.specs.Option.{option_and_then}
 use Rattle.std.specs.Str.{bytes_eq}
 use Rattle.hp_states.specs.declared.limits.TheConstants.{MAX_CPUS, MAX_RULE_CPU, MAX_INSTANCE, MAX_EVENTS, MAX_CODE}
 use Rattle.hp_states.specs.declared.dir.Dir.{Dir}
@@ -10,7 +10,8 @@ pub use Rattle.hp_replay.specs.declared.head_lines.HeadLine.TheVariants.{Sub as 
 use Rattle.hp_model.specs.Lists.{is_empty}
 use Rattle.hp_replay.specs.LineWords.{words_at}
 use Rattle.hp_replay.specs.Readers.{Tail, Row, ◌>>=◌, done, row, one_of}
-use Rattle.hp_replay.specs.HeadWords.{from_below, within, any_within, name, calls, kind}
+use Rattle.hp_replay.specs.HeadWords.{within, any_within, name, calls, kind}
+use Rattle.hp_replay.specs.Rising.{rising_from}
 use Rattle.hp_replay.specs.EventAt.{direction}
 
 abbrev pub cpus_tail : Tail ℕ
@@ -23,12 +24,6 @@ cpus_rows = row (codes "cpus") cpus_tail ∷ []
 
 unfoldable pub cpus_at : (line : List ℕ) → Option ℕ
 cpus_at line = option_and_then (one_of cpus_rows) (words_at line)
-
--- numbers below a limit, each above the one before it
-abbrev pub rising_from : (low limit : ℕ) → Tail (List ℕ)
-rising_from low limit [] = Some []
-rising_from low limit (w ∷ ws) =
-    option_and_then (λ n. option_map (λ ns. n ∷ ns) (rising_from (n + 1) limit ws)) (from_below low limit w)
 
 -- a dash, where none is absent; else numbers from 1 to the last possible processor's
 abbrev pub absent_tail : (possible : ℕ) → Tail (List ℕ)

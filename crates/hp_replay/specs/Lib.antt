@@ -4,9 +4,10 @@ pub mod Readers
 pub mod Tails
 pub mod Fits
 pub mod Spelled
+pub mod HeadWords
+pub mod Rising
 pub mod OpAt
 pub mod EventAt
-pub mod HeadWords
 pub mod HeadLines
 pub mod EndAt
 pub mod InputLines

@@ -1,10 +1,13 @@
 -- The operation that words say, as the lines of a script have them. This project's own.
 use Rattle.std.specs.Prelude.{Bool, true, false, ◌&&◌, if◌then◌else◌, List, [], ◌∷◌, Some, None, codes}
 use Rattle.std.specs.Str.{bytes_eq}
+use Rattle.hp_states.specs.declared.limits.TheConstants.{MAX_CPU_SET}
 use Rattle.hp_event.specs.declared.op.Op.{Op}
-use Rattle.hp_event.specs.declared.op.Op.TheVariants.{Up, Down, Target, Arm, ShowState, ShowTarget, ShowFail, ShowStates, Setup, Remove, Add, Del, Lock, Unlock, Boot, Disable, Enable, Freeze, Thaw, Wakeup}
+use Rattle.hp_event.specs.declared.op.Op.TheVariants.{Up, Down, Target, Arm, ShowState, ShowTarget, ShowFail, ShowStates, Setup, Remove, Add, Del, Lock, Unlock, Boot, Disable, Enable, Freeze, Thaw, Wakeup, UpMany}
 use Rattle.hp_event.specs.declared.op.Form.{Form}
+use Rattle.hp_model.specs.SetOf.{set_of}
 use Rattle.hp_replay.specs.Numbers.{number, integer}
+use Rattle.hp_replay.specs.Rising.{rising_from}
 use Rattle.hp_replay.specs.Tails.{numbered, valued}
 use Rattle.hp_replay.specs.Readers.{Field, Tail, Row, ◌>>=◌, done, mapped, row, one_of}
 
@@ -63,6 +66,11 @@ freeze_tail = do
   primary ← integer
   done (Freeze primary)
 
+-- the processors of an upmany: one or more numbers from 0 to 255, each above the one before it
+abbrev pub upmany_tail : Tail Op
+upmany_tail [] = None
+upmany_tail (w ∷ ws) = mapped (λ cpus. UpMany (set_of cpus)) (rising_from 0 MAX_CPU_SET) (w ∷ ws)
+
 abbrev pub op_rows : List (Row Op)
 op_rows =
     row (codes "up") (numbered (λ cpu. Up cpu))
@@ -79,7 +87,8 @@ op_rows =
     ∷ row (codes "boot") (numbered (λ most. Boot most))
     ∷ row (codes "disable") (done Disable)
     ∷ row (codes "enable") (done Enable)
-    ∷ row (codes "freeze") freeze_tail ∷ row (codes "thaw") (done Thaw) ∷ row (codes "wakeup") (done Wakeup) ∷ []
+    ∷ row (codes "freeze") freeze_tail
+    ∷ row (codes "thaw") (done Thaw) ∷ row (codes "wakeup") (done Wakeup) ∷ row (codes "upmany") upmany_tail ∷ []
 
 unfoldable pub op : Tail Op
 op words = one_of op_rows words

@@ -28,6 +28,7 @@ fn overruled(words: &mut Words<'_>) -> Option<How>
 
 /// How an entry was made, as the words say which are left.
 #[tactic(auto, unfolding(crate::specs::EventAt::how))]
+#[inline(always)]
 pub fn how(words: &mut Words<'_>) -> Option<How>
     ensures { result ≡ how_at words.old }
 {

@@ -5,7 +5,7 @@ ghost use Rattle.hp_event.specs.declared.event.Role.TheVariants as role;
 ghost use Rattle.hp_event.specs.declared.event.File.TheVariants as file;
 ghost use Rattle.hp_event.specs.declared.event.Event.TheVariants as event;
 ghost use Rattle.hp_replay.specs.Tails.{numbered, valued};
-ghost use Rattle.hp_replay.specs.EventAt.{direction as direction_at, role as role_at, admit_tail, enter_tail, refused_tail, way_tail, walk_tail, made_tail, entry_tail, call_tail, walked_tail, done_tail, reg_tail, regged_tail, armed_tail, shown_states_tail, file_tail, shown_tail, event as event_tail, event_at};
+ghost use Rattle.hp_replay.specs.EventAt.{direction as direction_at, role as role_at, admit_tail, enter_tail, refused_tail, way_tail, walk_tail, call_tail, walked_tail, done_tail, reg_tail, regged_tail, armed_tail, shown_states_tail, file_tail, shown_tail, event as event_tail, event_at};
 
 use crate::answer::{answer, how, walk_answer};
 use crate::first_word::{EventWord, event_word};
@@ -13,11 +13,12 @@ use crate::line::Line;
 use crate::numbers::integer;
 use crate::op::op;
 use crate::words::Words;
-use hp_event::{Event, File, Key, Role};
+use hp_event::{Event, File, Role};
 use hp_states::Dir;
 
 /// The direction that a word says.
 #[tactic(auto, unfolding(crate::specs::EventAt::direction))]
+#[inline(always)]
 pub fn direction(word: &[u8]) -> Option<Dir>
     ensures { result ≡ direction_at word.now }
 {
@@ -107,38 +108,24 @@ fn walk(words: &mut Words<'_>) -> Option<Event>
     way(seat, cpu, words)
 }
 
-/// The words of an entry behind its key: in which direction it goes, and how it was made.
-fn made(seat: u32, cpu: u32, key: Key, words: &mut Words<'_>) -> Option<Event>
-    ensures { result ≡ made_tail seat cpu key.state key.inst words.old }
-{
-    let dir = direction(words.next()?)?;
-    let how = how(words)?;
-    Some(Event::Call {
-        seat,
-        cpu,
-        state: key.state,
-        inst: key.inst,
-        dir,
-        how,
-    })
-}
-
-/// The words of an entry behind its processor: its key, its direction, and how it was made.
-fn entry(seat: u32, cpu: u32, words: &mut Words<'_>) -> Option<Event>
-    ensures { result ≡ entry_tail seat cpu words.old }
-{
-    let state = words.number()?;
-    let inst = words.number()?;
-    made(seat, cpu, Key { state, inst }, words)
-}
-
-/// The words behind `call`.
+/// The words behind `call`. They are read in one function, so that the event is made once.
 fn call(words: &mut Words<'_>) -> Option<Event>
     ensures { result ≡ call_tail words.old }
 {
     let seat = words.number()?;
     let cpu = words.number()?;
-    entry(seat, cpu, words)
+    let state = words.number()?;
+    let inst = words.number()?;
+    let dir = direction(words.next()?)?;
+    let how = how(words)?;
+    Some(Event::Call {
+        seat,
+        cpu,
+        state,
+        inst,
+        dir,
+        how,
+    })
 }
 
 /// The words behind `walked`.

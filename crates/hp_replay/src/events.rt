@@ -59,7 +59,7 @@ fn take_events(law: &mut Law, lines: &mut Lines<'_>) -> Result<(), ReplayError>
     loop {
         let line = lines.expect()?;
         match event_of_line(&line) {
-            Some(event) => take_event(law, &event, &line)?,
+            Some(ref event) => take_event(law, event, &line)?,
             None => return take_end(law, &line),
         }
     }

@@ -45,6 +45,7 @@ pub enum OpWord {
     Freeze,
     Thaw,
     Wakeup,
+    UpMany,
 }
 
 /// The first words of event lines, each with what it says.
@@ -74,7 +75,7 @@ pub fn event_word(word: &[u8]) -> Option<EventWord>
 }
 
 /// The first words of operations, each with what it says.
-const OP_WORDS: [(&'static [u8], OpWord); 17] = [
+const OP_WORDS: [(&'static [u8], OpWord); 18] = [
     (b"up", OpWord::Up),
     (b"down", OpWord::Down),
     (b"target", OpWord::Target),
@@ -92,6 +93,7 @@ const OP_WORDS: [(&'static [u8], OpWord); 17] = [
     (b"freeze", OpWord::Freeze),
     (b"thaw", OpWord::Thaw),
     (b"wakeup", OpWord::Wakeup),
+    (b"upmany", OpWord::UpMany),
 ];
 
 /// Which first word of an operation a word is.

@@ -7,6 +7,7 @@ ghost use Rattle.std.specs.Prelude.{ℤ, All};
 ghost use Rattle.hp_replay.specs.Fits.{IsU32, IsI32, OpFits, HowFits, AnswerFits, RoleFits, EventFits};
 
 use hp_event::{Answer, Event, How, Key, Op, Role};
+use hp_model::set_is_of_its_numbers;
 
 /// A number of the type `u32` is within it.
 fn known(_number: u32)
@@ -46,6 +47,7 @@ fn op_fits(op: Op)
             known(inst)
         }
         Op::Freeze(primary) => known_signed(primary),
+        Op::UpMany(set) => set_is_of_its_numbers(set),
         Op::ShowStates | Op::Lock | Op::Unlock | Op::Disable | Op::Enable | Op::Thaw | Op::Wakeup =>
             {}
     }

@@ -2,7 +2,8 @@
 
 ghost use Rattle.std.specs.Prelude.{◌≡◌, ◌≤◌, ◌<◌, ◌∷◌, Option, option_map, IfSome, IfOk};
 ghost use Rattle.hp_states.specs.declared.limits.TheConstants.{MAX_CPUS};
-ghost use Rattle.hp_replay.specs.HeadLines.{cpus_tail, cpus_at, rising_from, absent_tail, absent_at, fresh_sub, sub_tail, code_tail, rule_tail, the_events, head_line_at};
+ghost use Rattle.hp_replay.specs.Rising.{rising_from};
+ghost use Rattle.hp_replay.specs.HeadLines.{cpus_tail, cpus_at, absent_tail, absent_at, fresh_sub, sub_tail, code_tail, rule_tail, the_events, head_line_at};
 ghost use Rattle.hp_replay.specs.Readers.{done};
 
 use crate::event::direction;

@@ -1,14 +1,20 @@
 //! The operation that words say, as the lines of a script have them.
 
-ghost use Rattle.std.specs.Prelude.{◌≡◌};
+ghost use Rattle.std.specs.Prelude.{◌≡◌, ◌∷◌, option_map};
+ghost use Rattle.hp_states.specs.declared.limits.TheConstants.{MAX_CPU_SET as MAX_CPU_SET_OF};
 ghost use Rattle.hp_event.specs.declared.op.Op.TheVariants as op;
+ghost use Rattle.hp_model.specs.SetOf.{set_of};
+ghost use Rattle.hp_replay.specs.Rising.{rising_from};
 ghost use Rattle.hp_replay.specs.Tails.{numbered, valued};
-ghost use Rattle.hp_replay.specs.OpAt.{flags as flags_at, one_flag as one_flag_at, form as form_at, show_tail, setup_tail, remove_tail, add_tail, del_tail, freeze_tail, op as op_at};
+ghost use Rattle.hp_replay.specs.OpAt.{flags as flags_at, one_flag as one_flag_at, form as form_at, show_tail, setup_tail, remove_tail, add_tail, del_tail, freeze_tail, upmany_tail, op as op_at};
 
 use crate::first_word::{OpWord, op_word};
+use crate::head_words::from_below;
 use crate::numbers::integer;
 use crate::words::Words;
 use hp_event::{Form, Op};
+use hp_model::put_number;
+use hp_states::{CpuSet, MAX_CPU_SET};
 
 fn flags(nocalls: bool, locked: bool) -> Form
     ensures { result ≡ flags_at nocalls locked }
@@ -170,6 +176,32 @@ fn freeze(words: &mut Words<'_>) -> Option<Op>
     words.done(Op::Freeze(primary))
 }
 
+/// The set of the numbers that this word says and those behind it: they are from 0 to 255, and each
+/// is above the one before it.
+fn cpu_set(first: &[u8], words: &mut Words<'_>) -> Option<CpuSet>
+    ensures { result ≡ option_map (λ cpus. set_of cpus) (rising_from 0 MAX_CPU_SET_OF (first.now ∷ words.old)) }
+{
+    let mut set = CpuSet::none();
+    let mut low = 0;
+    let mut next = Some(first);
+    while let Some(word) = next {
+        let cpu = from_below(low, MAX_CPU_SET as u64, word)?;
+        put_number(&mut set, cpu);
+        low = cpu + 1;
+        next = words.next();
+    }
+    Some(set)
+}
+
+/// The words behind `upmany`: one number or more.
+fn upmany(words: &mut Words<'_>) -> Option<Op>
+    ensures { result ≡ upmany_tail words.old }
+{
+    let first = words.next()?;
+    let set = cpu_set(first, words)?;
+    Some(Op::UpMany(set))
+}
+
 /// The operation that the words say which are left.
 pub fn op(words: &mut Words<'_>) -> Option<Op>
     ensures { result ≡ op_at words.old }
@@ -193,5 +225,6 @@ pub fn op(words: &mut Words<'_>) -> Option<Op>
         OpWord::Freeze => freeze(words),
         OpWord::Thaw => words.done(Op::Thaw),
         OpWord::Wakeup => words.done(Op::Wakeup),
+        OpWord::UpMany => upmany(words),
     }
 }

@@ -63,6 +63,7 @@ impl<'a> Words<'a> {
     }
 
     /// The next word, which is then no longer left. None where no word is left.
+    #[inline(always)]
     pub fn next(&mut self) -> Option<&'a [u8]>
         ensures word { option_map (λ w. w.now) result ≡ first_of self.old }
         ensures rest { self.new ≡ others_of self.old }

@@ -97,7 +97,7 @@ fn a_line_says_its_event(rt: HostRuntime) -> Result<(), Fail> {
 }
 
 /// Lines that say no event.
-const NO_EVENTS: [&'static [u8]; 22] = [
+const NO_EVENTS: [&'static [u8]; 30] = [
     b"leave  9\n",
     b" leave 9\n",
     b"leave 9 \n",
@@ -119,15 +119,26 @@ const NO_EVENTS: [&'static [u8]; 22] = [
     b"reg 2 41 setup 41 1 locked nocalls\n",
     b"enter 2 show 1\n",
     b"enter 2 freeze -0\n",
-    b"enter 2 upmany 1 2\n",
+    b"enter 2 upmany\n",
+    b"enter 2 upmany one\n",
+    b"enter 2 upmany 1  2\n",
+    b"enter 2 upmany 1 2 \n",
+    b"enter 2 upmany 2 1\n",
+    b"enter 2 upmany 1 1\n",
+    b"enter 2 upmany 1 256\n",
+    b"refused 2 22 upmany\n",
+    b"reg 2 41 upmany 01\n",
 ];
 
 /// Lines that say an event which stands in no journal's first place, and most in none at all.
-const NOT_FIRST: [&'static [u8]; 11] = [
+const NOT_FIRST: [&'static [u8]; 14] = [
     b"leave 9\n",
     b"admit 1 ap 7\n",
     b"enter 2 target 1 -5\n",
     b"enter 2 show states\n",
+    b"enter 2 upmany 1 2\n",
+    b"refused 2 22 upmany 0 255\n",
+    b"reg 2 41 upmany 1\n",
     b"refused 2 22 show states\n",
     b"call 1 2 120 3 down overruled 5\n",
     b"done 2 full\n",

@@ -42,6 +42,21 @@ const INTEGERS: [Row; 12] = [
     (b"", Syntax),
 ];
 
+/// Behind `enter 2 upmany 7`: a processor above that one, and at most 255.
+const CPUS: [Row; 11] = [
+    (b"8", Unlawful),
+    (b"64", Unlawful),
+    (b"255", Unlawful),
+    (b"256", Syntax),
+    (b"4294967304", Syntax),
+    (b"7", Syntax),
+    (b"6", Syntax),
+    (b"0", Syntax),
+    (b"08", Syntax),
+    (b"-8", Syntax),
+    (b"", Syntax),
+];
+
 /// Behind `end`, where there are no events: a number of any size is another than theirs.
 const COUNTS: [Row; 6] = [
     (b"15", Count),
@@ -68,6 +83,9 @@ fn numbers_of_their_types(rt: HostRuntime) -> Result<(), Fail> {
     }
     for &(word, kind) in INTEGERS.iter() {
         assert!(rt; verdict_of_line(rt.alloc(), b"enter 2 target 1 ", word)? == Some((5, kind)));
+    }
+    for &(word, kind) in CPUS.iter() {
+        assert!(rt; verdict_of_line(rt.alloc(), b"enter 2 upmany 7 ", word)? == Some((5, kind)));
     }
     for &(word, kind) in COUNTS.iter() {
         assert!(rt; verdict_of_line(rt.alloc(), b"end ", word)? == Some((5, kind)));

@@ -61,7 +61,9 @@ cases =
     (of_one (codes "  # x y" ∷ codes "#" ∷ []) ++ codes "actor a", None) ∷
     (of_one (codes "actor a#" ∷ []), Some (2, BadForm)) ∷
     (of_one (codes "foo" ∷ []), Some (2, BadWord)) ∷
-    (of_one (codes "actor a" ∷ codes "upmany 1" ∷ []), Some (3, BadWord)) ∷
+    (of_one (codes "actor a" ∷ codes "upmost 1" ∷ []), Some (3, BadWord)) ∷
+    (acting (codes "upmany" ∷ []), Some (4, BadForm)) ∷
+    (acting (codes "upmany 256 x" ∷ []), Some (4, BadForm)) ∷
     -- the order of lines
     (of_one (codes "cpus 1" ∷ []), Some (2, BadOrder)) ∷
     (of_one (codes "cpus x y" ∷ []), Some (2, BadOrder)) ∷

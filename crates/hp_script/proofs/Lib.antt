@@ -2,6 +2,9 @@ mod Cases
 mod OperationCases
 pub mod PieceLoops
 pub mod Ranging
+pub mod Rises
+pub mod CpuSetLoop
+pub mod Upmany
 pub mod Wrongs
 pub mod Lasts
 pub mod Groups

@@ -1,14 +1,17 @@
 -- Lines of operations, each with what it says, or why it is refused. All hold by computing the definitions.
 use Rattle.std.proofs.Common.{◌≡◌, ℕ, pos, negsuc, List, [], ◌∷◌, map, Ok, Err, refl}
 use Rattle.std.specs.Prelude.{codes, Result}
+use Rattle.hp_states.specs.CpuSets.{has}
 use Rattle.hp_event.specs.declared.op.Op.{Op}
 use Rattle.hp_event.specs.declared.op.Op.TheVariants as op
+use Rattle.hp_model.specs.Listed.{listed}
+use Rattle.hp_model.specs.SetOf.{bits_of, set_of}
 use Rattle.hp_script.specs.declared.error.ScriptKind.{ScriptKind}
 use Rattle.hp_script.specs.declared.error.ScriptKind.TheVariants.{BadForm, BadNumber}
 use Rattle.hp_script.specs.declared.verb.Verb.{Verb}
 use Rattle.hp_script.specs.declared.verb.Verb.TheVariants as verb
 use Rattle.hp_script.specs.Words.{words}
-use Rattle.hp_script.specs.Statements.{none_of, one_of, two_of, number_of, pair_of, signed_of, show_of_file, show_of, op_of}
+use Rattle.hp_script.specs.Statements.{none_of, one_of, two_of, number_of, numbers_of, set_named, pair_of, signed_of, show_of_file, show_of, op_of}
 use Rattle.hp_script.specs.Ranges.{by_range, is_op}
 
 unfoldable operation : Verb → (behind : List ℕ) → Result Op ScriptKind
@@ -42,8 +45,30 @@ cases =
     (verb.Show, codes "fail 4096", Err BadNumber) ∷
     (verb.Disable, codes "1", Err BadForm) ∷
     (verb.Wakeup, codes " ", Ok op.Wakeup) ∷
+    (verb.UpMany, [], Err BadForm) ∷
+    (verb.UpMany, codes "1 two", Err BadForm) ∷
+    (verb.UpMany, codes "2 1 03", Err BadForm) ∷
+    (verb.UpMany, codes "256 -1", Err BadForm) ∷
     []
 
 cases_hold : map (λ row. operation row.0 row.1) cases ≡ map (λ row. row.2) cases
-unfolding operation none_of one_of two_of number_of pair_of signed_of show_of_file show_of op_of
+unfolding operation none_of one_of two_of number_of numbers_of pair_of signed_of show_of_file show_of op_of
 cases_hold = refl
+
+-- the processors of an upmany rise
+abbrev of_words : List ℕ → Result Op ScriptKind
+of_words words = Ok (op.UpMany (record { words = words }))
+
+upmany_of_one : operation verb.UpMany (codes "0") ≡ of_words (1 ∷ 0 ∷ 0 ∷ 0 ∷ [])
+unfolding operation numbers_of set_named op_of set_of bits_of listed has
+upmany_of_one = refl
+
+upmany_of_some : operation verb.UpMany (codes " 1  2 65 255 ") ≡ of_words (6 ∷ 2 ∷ 0 ∷ 9223372036854775808 ∷ [])
+unfolding operation numbers_of set_named op_of set_of bits_of listed has
+upmany_of_some = refl
+
+upmany_out_of_range :
+    map (operation verb.UpMany) (codes "256" ∷ codes "1 1" ∷ codes "2 1" ∷ codes "0 18446744073709551616" ∷ [])
+    ≡ Err BadNumber ∷ Err BadNumber ∷ Err BadNumber ∷ Err BadNumber ∷ []
+unfolding operation numbers_of set_named op_of set_of bits_of listed has
+upmany_out_of_range = refl

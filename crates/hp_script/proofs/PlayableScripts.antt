@@ -1,8 +1,6 @@
 -- Each script that is read can be played: what its lines make is sound, line by line, and no refusal holds at the end.
 use Rattle.std.proofs.Common.{◌≡◌, ◌⊎◌, inl, inr, ℕ, zero, suc, ◌+◌, ◌-◌, ◌<◌, ◌≤◌, Bool, true, false, not, List, [], ◌∷◌, ◌++◌, length, Option, Some, None, refl, sym, ap, subst, ◌∙◌, append_assoc, arith}
 use Rattle.std.specs.Prelude.{All, is_some, nat_le, slice_get}
-use Rattle.std.specs.List.{slice_index}
-use Rattle.std.specs.List.Sorted.{IsStrictlyIncreasing}
 use Rattle.std.proofs.lemmas.Bool.{leb-true, leb-false}
 use Rattle.std.proofs.lemmas.Bool.Decides.{nat_tests}
 use Rattle.std.proofs.lemmas.List.{append-nil}
@@ -18,6 +16,7 @@ use Rattle.hp_model.specs.Processors.{is_present, present}
 use Rattle.hp_model.specs.Subsystems.{names_sub}
 use Rattle.hp_model.specs.Heads.{IsHead, IsSub}
 use Rattle.hp_model.specs.Scripts.{is_locked}
+use Rattle.hp_model.proofs.Rising.{Rise, rise_within, rise_increases, rise_below}
 use Rattle.hp_model.proofs.SumLemmas.{length-filter_le, length-numbers}
 use Rattle.hp_script.specs.declared.error.ScriptKind.{ScriptKind}
 use Rattle.hp_script.specs.declared.error.ScriptKind.TheVariants.{NoCpus, NoActor, StillLocked}
@@ -28,7 +27,6 @@ use Rattle.hp_script.specs.declared.limits.TheConstants.{MAX_NAMED_STATE}
 use Rattle.hp_script.specs.declared.statement.Statement.{Statement}
 use Rattle.hp_script.specs.Pieces.{lines}
 use Rattle.hp_script.specs.Numbers.{is_within}
-use Rattle.hp_script.specs.Ranges.{are_rising}
 use Rattle.hp_script.specs.Before.{start, statement_of, after_maybe, after_line, after_lines, before}
 use Rattle.hp_script.specs.Refusals.{is_first, is_among_actors, first_of, refusal, refusal_at_end}
 use Rattle.hp_script.specs.Script.{Contents, statements, script_in}
@@ -37,7 +35,8 @@ use Rattle.hp_script.specs.Judged.{AreFine, IsRead, too_long, at_line, at_end}
 use Rattle.hp_script.specs.Playable.{IsPlayable}
 use Rattle.hp_script.proofs.ReadLoop.{contents_more, fits_more}
 use Rattle.hp_script.proofs.TakenLines.{taken, both}
-use Rattle.hp_script.proofs.SoundScripts.{SoundHead, SoundActors, IsSoundOp, AreLocked, first_unlocked, others_locked, at_least, at_most, head_more, actors_more}
+use Rattle.hp_script.proofs.Rises.{rises}
+use Rattle.hp_script.proofs.SoundScripts.{SoundHead, SoundActors, IsSoundOp, AreLocked, first_unlocked, others_locked, at_least, head_more, actors_more}
 
 -- ---- line by line
 
@@ -171,31 +170,12 @@ ended other locked e = absurd cc
 
 -- ---- what a sound script is
 
-rising_from : (last high n : ℕ) (ns : List ℕ) → are_rising last high (n ∷ ns) ≡ true → (last < n) × (n ≤ high) × (are_rising n high ns ≡ true)
-rising_from last high n ns e =
-    let parts = both (is_within (last + 1) high n) (are_rising n high ns) e in
-    (omega (arith, at_least (last + 1) high n parts.0), at_most (last + 1) high n parts.0, parts.1)
-
-rising : (last high : ℕ) (ns : List ℕ) → are_rising last high ns ≡ true → IsStrictlyIncreasing ns
-rising last high [] e k within = absurd (omega (arith, within))
-rising last high (n ∷ []) e k within = absurd (omega (arith, within))
-rising last high (n ∷ m ∷ ns) e zero within =
-    (rising_from n high m ns (rising_from last high n (m ∷ ns) e).2).0
-rising last high (n ∷ m ∷ ns) e (suc k) within =
-    let next : suc (k + 1) ≡ suc k + 1 = omega arith in
-    subst (λ (j : ℕ). slice_index (n ∷ m ∷ ns) (suc k) < slice_index (n ∷ m ∷ ns) j) next
-    (rising n high (m ∷ ns) (rising_from last high n (m ∷ ns) e).2 k (omega (arith, within)))
-
-all_below : (last high : ℕ) (ns : List ℕ) → are_rising last high ns ≡ true → All (λ c. c < high + 1) ns
-all_below last high [] e = All-nil (λ c. c < high + 1)
-all_below last high (n ∷ ns) e =
-    let parts = rising_from last high n ns e in
-    All-cons (λ c. c < high + 1) n ns (omega (arith, parts.1)) (all_below n high ns parts.2)
-
-no_zero : (last high : ℕ) (ns : List ℕ) → are_rising last high ns ≡ true → occurs 0 ns ≡ 0
-no_zero last high [] e = refl
-no_zero last high (zero ∷ ns) e = absurd (omega (arith, (rising_from last high 0 ns e).0))
-no_zero last high (suc n ∷ ns) e = grind (arith, nat_tests, no_zero (suc n) high ns (rising_from last high (suc n) ns e).2)
+no_zero : (limit : ℕ) (ns : List ℕ) → Rise 1 limit ns → occurs 0 ns ≡ 0
+no_zero limit ns h = go (occurs 0 ns) refl
+  where
+    go : (n : ℕ) → occurs 0 ns ≡ n → n ≡ 0
+    go zero e = refl
+    go (suc n) e = absurd (omega (arith, (rise_within 1 limit 0 ns h (omega (arith, e))).0))
 
 first_there : (head : Head) → 0 < head.possible → occurs 0 head.absent ≡ 0 → is_present head 0 ≡ true
 first_there head some none = grind (arith, nat_tests, some, none)
@@ -209,6 +189,7 @@ has_its_sub : (head : Head) (subs : ℕ) (op : Op) → length head.subs ≡ subs
 has_its_sub head subs (op.Setup state zero form) count sound =
     absurd (omega (arith, at_least 1 MAX_SUBS 0 (both (is_within 0 MAX_NAMED_STATE state) (is_within 1 MAX_SUBS 0) sound.0).1))
 has_its_sub head subs (op.Setup state (suc n) form) count sound = some_at head.subs n (grind (arith, nat_tests, count, sound.1))
+has_its_sub head subs (op.UpMany set) count sound = sound.0
 has_its_sub head subs other count sound = refl
 
 unlocked : (actors : List (List Op)) → AreLocked actors false → All (λ ops. is_locked ops ≡ false) actors
@@ -223,12 +204,13 @@ few_present head = omega (arith, length-filter_le (λ c. is_present head c) (num
 head_of : (s : Contents) (b : Before) → SoundHead s b → is_first b.group ≡ false → IsHead s.head
 head_of s b h later =
     let some : 0 < s.head.possible = omega (arith, h.possible, h.some later) in
+    let absent = rises 1 (b.possible - 1) s.head.absent h.absent in
     record {
       some_possible = some;
       few_possible = omega (arith, h.possible, h.few);
-      absent_rising = rising 0 (b.possible - 1) s.head.absent h.absent;
-      absent_possible = λ k d within. omega (arith, h.possible, h.some later, all_below 0 (b.possible - 1) s.head.absent h.absent k d within);
-      first_present = first_there s.head some (no_zero 0 (b.possible - 1) s.head.absent h.absent);
+      absent_rising = rise_increases 1 (b.possible - 1 + 1) s.head.absent absent;
+      absent_possible = λ k d within. omega (arith, h.possible, h.some later, rise_below 1 (b.possible - 1 + 1) s.head.absent absent k d within);
+      first_present = first_there s.head some (no_zero (b.possible - 1 + 1) s.head.absent absent);
       few_subs = omega (arith, h.subs, h.few_subs);
       subs_are = h.subs_are;
     }

@@ -32,7 +32,7 @@ pub record SoundHead (s : Contents) (b : Before) : Type 0 where
   pub possible : s.head.possible ≡ b.possible
   pub some : is_first b.group ≡ false → 0 < b.possible
   pub few : b.possible ≤ MAX_CPUS
-  pub absent : are_rising 0 (b.possible - 1) s.head.absent ≡ true
+  pub absent : are_rising 1 (b.possible - 1) s.head.absent ≡ true
   pub none_yet : is_first b.group ≡ true → s.head.absent ≡ []
   pub subs : length s.head.subs ≡ b.subs
   pub few_subs : b.subs ≤ MAX_SUBS
@@ -84,7 +84,7 @@ head_more hooks s b (says.Cpus n) t f p = record {
   possible = refl;
   some = λ _. at_least 1 MAX_CPUS n t.range;
   few = at_most 1 MAX_CPUS n t.range;
-  absent = ap (are_rising 0 (n - 1)) (p.none_yet t.first);
+  absent = ap (are_rising 1 (n - 1)) (p.none_yet t.first);
   none_yet = λ e. p.none_yet t.first;
   subs = p.subs;
   few_subs = p.few_subs;

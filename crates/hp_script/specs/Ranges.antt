@@ -1,10 +1,12 @@
 -- The ranges of the numbers that a line says. This project's own.
-use Rattle.std.specs.Prelude.{ℕ, ◌+◌, ◌-◌, Bool, true, ◌&&◌, Result, Ok, Err, Option, Some, None, List, [], ◌∷◌, if◌then◌else◌}
+use Rattle.std.specs.Prelude.{ℕ, ◌+◌, ◌-◌, Bool, true, not, ◌&&◌, Result, Ok, Err, Option, Some, None, List, [], ◌∷◌, if◌then◌else◌}
 use Rattle.std.specs.List.{list_all}
-use Rattle.hp_states.specs.declared.limits.TheConstants.{MAX_CPUS, MAX_SUBS, MAX_RULE_CPU, MAX_INSTANCE, MAX_EVENTS, MAX_CODE, MAX_SEATS}
+use Rattle.hp_states.specs.declared.limits.TheConstants.{MAX_CPUS, MAX_CPU_SET, MAX_SUBS, MAX_RULE_CPU, MAX_INSTANCE, MAX_EVENTS, MAX_CODE, MAX_SEATS}
 use Rattle.hp_states.specs.declared.plan.Rule.{Rule}
 use Rattle.hp_event.specs.declared.op.Op.{Op}
 use Rattle.hp_event.specs.declared.op.Op.TheVariants as op
+use Rattle.hp_model.specs.Lists.{is_empty}
+use Rattle.hp_model.specs.Listed.{listed}
 use Rattle.hp_script.specs.declared.error.ScriptKind.{ScriptKind}
 use Rattle.hp_script.specs.declared.error.ScriptKind.TheVariants.{BadForm, BadNumber}
 use Rattle.hp_script.specs.declared.limits.TheConstants.{MAX_NAMED_CPU, MAX_NAMED_STATE, MAX_MIXED, MAX_SEED, MAX_I32, MIN_I32}
@@ -14,14 +16,18 @@ use Rattle.hp_script.specs.declared.statement.Statement.{Statement}
 use Rattle.hp_script.specs.declared.statement.Statement.TheVariants as says
 use Rattle.hp_script.specs.Numbers.{is_within, is_signed_within}
 
--- each above the one before, which the first is above too, and at most as high as this
-abbrev pub are_rising : (last high : ℕ) → List ℕ → Bool
-are_rising last high [] = true
-are_rising last high (n ∷ ns) = is_within (last + 1) high n && are_rising n high ns
+-- the first from this number on, each above the one before, and all at most as high as that
+abbrev pub are_rising : (low high : ℕ) → List ℕ → Bool
+are_rising low high [] = true
+are_rising low high (n ∷ ns) = is_within low high n && are_rising (n + 1) high ns
 
 -- the absent processors: strictly rising, from 1 to the last possible processor
 abbrev pub are_absent : (possible : ℕ) → List ℕ → Bool
-are_absent possible ns = are_rising 0 (possible - 1) ns
+are_absent possible ns = are_rising 1 (possible - 1) ns
+
+-- the processors of an upmany: strictly rising, from 0 to 255
+abbrev pub are_cpus : List ℕ → Bool
+are_cpus ns = are_rising 0 (MAX_CPU_SET - 1) ns
 
 abbrev pub are_seats : List ℕ → Bool
 are_seats ns = list_all (is_within 0 (MAX_SEATS - 1)) ns
@@ -64,6 +70,7 @@ is_op op.Enable = true
 is_op (op.Freeze primary) = is_signed_within 1 MAX_NAMED_CPU primary
 is_op op.Thaw = true
 is_op op.Wakeup = true
+is_op (op.UpMany set) = not (is_empty (listed set))
 
 -- each number of the line is in its range, where so many processors are possible
 abbrev pub is_in_range : (possible : ℕ) → Statement → Bool

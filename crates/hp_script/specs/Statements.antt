@@ -5,10 +5,12 @@ use Rattle.std.specs.List.{list_all}
 use Rattle.hp_states.specs.declared.dir.Dir.{Dir}
 use Rattle.hp_states.specs.declared.dir.Dir.TheVariants as dir
 use Rattle.hp_states.specs.declared.plan.Rule.{Rule}
+use Rattle.hp_states.specs.declared.cpu_set.CpuSet.{CpuSet}
 use Rattle.hp_event.specs.declared.op.Form.{Form}
 use Rattle.hp_event.specs.declared.op.Op.{Op}
 use Rattle.hp_event.specs.declared.op.Op.TheVariants as op
 use Rattle.hp_event.specs.declared.head.Sub.{Sub}
+use Rattle.hp_model.specs.SetOf.{set_of}
 use Rattle.hp_script.specs.declared.verb.Verb.{Verb}
 use Rattle.hp_script.specs.declared.verb.Verb.TheVariants as verb
 use Rattle.hp_script.specs.declared.schedule.Schedule.{Schedule}
@@ -17,6 +19,7 @@ use Rattle.hp_script.specs.declared.statement.Statement.{Statement}
 use Rattle.hp_script.specs.declared.statement.Statement.TheVariants as says
 use Rattle.hp_script.specs.Words.{is_empty}
 use Rattle.hp_script.specs.Numbers.{is_number, is_signed, value, signed_value, is_byte, is_name_word, name_spelled}
+use Rattle.hp_script.specs.Ranges.{are_cpus}
 use Rattle.hp_script.specs.Verbs.{verb_of}
 
 infixl 10 ◌>>=◌
@@ -210,6 +213,10 @@ place_of words = do
   form ← flags_of second.1
   if is_number first.0 && is_number second.0 then Some (value first.0, value second.0, form) else None
 
+-- The set of these processors. Numbers that aren't in their range name the empty set, and that is in no upmany's range.
+unfoldable pub set_named : (cpus : List ℕ) → CpuSet
+set_named cpus = if are_cpus cpus then set_of cpus else set_of []
+
 -- ---- the table
 
 unfoldable pub op_of : Verb → (words : List (List ℕ)) → Option Op
@@ -236,6 +243,7 @@ op_of verb.Enable words = none_of op.Enable words
 op_of verb.Freeze words = option_map (λ n. op.Freeze n) (signed_of words)
 op_of verb.Thaw words = none_of op.Thaw words
 op_of verb.Wakeup words = none_of op.Wakeup words
+op_of verb.UpMany words = option_map (λ cpus. op.UpMany (set_named cpus)) (numbers_of words)
 
 -- what a line of this first word says
 abbrev pub statement_by : Verb → (words : List (List ℕ)) → Option Statement

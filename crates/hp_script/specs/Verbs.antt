@@ -27,13 +27,15 @@ word_of verb.Enable = codes "enable"
 word_of verb.Freeze = codes "freeze"
 word_of verb.Thaw = codes "thaw"
 word_of verb.Wakeup = codes "wakeup"
+word_of verb.UpMany = codes "upmany"
 
 abbrev pub all_verbs : List Verb
 all_verbs =
     verb.Cpus ∷ verb.Absent ∷ verb.Sub ∷ verb.Rule ∷ verb.Schedule ∷ verb.Actor
     ∷ verb.Up ∷ verb.Down ∷ verb.Target ∷ verb.Fail ∷ verb.Show
     ∷ verb.Setup ∷ verb.Remove ∷ verb.Add ∷ verb.Del
-    ∷ verb.Lock ∷ verb.Unlock ∷ verb.Boot ∷ verb.Disable ∷ verb.Enable ∷ verb.Freeze ∷ verb.Thaw ∷ verb.Wakeup ∷ []
+    ∷ verb.Lock ∷ verb.Unlock ∷ verb.Boot ∷ verb.Disable ∷ verb.Enable ∷ verb.Freeze ∷ verb.Thaw ∷ verb.Wakeup
+    ∷ verb.UpMany ∷ []
 
 -- the verb whose word this is
 unfoldable pub verb_of : (word : List ℕ) → Option Verb

@@ -30,26 +30,26 @@ fn all_numbers(bytes: &[u8]) -> bool
 }
 
 /// Whether the words are one or more numbers.
-fn are_numbers(bytes: &[u8]) -> bool
+pub fn are_numbers(bytes: &[u8]) -> bool
     ensures { result ≡ (not (is_empty (words bytes.now)) && list_all is_number (words bytes.now)) }
 {
     !is_done(bytes) && all_numbers(bytes)
 }
 
-/// The numbers that the words say, where they rise from above 0 and are at most `high`.
+/// The numbers that the words say, where they rise from 1 on and are at most `high`.
 fn rising_values(alloc: Global, high: u32, bytes: &[u8]) -> Result<Numbers, Stop>
     requires { high < 2 ^ 32 - 1 }
     ensures { Gives result
-        (if are_rising 0 high (map value (words bytes.now))
+        (if are_rising 1 high (map value (words bytes.now))
         then Ok (map value (words bytes.now)) else Err BadNumber) }
 {
     let mut numbers = Numbers::new(alloc);
-    let mut last = 0;
+    let mut low = 1;
     let mut rest = bytes;
     while let Some((word, behind)) = next_word(rest) {
-        let n = small_within(last + 1, high, word)?;
+        let n = small_within(low, high, word)?;
         numbers.push(n)?;
-        last = n;
+        low = n + 1;
         rest = behind;
     }
     Ok(numbers)
@@ -71,11 +71,11 @@ fn values_within(alloc: Global, high: u32, bytes: &[u8]) -> Result<Numbers, Stop
     Ok(numbers)
 }
 
-/// One or more numbers that rise from above 0 and are at most `high`.
+/// One or more numbers that rise from 1 on and are at most `high`.
 #[tactic(auto, unfolding(crate::specs::Statements::numbers_of))]
 pub fn rising(alloc: Global, high: u32, bytes: &[u8]) -> Result<Numbers, Stop>
     requires { high < 2 ^ 32 - 1 }
-    ensures { Gives result (by_range (are_rising 0 high) (numbers_of (words bytes.now))) }
+    ensures { Gives result (by_range (are_rising 1 high) (numbers_of (words bytes.now))) }
 {
     if !are_numbers(bytes) {
         return Err(Stop::Bad(ScriptKind::BadForm));

@@ -1,20 +1,25 @@
 //! The lines of operations.
 
-ghost use Rattle.std.specs.Prelude.{◌≡◌, true, option_map};
+ghost use Rattle.std.specs.Prelude.{◌≡◌, true, option_map, map, if◌then◌else◌, Ok, Err};
 ghost use Rattle.hp_event.specs.declared.op.Op.TheVariants as op;
 ghost use Rattle.hp_script.specs.Words.{words};
-ghost use Rattle.hp_script.specs.Statements.{op_of, none_of, number_of, pair_of, signed_of, flagged_of, place_of, show_of_file, show_of};
-ghost use Rattle.hp_script.specs.Ranges.{by_range, is_op};
-ghost use Rattle.hp_script.specs.Numbers.{is_within};
+ghost use Rattle.hp_model.specs.SetOf.{set_of};
+ghost use Rattle.hp_script.specs.declared.error.ScriptKind.TheVariants.{BadNumber};
+ghost use Rattle.hp_script.specs.Statements.{op_of, none_of, number_of, numbers_of, set_named, pair_of, signed_of, flagged_of, place_of, show_of_file, show_of};
+ghost use Rattle.hp_script.specs.Ranges.{by_range, is_op, are_cpus};
+ghost use Rattle.hp_script.specs.Numbers.{is_within, value};
 ghost use Rattle.hp_script.specs.declared.limits.TheConstants.{MAX_NAMED_CPU};
 
 use crate::error::ScriptKind;
 use crate::fields::{flagged, nothing, number, pair, place, signed};
 use crate::limits::{MAX_I32, MAX_NAMED_CPU, MAX_NAMED_STATE, MIN_I32};
+use crate::lists::are_numbers;
+use crate::numbers::small_within;
 use crate::verb::Verb;
 use crate::words::{is_word, next_word};
 use hp_event::Op;
-use hp_states::{MAX_INSTANCE, MAX_SUBS};
+use hp_model::put_number;
+use hp_states::{CpuSet, MAX_CPU_SET, MAX_INSTANCE, MAX_SUBS};
 
 /// The processor that the one word left is.
 fn cpu(bytes: &[u8]) -> Result<u32, ScriptKind>
@@ -154,6 +159,37 @@ fn freeze(bytes: &[u8]) -> Result<Op, ScriptKind>
     Ok(Op::Freeze(primary))
 }
 
+/// The set of the processors that the words name, where they rise and are at most 255.
+fn cpu_set(bytes: &[u8]) -> Result<CpuSet, ScriptKind>
+    ensures { result
+        ≡ (if are_cpus (map value (words bytes.now))
+        then Ok (set_of (map value (words bytes.now))) else Err BadNumber) }
+{
+    let mut set = CpuSet::none();
+    let mut low = 0;
+    let mut rest = bytes;
+    while let Some((word, behind)) = next_word(rest) {
+        let cpu = small_within(low, MAX_CPU_SET - 1, word)?;
+        put_number(&mut set, cpu);
+        low = cpu + 1;
+        rest = behind;
+    }
+    Ok(set)
+}
+
+/// The line `upmany C C ..`.
+#[tactic(auto, unfolding(crate::specs::Statements::numbers_of))]
+fn upmany(bytes: &[u8]) -> Result<Op, ScriptKind>
+    ensures { result
+        ≡ by_range is_op (option_map (λ cpus. op.UpMany (set_named cpus)) (numbers_of (words bytes.now))) }
+{
+    if !are_numbers(bytes) {
+        return Err(ScriptKind::BadForm);
+    }
+    let set = cpu_set(bytes)?;
+    Ok(Op::UpMany(set))
+}
+
 /// The operation that a line of this first word says.
 #[tactic(auto, unfolding(crate::specs::Statements::op_of))]
 pub fn operation(verb: Verb, bytes: &[u8]) -> Result<Op, ScriptKind>
@@ -177,6 +213,7 @@ pub fn operation(verb: Verb, bytes: &[u8]) -> Result<Op, ScriptKind>
         Verb::Enable => plain(Op::Enable, bytes),
         Verb::Thaw => plain(Op::Thaw, bytes),
         Verb::Wakeup => plain(Op::Wakeup, bytes),
+        Verb::UpMany => upmany(bytes),
         Verb::Cpus | Verb::Absent | Verb::Sub | Verb::Rule | Verb::Schedule | Verb::Actor => {
             Err(ScriptKind::BadForm)
         }

@@ -31,10 +31,11 @@ pub enum Verb {
     Freeze,
     Thaw,
     Wakeup,
+    UpMany,
 }
 
 /// The words of the verbs, each with its verb.
-const VERBS: [(&'static [u8], Verb); 23] = [
+const VERBS: [(&'static [u8], Verb); 24] = [
     (b"cpus", Verb::Cpus),
     (b"absent", Verb::Absent),
     (b"sub", Verb::Sub),
@@ -58,6 +59,7 @@ const VERBS: [(&'static [u8], Verb); 23] = [
     (b"freeze", Verb::Freeze),
     (b"thaw", Verb::Thaw),
     (b"wakeup", Verb::Wakeup),
+    (b"upmany", Verb::UpMany),
 ];
 
 /// The verb whose word this is.

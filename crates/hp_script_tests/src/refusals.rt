@@ -8,7 +8,7 @@ use std::test::*;
 /// A script, the hooks, and the line and the kind that it is refused with.
 type Row = (&'static [u8], u32, u32, ScriptKind);
 
-const REFUSED: [Row; 75] = [
+const REFUSED: [Row; 76] = [
     (b"", 2, 1, ScriptKind::NoCpus),
     (b" \n\n# c\n", 2, 4, ScriptKind::NoCpus),
     (b"# \t\n", 2, 1, ScriptKind::BadByte),
@@ -19,7 +19,8 @@ const REFUSED: [Row; 75] = [
     (b"\nfoo\n", 2, 2, ScriptKind::NoCpus),
     (b"Cpus 1\n", 2, 1, ScriptKind::NoCpus),
     (b"cpus 1\nfoo\n", 2, 2, ScriptKind::BadWord),
-    (b"cpus 1\nactor a\nupmany 1\n", 2, 3, ScriptKind::BadWord),
+    (b"cpus 1\nactor a\nupmost 1\n", 2, 3, ScriptKind::BadWord),
+    (b"cpus 4\nupmany 1 0\n", 2, 2, ScriptKind::BadOrder),
     (b"cpus 1\ncpus 1\n", 2, 2, ScriptKind::BadOrder),
     (b"cpus 1\ncpus x y\n", 2, 2, ScriptKind::BadOrder),
     (b"cpus 1\nrule up * * * 1\n", 2, 2, ScriptKind::BadOrder),

@@ -2,7 +2,7 @@
 
 use hp_event::{Form, Op};
 use hp_script::{ParseError, Schedule, Script, ScriptKind, parse};
-use hp_states::{Dir, MAX_CODE, MAX_EVENTS, MAX_INSTANCE, MAX_RULE_CPU, Rule};
+use hp_states::{CpuSet, Dir, MAX_CODE, MAX_EVENTS, MAX_INSTANCE, MAX_RULE_CPU, Rule};
 use std::alloc::Global;
 use std::test::*;
 
@@ -69,7 +69,7 @@ fn operations(rt: HostRuntime) -> Result<(), Fail> {
 }
 
 /// Lines of operations, and what they say.
-const LINES: [(&'static [u8], Result<Op, ScriptKind>); 18] = [
+const LINES: [(&'static [u8], Result<Op, ScriptKind>); 28] = [
     (b"target 1 -2147483648", Ok(Op::Target(1, -2147483648))),
     (b"target 4095 -2147483649", Err(ScriptKind::BadNumber)),
     (b"target 4095 2147483648", Err(ScriptKind::BadNumber)),
@@ -88,6 +88,16 @@ const LINES: [(&'static [u8], Result<Op, ScriptKind>); 18] = [
     (b"freeze -0", Err(ScriptKind::BadForm)),
     (b"thaw", Ok(Op::Thaw)),
     (b"wakeup 1", Err(ScriptKind::BadForm)),
+    (b"upmany 256", Err(ScriptKind::BadNumber)),
+    (b"upmany 1 256", Err(ScriptKind::BadNumber)),
+    (b"upmany 3 3", Err(ScriptKind::BadNumber)),
+    (b"upmany 1 3 2", Err(ScriptKind::BadNumber)),
+    (b"upmany 18446744073709551616", Err(ScriptKind::BadNumber)),
+    (b"upmany", Err(ScriptKind::BadForm)),
+    (b"upmany one", Err(ScriptKind::BadForm)),
+    (b"upmany -1", Err(ScriptKind::BadForm)),
+    (b"upmany 256 1 01", Err(ScriptKind::BadForm)),
+    (b"upmany 3 2 x", Err(ScriptKind::BadForm)),
 ];
 
 /// What the one operation of a script says, in its third line, or why it is refused.
@@ -108,6 +118,26 @@ fn said(alloc: Global, line: &[u8]) -> Result<Result<Op, ScriptKind>, Fail> {
 fn lines_of_operations(rt: HostRuntime) -> Result<(), Fail> {
     for &(line, wanted) in LINES.iter() {
         assert!(rt; said(rt.alloc(), line)? == wanted);
+    }
+    Ok(())
+}
+
+/// Lines of an upmany, and the words of its set: bit b of word k is set for the processor 64 k + b.
+const SETS: [(&'static [u8], [u64; 4]); 4] = [
+    (b"upmany 0", [1, 0, 0, 0]),
+    (b"  upmany 1 2  3 ", [0b1110, 0, 0, 0]),
+    (
+        b"upmany 5 63 64 130 255",
+        [1 << 5 | 1 << 63, 1, 1 << 2, 1 << 63],
+    ),
+    (b"upmany 255", [0, 0, 0, 1 << 63]),
+];
+
+#[test]
+fn processors_of_an_upmany(rt: HostRuntime) -> Result<(), Fail> {
+    for &(line, words) in SETS.iter() {
+        let wanted = Op::UpMany(CpuSet { words });
+        assert!(rt; said(rt.alloc(), line)? == Ok(wanted));
     }
     Ok(())
 }

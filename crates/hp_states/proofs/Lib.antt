@@ -1,3 +1,5 @@
 mod Looking
 pub mod Padded
 pub mod RuleCounts
+pub mod CpuSetBits
+pub mod CpuSetLowest

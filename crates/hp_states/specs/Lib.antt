@@ -4,3 +4,4 @@ pub mod Names
 pub mod Rules
 pub mod Plans
 pub mod Words
+pub mod CpuSets

@@ -35,6 +35,8 @@ pub const EDEADLK: u32 = 35;
 
 /// The most processors of a machine.
 pub const MAX_CPUS: u32 = 64;
+/// The numbers that a set of processors may have are below this.
+pub const MAX_CPU_SET: u32 = 256;
 /// The most subsystems of a script.
 pub const MAX_SUBS: u32 = 128;
 /// The most rules of a callback's plan.

@@ -2,14 +2,18 @@
 use Rattle.std.proofs.Common.{ℕ, ◌+◌, ◌≤◌, Bool, true, false, cond, not, List, [], ◌∷◌, ◌++◌, length, arith}
 use Rattle.std.specs.Prelude.{filter}
 use Rattle.std.proofs.lemmas.List.{length-append}
+use Rattle.hp_states.specs.declared.cpu_set.CpuSet.{CpuSet}
 use Rattle.hp_event.specs.declared.answer.Answer.{Answer}
+use Rattle.hp_event.specs.declared.head.Head.{Head}
 use Rattle.hp_event.specs.declared.event.Event.{Event}
 use Rattle.hp_event.specs.declared.event.Event.TheVariants.{Enter, WalkEnd}
 use Rattle.hp_model.specs.Journal.{over_from}
 use Rattle.hp_model.specs.Suspend.{is_ok}
 use Rattle.hp_model.specs.Sequence.{answers_step, answers}
+use Rattle.hp_suspend.specs.Batching.{IsBatching}
 use Rattle.hp_suspend.specs.Thawing.{IsThawing}
 use Rattle.hp_suspend.specs.Booting.{is_fault, IsBooting}
+use Rattle.hp_suspend.specs.declared.batch.Batch.{Batch}
 use Rattle.hp_suspend.specs.declared.thaw.Thaw.{Thaw}
 use Rattle.hp_suspend.specs.declared.boot.Boot.{Boot}
 
@@ -45,3 +49,7 @@ pub booting_few : (events : List Event) (max : ℕ) (b : Boot) → IsBooting max
     (b.failed ≤ length events) × (b.turned_back ≤ length events)
 booting_few events max b h =
     (rw h.failed_is (few (λ x. not (is_ok x)) events), rw h.turned_back_is (few is_fault events))
+
+pub batching_few : (head : Head) (entered events : List Event) (set : CpuSet) (b : Batch) → IsBatching head entered events set b →
+    b.failed ≤ length events
+batching_few head entered events set b h = rw h.failed_is (few (λ x. not (is_ok x)) events)

@@ -10,3 +10,4 @@ pub mod SequenceKept
 pub mod NextIs
 pub mod Asking
 pub mod Few
+pub mod Batched

@@ -1,16 +1,20 @@
 -- A quiet event answers no walk.
-use Rattle.std.proofs.Common.{◌≡◌, true, List, [], ◌∷◌, ◌++◌}
-use Rattle.std.proofs.lemmas.Bool.{false≢true}
+use Rattle.std.proofs.Common.{◌≡◌, true, false, List, [], ◌∷◌, ◌++◌}
+use Rattle.std.proofs.lemmas.Bool.{true≢false, false≢true}
 use Rattle.std.specs.Prelude.{ℕ, ℤ}
+use Rattle.hp_states.specs.declared.cpu_set.CpuSet.{CpuSet}
 use Rattle.hp_event.specs.declared.head.Head.{Head}
 use Rattle.hp_event.specs.declared.event.Event.{Event}
-use Rattle.hp_event.specs.declared.event.Event.TheVariants.{Enter, WalkEnd}
+use Rattle.hp_event.specs.declared.event.Event.TheVariants.{Enter, WalkBegin, WalkEnd}
+use Rattle.hp_model.specs.Batch.{begun}
 use Rattle.hp_model.specs.Sequence.{answers}
-use Rattle.hp_model.proofs.Laws.{answers_push}
-use Rattle.hp_suspend.specs.Quiet.{is_quiet}
+use Rattle.hp_model.proofs.Laws.{begun_push, answers_push}
+use Rattle.hp_suspend.specs.Quiet.{is_quiet, is_walk_begin}
+use Rattle.hp_suspend.specs.Batching.{IsBatching}
 use Rattle.hp_suspend.specs.Freezing.{IsFreezing}
 use Rattle.hp_suspend.specs.Thawing.{IsThawing}
 use Rattle.hp_suspend.specs.Booting.{IsBooting}
+use Rattle.hp_suspend.specs.declared.batch.Batch.{Batch}
 use Rattle.hp_suspend.specs.declared.freeze.Freeze.{Freeze}
 use Rattle.hp_suspend.specs.declared.thaw.Thaw.{Thaw}
 use Rattle.hp_suspend.specs.declared.boot.Boot.{Boot}
@@ -36,4 +40,17 @@ booting_quiet event q max events b h = record {
   max_is = h.max_is;
   failed_is = rw (quiet_answers events event q) h.failed_is;
   turned_back_is = rw (quiet_answers events event q) h.turned_back_is;
+}
+
+quiet_begun : (events : List Event) (e : Event) → is_quiet e ≡ true → is_walk_begin e ≡ false → begun (events ++ e ∷ []) ≡ begun events
+quiet_begun events (Enter seat op) h k = absurd (false≢true h)
+quiet_begun events (WalkBegin seat cpu from to) h k = absurd (true≢false k)
+quiet_begun events e h k = begun_push events e
+
+pub batching_quiet : (event : Event) → is_quiet event ≡ true → is_walk_begin event ≡ false → (head : Head) (entered events : List Event)
+    (set : CpuSet) (b : Batch) → IsBatching head entered events set b → IsBatching head entered (events ++ event ∷ []) set b
+batching_quiet event q k head entered events set b h = record {
+  left_is = λ c. rw (quiet_begun events event q k) (h.left_is c);
+  begun_is = rw (quiet_begun events event q k) h.begun_is;
+  failed_is = rw (quiet_answers events event q) h.failed_is;
 }

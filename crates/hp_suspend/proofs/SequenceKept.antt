@@ -10,7 +10,8 @@ use Rattle.hp_event.specs.declared.event.Event.{Event}
 use Rattle.hp_event.specs.declared.event.Event.TheVariants.{Enter, WalkBegin, WalkEnd, OpEnd}
 use Rattle.hp_model.specs.Journal.{EachAfter}
 use Rattle.hp_model.specs.Lists.{among, numbers, without}
-use Rattle.hp_model.specs.Walks.{Walk, walk, walking}
+use Rattle.hp_model.specs.Walks.{Walk, walk, walking, is_walking}
+use Rattle.hp_model.specs.Batch.{is_upmany}
 use Rattle.hp_model.specs.MapLock.{Operation, operation}
 use Rattle.hp_model.specs.Settled.{is_online}
 use Rattle.hp_model.specs.Processors.{online}
@@ -23,12 +24,12 @@ use Rattle.hp_model.proofs.Induction.{kept}
 use Rattle.hp_model.proofs.HeadlineProof.{lawful_more}
 use Rattle.hp_model.proofs.OneNext.{owners}
 use Rattle.hp_model.proofs.Operations.{once_in}
-use Rattle.hp_model.proofs.Owners.{Owners, map_free, same_some, none_some}
+use Rattle.hp_model.proofs.Owners.{Owners, map_free, alone_at, over_at_rest, same_some, none_some}
 use Rattle.hp_suspend.proofs.Rows.{is_among, filter_both, listed_front, listed_none}
 use Rattle.hp_suspend.proofs.Stuck.{faults_come}
 use Rattle.hp_suspend.proofs.Sequenced.{walks_many, task, Recording, InSequence, IsSingle, Sequenced}
 use Rattle.hp_suspend.proofs.Todo.{once_of}
-use Rattle.hp_suspend.proofs.SequenceSteps.{Calm, calm_in, enter_in, begin_in, end_in}
+use Rattle.hp_suspend.proofs.SequenceSteps.{Calm, calm_in, enter_in, many_single, begin_in, end_in}
 
 -- the record of a freeze is the first part of its task
 listed_freeze : (head : Head) (op : Op) (entered events : List Event) (d : List ℕ) → is_freeze op ≡ true →
@@ -65,7 +66,7 @@ still_walking xs none = go (walking xs) refl
 calm_step : (head : Head) (xs ys : List Event) → Calm xs ys → operation ys ≡ operation xs → Sequenced head xs → Sequenced head ys
 calm_step head xs ys m same k = record {
   listed = subst (λ zs. zs ≡ filter (λ c. among c zs) (numbers head.possible)) (sym m.frozen_same) k.listed;
-  single = rw m.walking_same k.single;
+  single = λ n. rw m.walking_same (k.single (rw same at n));
   at = λ o q many. calm_in head o.op o.before xs ys m (k.at o (sym same ∙ q) many);
 }
 
@@ -87,7 +88,7 @@ sequenced_step head xs (Enter seat op) l h k =
     let rests : walking xs ≡ [] = still_walking xs still in
     record {
       listed = emptied head (is_freeze op) (frozen xs) (frozen (xs ++ Enter seat op ∷ [])) (frozen_push xs (Enter seat op)) k.listed;
-      single = rw (walking_push xs (Enter seat op)) k.single;
+      single = λ n. rw (walking_push xs (Enter seat op), rests) tt;
       at = λ o q many.
           let n : Operation = record { seat = seat; op = op; before = xs } in
           let s : n ≡ o = same_some n o (sym (operation_push xs (Enter seat op)) ∙ q) in
@@ -95,8 +96,11 @@ sequenced_step head xs (Enter seat op) l h k =
     }
 sequenced_step head xs (WalkBegin seat cpu from to) l h k = record {
   listed = same_list head (frozen xs) (frozen (xs ++ WalkBegin seat cpu from to ∷ [])) (frozen_push xs (WalkBegin seat cpu from to)) k.listed;
-  single =
-      rw (walking_push xs (WalkBegin seat cpu from to), empty_of (walking xs) h.no_walk) tt;
+  single = λ n.
+      let m = rw (operation_push xs (WalkBegin seat cpu from to)) at n in
+      let held = h.held in
+      let u : is_upmany h.of.op ≡ false = rw held at m in
+      rw (walking_push xs (WalkBegin seat cpu from to), empty_of (walking xs) (alone_at (is_upmany h.of.op) (is_walking xs) h.between u)) tt;
   at = λ o q many.
       let s : h.of ≡ o = same_some h.of o (sym h.held ∙ (sym (operation_push xs (WalkBegin seat cpu from to)) ∙ q)) in
       let m : walks_many h.of.op ≡ true = ap (λ z. walks_many z.op) s ∙ many in
@@ -108,7 +112,8 @@ sequenced_step head xs (WalkEnd seat cpu answer) l h k =
     let r = (owners head xs l).walk_op cpu h.of h.in_flight in
     record {
       listed = go r.0 r.1 (is_freeze r.0.op) refl;
-      single = ends (walking xs) k.single (walking_push xs (WalkEnd seat cpu answer));
+      single = λ n.
+          ends (walking xs) (k.single (rw (operation_push xs (WalkEnd seat cpu answer)) at n)) (walking_push xs (WalkEnd seat cpu answer));
       at = λ o q many. ended o (sym (operation_push xs (WalkEnd seat cpu answer)) ∙ q) many;
     }
   where
@@ -116,7 +121,8 @@ sequenced_step head xs (WalkEnd seat cpu answer) l h k =
         InSequence head o.op o.before (xs ++ WalkEnd seat cpu answer ∷ [])
     ended o q many =
         let i : InSequence head o.op o.before xs = k.at o q many in
-        end_in head xs seat cpu answer o h q many (once_of head o.op o.before xs k.listed i) (kept head xs l) k.single
+        end_in head xs seat cpu answer o h q many (once_of head o.op o.before xs k.listed i) (kept head xs l)
+        (k.single (rw q (many_single o.op many)))
         (faults_come head xs l) i
 
     go : (o : Operation) → operation xs ≡ Some o → (b : Bool) → is_freeze o.op ≡ b →
@@ -144,7 +150,8 @@ sequenced_step head xs (OpEnd seat answer) l h k = record {
   listed =
       emptied head (held_by is_thaw (operation xs)) (frozen xs) (frozen (xs ++ OpEnd seat answer ∷ []))
       (frozen_push xs (OpEnd seat answer)) k.listed;
-  single = rw (walking_push xs (OpEnd seat answer)) k.single;
+  single = λ n.
+      rw (walking_push xs (OpEnd seat answer), empty_of (walking xs) (over_at_rest head xs seat answer (owners head xs l) h)) tt;
   at = λ o q many. absurd (none_some o (sym (operation_push xs (OpEnd seat answer)) ∙ q));
 }
 sequenced_step head xs e l h k =
@@ -163,7 +170,7 @@ sequenced_none : (head : Head) → Sequenced head []
 unfolding frozen walking operation
 sequenced_none head = record {
   listed = listed_none head.possible;
-  single = tt;
+  single = λ n. tt;
   at = λ o q many. absurd (none_some o q);
 }
 

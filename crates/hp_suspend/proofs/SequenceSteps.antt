@@ -13,7 +13,8 @@ use Rattle.hp_event.specs.declared.head.Head.{Head}
 use Rattle.hp_event.specs.declared.event.Event.{Event}
 use Rattle.hp_event.specs.declared.event.Event.TheVariants.{Enter, WalkBegin, WalkEnd}
 use Rattle.hp_model.specs.Lists.{occurs, among, without}
-use Rattle.hp_model.specs.Walks.{Walk, walk, walk_entries, walking}
+use Rattle.hp_model.specs.Walks.{Walk, walk, walk_entries, walking, is_walking}
+use Rattle.hp_model.specs.Batch.{is_upmany}
 use Rattle.hp_model.specs.MapLock.{Operation, operation}
 use Rattle.hp_model.specs.Registered.{keys}
 use Rattle.hp_model.specs.Plan.{direction, plan}
@@ -27,7 +28,7 @@ use Rattle.hp_model.proofs.Laws.{walking_push, begun_push, answers_push, frozen_
 use Rattle.hp_model.proofs.InFlight.{empty_of, walking_is}
 use Rattle.hp_model.proofs.Kept.{WalkKept, Kept}
 use Rattle.hp_model.proofs.Operations.{once_in, in_filter}
-use Rattle.hp_model.proofs.Owners.{same_some, none_some}
+use Rattle.hp_model.proofs.Owners.{alone_at, same_some, none_some}
 use Rattle.hp_suspend.proofs.Rows.{Once, zip_push, zip_in, apart}
 use Rattle.hp_suspend.proofs.Stuck.{FaultsCome, stuck_between}
 use Rattle.hp_suspend.proofs.Sequenced.{walks_many, walks_from, aim, concerned, task, Left, Recording, InSequence, IsSingle}
@@ -103,6 +104,11 @@ enter_in head xs seat op rests still = record {
     empties : is_freeze op ≡ true → frozen (xs ++ Enter seat op ∷ []) ≡ []
     empties f = frozen_push xs (Enter seat op) ∙ ap (λ b. cond b [] (frozen xs)) f
 
+-- an operation that walks several one after another isn't an upmany
+pub many_single : (op : Op) → walks_many op ≡ true → is_upmany op ≡ false
+many_single (Op.UpMany set) m = absurd (false≢true m)
+many_single op m = refl
+
 -- where a walk begins, it is that of the first that is left
 pub begin_in : (head : Head) (xs : List Event) (seat cpu from to : ℕ) (h : WalkBegins head xs seat cpu from to) →
     walks_many h.of.op ≡ true → Once (task head h.of.op h.of.before) → InSequence head h.of.op h.of.before xs →
@@ -111,7 +117,7 @@ begin_in head xs seat cpu from to h many once k =
     let op : Op = h.of.op in
     let entered : List Event = h.of.before in
     let e : Event = WalkBegin seat cpu from to in
-    let rests : walking xs ≡ [] = empty_of (walking xs) h.no_walk in
+    let rests : walking xs ≡ [] = empty_of (walking xs) (alone_at (is_upmany h.of.op) (is_walking xs) h.between (many_single h.of.op many)) in
     let u = undone_is head op entered xs once rests k in
     let g : Gives op k.rest xs cpu to =
     gives head op entered xs k.rest cpu to many (todo_is head op entered xs once rests k) h.gives

@@ -13,7 +13,8 @@ use Rattle.hp_model.specs.Walks.{Walk, walk, walking}
 use Rattle.hp_model.specs.MapLock.{Operation, operation}
 use Rattle.hp_model.specs.Settled.{settled}
 use Rattle.hp_model.specs.Processors.{is_present, online}
-use Rattle.hp_model.specs.Suspend.{is_ok, is_freeze, frozen}
+use Rattle.hp_model.specs.Suspend.{is_ok, is_freeze, held_by, frozen}
+use Rattle.hp_model.specs.Batch.{is_upmany}
 use Rattle.hp_model.specs.Sequence.{begun, answers, failures, primary_of}
 use Rattle.hp_suspend.specs.Booting.{is_fault}
 
@@ -85,5 +86,5 @@ IsSingle (c ∷ (d ∷ cs)) = ⊥
 -- what every lawful journal keeps of it
 pub record Sequenced (head : Head) (events : List Event) : Type 0 where
   pub listed : frozen events ≡ filter (λ c. among c (frozen events)) (numbers head.possible)
-  pub single : IsSingle (walking events)
+  pub single : held_by is_upmany (operation events) ≡ false → IsSingle (walking events)
   pub at : (o : Operation) → operation events ≡ Some o → walks_many o.op ≡ true → InSequence head o.op o.before events

@@ -56,7 +56,7 @@ faults_push : (events : List Event) (seat cpu : ℕ) (answer : Answer) →
 faults_push events seat cpu answer =
     ap faults (answers_push events (WalkEnd seat cpu answer)) ∙ filter-append is_fault (answers events) (answer ∷ [])
 
-failed_more : (events : List Event) (seat cpu : ℕ) (answer : Answer) →
+pub failed_more : (events : List Event) (seat cpu : ℕ) (answer : Answer) →
     length (failures (answers (events ++ WalkEnd seat cpu answer ∷ [])))
     ≡ length (failures (answers events)) + cond (is_ok answer) 0 1
 failed_more events seat cpu answer =

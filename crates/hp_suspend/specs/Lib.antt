@@ -5,3 +5,5 @@ pub mod Booting
 pub mod Asked
 pub mod ByLists
 pub mod Quiet
+pub mod Batching
+pub mod Turns

@@ -77,6 +77,15 @@ impl<H: Hook> Table<H> {
         if state > ONLINE {
             return None;
         }
+        self.registered_at(state)
+    }
+
+    /// What is registered at one of the 201 states, if anything is.
+    fn registered_at(&self, state: u32) -> Option<&Registered<H>>
+        requires { state ≤ ONLINE }
+        ensures there { option_copied result ≡ step_at self.now state }
+        ensures sound { IsSound self.now }
+    {
         self.places[state as usize].as_ref()
     }
 

@@ -27,7 +27,7 @@ fn lowest_above<H: Hook>(table: &Table<H>, low: u32, high: u32) -> Option<u32>
     ensures none { IfNone result (IsNoState (keys_by table.now) Dir.Up low high) }
 {
     for state in low + 1..high + 1 {
-        if table.key_count(state) > 0 {
+        if table.key_count_at(state) > 0 {
             return Some(state);
         }
     }
@@ -42,7 +42,7 @@ fn highest_above<H: Hook>(table: &Table<H>, low: u32, high: u32) -> Option<u32>
 {
     let mut state = high;
     while state > low {
-        if table.key_count(state) > 0 {
+        if table.key_count_at(state) > 0 {
             return Some(state);
         }
         state -= 1;

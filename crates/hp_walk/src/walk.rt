@@ -91,6 +91,7 @@ impl Walk {
     /// and can't fail. Takes no memory,
     /// and a time that doesn't grow with the table. The order of the states is that of
     /// `core-api/cpu_hotplug.rst`; that of the instances of one, and Stuck, are this project's own.
+    #[inline(always)]
     pub fn next<H: Hook>(&self, table: &Table<H>) -> Step
         requires { IsWithin (keys_by table.now) self.now }
         ensures asked { result ≡ asked (keys_by table.now) self.now }

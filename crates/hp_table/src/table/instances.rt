@@ -65,6 +65,21 @@ impl<H: Hook> Table<H> {
         }
     }
 
+    /// How many keys one of the 201 states has: as `key_count`.
+    ///
+    /// The state is at most 200. Takes no memory, and a time that doesn't grow with the table.
+    pub fn key_count_at(&self, state: u32) -> u32
+        requires { state ≤ ONLINE }
+        ensures count { result ≡ length (keys_by self.now state) }
+        ensures keys { result ≡ keys_of (step_at self.now state) }
+        ensures few { result ≤ MAX_INSTANCES }
+    {
+        match self.registered_at(state) {
+            Some(step) => step.key_count(),
+            None => 0,
+        }
+    }
+
     /// The instance of a key of a state: the key's place is counted from 0 at the newest instance. A
     /// state that is registered without an instance list has the instance 0.
     ///

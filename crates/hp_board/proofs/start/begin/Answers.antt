@@ -9,5 +9,5 @@ use Rattle.hp_board.proofs.start.begin.Goals as goal
 pub invariant_of-result : goal.invariant_of-result
 invariant_of-result g c =
     let m = c.in_ok-machine.machine in
-    let all : AllHome m.places = λ s. ap is_home (vacant_of m.places (ONLINE + 1) s (ap (λ (x : Contents). x.places) c.in_ok-machine.ensures)) in
-    none_out m.head m.events m.places all
+    let all : AllHome m.places = λ s. ap is_home (vacant_of m.places (ONLINE + 1) s (ap (λ (x : Contents). x.places) c.in_ok-machine.ensures.begins)) in
+    none_out m all c.in_ok-machine.ensures.nothing_lent

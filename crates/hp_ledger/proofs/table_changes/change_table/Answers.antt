@@ -37,10 +37,10 @@ returns-in-RegBegin-clause-table g c =
     let head = sym (c.head.ensures ∙ c.journal.ensures.head) in
     let after = begun_table l.head l.events places b.seat b.state b.op c.requires.table c.sound.ensures stands.0 in
     let there = subst (λ x. IsTableOf l.head (l.events ++ x ∷ []) (with_added l.head b.op b.state places)) (sym b.is) after in
-    let by_head = subst (λ (h : Head). IsTableOf l.head (l.events ++ c.args.event ∷ []) (with_added h b.op b.state places)) head there in
+    let by_head = subst (λ (h : Head). IsTableOf l.head (l.events ++ c.args.event.now ∷ []) (with_added h b.op b.state places)) head there in
     on_ok c.add_to_table.result (c.add_to_table.new.table ≡ with_added c.head.result.now b.op b.state places)
-    (IsTableOf l.head (l.events ++ c.args.event ∷ []) c.add_to_table.new.table) c.add_to_table.ensures.added
-    (λ is. subst (IsTableOf l.head (l.events ++ c.args.event ∷ [])) (sym is) by_head)
+    (IsTableOf l.head (l.events ++ c.args.event.now ∷ []) c.add_to_table.new.table) c.add_to_table.ensures.added
+    (λ is. subst (IsTableOf l.head (l.events ++ c.args.event.now ∷ [])) (sym is) by_head)
 
 pub returns-in-Some-clause-table : goal.returns-in-Some-clause-table
 returns-in-Some-clause-table g c =
@@ -52,18 +52,18 @@ returns-in-Some-clause-table g c =
     let f = flies l.events op state (sym c.in-Some.is ∙ c.registration.ensures.there) in
     let after = left_table l.head l.events places x.seat x.answer op state c.requires.table c.in-Some.ensures.op f in
     let there = subst (λ e. IsTableOf l.head (l.events ++ e ∷ []) (without_left op x.answer state places)) (sym x.is) after in
-    subst (IsTableOf l.head (l.events ++ c.args.event ∷ [])) (sym c.take_from_table.ensures.left) there
+    subst (IsTableOf l.head (l.events ++ c.args.event.now ∷ [])) (sym c.take_from_table.ensures.left) there
 
 pub returns-in_default : goal.returns-in_default
 returns-in_default g c =
     let l = c.args.ledger.now in
     let places = c.args.table.now in
-    let u : Untouched l.head l.events c.args.event places =
-    untouched l.head l.events c.args.event places c.in_default.not-RegBegin c.in_default.not-RegEnd c.requires.no_entry in
-    let other : is_registering c.args.event ≡ true → ⊥ = λ is. true≢false (sym is ∙ u.no_registration) in
+    let u : Untouched l.head l.events c.args.event.now places =
+    untouched l.head l.events c.args.event.now places c.in_default.not-RegBegin c.in_default.not-RegEnd c.requires.no_entry in
+    let other : is_registering c.args.event.now ≡ true → ⊥ = λ is. true≢false (sym is ∙ u.no_registration) in
     record {
       changed = sym u.same;
-      table = table_same l.head l.events places c.args.event u.leaves c.requires.table;
+      table = table_same l.head l.events places c.args.event.now u.leaves c.requires.table;
       hands = λ is. absurd (other is);
       hook = λ is. absurd (other is);
       left = λ is. refl;

@@ -15,5 +15,5 @@ returns-in-Admit-clause-table g c =
     let l = c.args.ledger.now in
     let same =
     table_same l.head l.events c.args.table.now (Admit c.in-Admit.seat c.in-Admit.role) tt c.requires.table in
-    on_ok c.admit.result (IsTableOf l.head (l.events ++ c.args.event ∷ []) c.args.table.now)
+    on_ok c.admit.result (IsTableOf l.head (l.events ++ c.args.event.now ∷ []) c.args.table.now)
     (subst (λ (e : Event). IsTableOf l.head (l.events ++ e ∷ []) c.args.table.now) (sym c.in-Admit.is) same)

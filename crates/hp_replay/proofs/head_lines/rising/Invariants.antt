@@ -1,5 +1,5 @@
 use Rattle.std.proofs.Common.{◌≡◌, ◌∷◌, length}
-use Rattle.hp_replay.specs.HeadLines.{rising_from}
+use Rattle.hp_replay.specs.Rising.{rising_from}
 use Rattle.hp_replay.proofs.WordForms.{with_next}
 use Rattle.hp_replay.proofs.RisingLoop.{behind}
 use Rattle.hp_replay.proofs.head_lines.rising.Given as goal

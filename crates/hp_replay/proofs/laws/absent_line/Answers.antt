@@ -6,8 +6,9 @@ use Rattle.hp_event.specs.declared.head.Head.{Head}
 use Rattle.hp_model.specs.Lists.{occurs, among}
 use Rattle.hp_model.specs.Words.{line, list_words}
 use Rattle.hp_model.specs.Heads.{IsHead}
+use Rattle.hp_model.proofs.Rising.{rise_below, rise_increases}
 use Rattle.hp_replay.specs.HeadLines.{absent_at}
-use Rattle.hp_replay.proofs.AbsentLaws.{rise_below, rise_increases, zero_not_among}
+use Rattle.hp_replay.proofs.AbsentLaws.{zero_not_among}
 use Rattle.hp_replay.proofs.HeadLaws.{absent_takes, absent_again}
 use Rattle.hp_replay.proofs.TextLines.{head_rise, head_small}
 use Rattle.hp_replay.proofs.laws.absent_line.Goals as goal

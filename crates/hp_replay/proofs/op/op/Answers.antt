@@ -59,3 +59,6 @@ returns-in-Thaw c = op_row word.Thaw c.args.words.now _ c.in_ok-word.word.now c.
 
 pub returns-in-Wakeup : goal.returns-in-Wakeup
 returns-in-Wakeup c = op_row word.Wakeup c.args.words.now _ c.in_ok-word.word.now c.in_ok-op_word.field-0 c.done-in-Wakeup.result c.in_ok-word.ensures.word c.in_ok-word.ensures.rest c.in_ok-op_word.ensures c.in-Wakeup.is c.done-in-Wakeup.ensures
+
+pub returns-in-UpMany : goal.returns-in-UpMany
+returns-in-UpMany c = op_row word.UpMany c.args.words.now _ c.in_ok-word.word.now c.in_ok-op_word.field-0 c.upmany.result c.in_ok-word.ensures.word c.in_ok-word.ensures.rest c.in_ok-op_word.ensures c.in-UpMany.is c.upmany.ensures

@@ -1,18 +1,24 @@
 -- Each seat has its turn.
-use Rattle.std.proofs.Common.{ap, sym, length, arith, ◌∙◌}
+use Rattle.std.proofs.Common.{◌≡◌, ◌+◌, ◌-◌, ap, sym, subst, length, arith, ◌∙◌}
 use Rattle.hp_model.specs.Lists.{numbers}
 use Rattle.hp_model.specs.Processors.{present}
-use Rattle.hp_model.specs.ScriptTurns.{after_turns}
+use Rattle.hp_model.specs.ScriptTurns.{after_turns, turn}
 use Rattle.hp_actors.specs.Positions.{Position}
 use Rattle.hp_actors.proofs.HooksTurned.{keeps_on, keeps_same}
 use Rattle.hp_actors.proofs.Later.{later_on, later_one, turn_later}
 use Rattle.hp_actors.proofs.RoundLaws.{seat_more, threads_answer}
 use Rattle.hp_actors.proofs.run.Run.round.Goals as goal
 
-pub loop-seat-preserved-then-still_waits : goal.loop-seat-preserved-then-still_waits
-loop-seat-preserved-then-still_waits g c =
+pub loop-seat-preserved-then-actor_waits : goal.loop-seat-preserved-then-actor_waits
+loop-seat-preserved-then-actor_waits g c =
     let i = c.loop-seat.invariant in
-    let still = sym (c.still_waits.ensures c.if-still_waits.true) in
+    let q = c.loop-seat.self in
+    let same : length (present q.head) + (c.loop-seat.seat - c.actors_seats-first.result.0) ≡ c.loop-seat.seat =
+    let heads = i.head ∙ sym (ap (λ p. p.head) c.serve_threads.ensures.progress) in
+    let first = ap (λ h. length (present h)) heads ∙ sym c.actors_seats-first.ensures.first in
+    omega (arith, first) in
+    let still : q.progress ≡ turn q.head q.actors q.progress c.loop-seat.seat =
+    subst (λ n. q.progress ≡ turn q.head q.actors q.progress n) same (sym (c.actor_waits.ensures c.if-actor_waits.true)) in
     record {
       head = i.head;
       actors = i.actors;

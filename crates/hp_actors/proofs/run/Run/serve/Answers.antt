@@ -14,7 +14,7 @@ invariant_of-self g c =
     let b = c.self.inside.board in
     let below : c.args.seat < c.self.inside.threads =
     omega (arith, c.self.invariant.playing.threads_are, ap (λ p. length (present p.head)) c.self.view_is, c.requires) in
-    let s = served c.args.seat b c.serve.new.self c.serve.result c.serve.ensures.served in
+    let s = served c.args.seat b c.serve.new.self c.serve.result c.self.invariant.home c.serve.ensures.served in
     record {
       playing =
           thread_playing b c.serve.new.self c.self.inside.actors.items c.self.inside.threads c.args.seat c.self.invariant.playing below s;

@@ -1,20 +1,14 @@
-use Rattle.std.proofs.Common.{◌≡◌, ◌≤◌, ◌-◌, length}
-use Rattle.hp_model.specs.Lists.{numbers}
-use Rattle.hp_model.specs.Processors.{present}
-use Rattle.hp_model.specs.ScriptTurns.{after_turns}
+use Rattle.std.proofs.Common.{◌-◌}
 use Rattle.hp_actors.specs.Hooks.{IsLater}
+use Rattle.hp_actors.proofs.RoundLaws.{IsServed}
 use Rattle.hp_actors.proofs.run.Run.serve_threads.Given as goal
 
-abbrev pub invariant-loop-seat : goal.invariant-loop-seat
-invariant-loop-seat g l =
+abbrev pub invariant-loop-cpu : goal.invariant-loop-cpu
+invariant-loop-cpu g l =
     record {
-      head : l.self.head ≡ l.fn.self.head;
-      actors : l.self.actors ≡ l.fn.self.actors;
-      few : l.next ≤ length (present l.fn.self.head);
-      turned : l.self.progress ≡ after_turns l.fn.self.head l.fn.self.actors l.fn.self.progress (numbers l.next);
-      hooks : l.self.hooks ≡ l.fn.self.hooks;
+      served : IsServed l.fn.self l.self l.from;
       made : IsLater l.fn.self l.self;
     }
 
-abbrev pub decreases-loop-seat : goal.decreases-loop-seat
-decreases-loop-seat g l = length (present l.fn.self.head) - l.next
+abbrev pub decreases-loop-cpu : goal.decreases-loop-cpu
+decreases-loop-cpu g l = l.fn.self.head.possible - l.from

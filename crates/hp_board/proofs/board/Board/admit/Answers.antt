@@ -5,8 +5,9 @@ use Rattle.hp_machine.proofs.Admitted.{admission_stands}
 use Rattle.hp_model.specs.Seats.{admits}
 use Rattle.hp_board.specs.Contents.{Contents, with_event}
 use Rattle.hp_board.specs.Loans.{AreOut, loan}
-use Rattle.hp_board.proofs.Loans.{next_idle, out_stays, disarms_not}
-use Rattle.hp_board.proofs.LoansStay.{loans_stay}
+use Rattle.hp_board.proofs.KeptOut.{calm_seat}
+use Rattle.hp_board.proofs.Loans.{next_idle}
+use Rattle.hp_board.proofs.LoansStay.{goes_on, loans_stay, out_stays}
 use Rattle.hp_board.proofs.board.Board.admit.Goals as goal
 
 either : {T E : Type 0} (r : Result T E) (A F B P : Type 0) → OnOk r A → OnOk r F → OnErr r B → (A → F → P) → (B → P) → P
@@ -19,12 +20,12 @@ invariant_of-self g c =
     let e = Admit (admits b.events) c.args.role in
     let new = c.admit.new.self in
     either c.admit.result (new ≡ with_event b e) (refusal_of b.head b.events c.args.role ≡ None) (new ≡ b)
-    (AreOut new.head new.events new.places) c.admit.ensures.ok c.admit.ensures.free c.admit.ensures.err
-    (λ is free. subst (λ (x : Contents). AreOut x.head x.events x.places) (sym is)
-    (out_stays b (admits b.events) e c.sound.ensures.lawful c.self.invariant (admission_stands b.head b.events c.args.role free) refl
-    (next_idle b c.sound.ensures.lawful c.self.invariant)
-    (λ s o away. disarms_not b.events o.seat o.cpu s o.inst o.dir o.how e refl)))
-    (λ is. subst (λ (x : Contents). AreOut x.head x.events x.places) (sym is) c.self.invariant)
+    (AreOut new) c.admit.ensures.ok c.admit.ensures.free c.admit.ensures.err
+    (λ is free. subst AreOut (sym is)
+    (out_stays b (with_event b e) c.self.invariant
+    (goes_on b (admits b.events) e c.sound.ensures.lawful c.self.invariant (admission_stands b.head b.events c.args.role free) refl
+    (next_idle b c.sound.ensures.lawful) (calm_seat b e refl (λ c. refl)))))
+    (λ is. subst AreOut (sym is) c.self.invariant)
 
 pub returns-clause-stays : goal.returns-clause-stays
 returns-clause-stays g c = λ k.
@@ -35,7 +36,6 @@ returns-clause-stays g c = λ k.
     (loan new k ≡ loan b k) c.admit.ensures.ok c.admit.ensures.free c.admit.ensures.err
     (λ is free. ap (λ (z : Contents). loan z k) is
     ∙ loans_stay b (admits b.events) e c.sound.ensures.lawful c.self.invariant (admission_stands b.head b.events c.args.role free) refl
-    (next_idle b c.sound.ensures.lawful c.self.invariant)
-    (λ s o away. disarms_not b.events o.seat o.cpu s o.inst o.dir o.how e refl) k)
+    (next_idle b c.sound.ensures.lawful) (calm_seat b e refl (λ c. refl)) k)
     (λ is. ap (λ (z : Contents). loan z k) is)
     ∙ ap (λ (z : Contents). loan z k) c.self.view_is

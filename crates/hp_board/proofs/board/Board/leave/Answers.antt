@@ -4,8 +4,8 @@ use Rattle.hp_model.specs.Lawful.{Stands}
 use Rattle.hp_model.proofs.DueGives.{due_nothing}
 use Rattle.hp_board.specs.Contents.{Contents}
 use Rattle.hp_board.specs.Loans.{AreOut, loan, loan_of}
-use Rattle.hp_board.proofs.Loans.{out_stays, disarms_not}
-use Rattle.hp_board.proofs.LoansStay.{loans_stay}
+use Rattle.hp_board.proofs.KeptOut.{calm_seat}
+use Rattle.hp_board.proofs.LoansStay.{goes_on, loans_stay, out_stays}
 use Rattle.hp_board.proofs.board.Board.leave.Goals as goal
 
 pub invariant_of-self : goal.invariant_of-self
@@ -14,10 +14,10 @@ invariant_of-self g c =
     let e = Leave c.args.by in
     let stands = subst (λ (b : Contents). Stands b.head b.events e) (sym c.self.view_is) c.requires in
     let none = (due_nothing b.head b.events c.args.by).1 stands.0.no_entry_due in
-    let nothing : loan b c.args.by ≡ None = ap (λ e. loan_of e b.places) none in
-    subst (λ (x : Contents). AreOut x.head x.events x.places) (sym c.leave.ensures.left)
-    (out_stays b c.args.by e c.sound.ensures.lawful c.self.invariant stands refl nothing
-    (λ s o away. disarms_not b.events o.seat o.cpu s o.inst o.dir o.how e refl))
+    let nothing : loan b c.args.by ≡ None = ap (λ e. loan_of e b.lent b.places) none in
+    subst AreOut (sym c.leave.ensures.left)
+    (out_stays b _ c.self.invariant
+    (goes_on b c.args.by e c.sound.ensures.lawful c.self.invariant stands refl nothing (calm_seat b e refl (λ c. refl))))
 
 pub returns-clause-stays : goal.returns-clause-stays
 returns-clause-stays g c = λ k.
@@ -25,8 +25,8 @@ returns-clause-stays g c = λ k.
     let e = Leave c.args.by in
     let stands = subst (λ (b : Contents). Stands b.head b.events e) (sym c.self.view_is) c.requires in
     let none = (due_nothing b.head b.events c.args.by).1 stands.0.no_entry_due in
-    let nothing : loan b c.args.by ≡ None = ap (λ e. loan_of e b.places) none in
+    let nothing : loan b c.args.by ≡ None = ap (λ e. loan_of e b.lent b.places) none in
     ap (λ (z : Contents). loan z k) c.leave.ensures.left
     ∙ (loans_stay b c.args.by e c.sound.ensures.lawful c.self.invariant stands refl nothing
-    (λ s o away. disarms_not b.events o.seat o.cpu s o.inst o.dir o.how e refl) k
+    (calm_seat b e refl (λ c. refl)) k
     ∙ ap (λ (z : Contents). loan z k) c.self.view_is)

@@ -9,10 +9,10 @@ use Rattle.hp_ledger.specs.Entries.{entry_event}
 use Rattle.hp_ledger.proofs.FullNone.{full_none}
 use Rattle.hp_board.specs.Contents.{Contents, with_event}
 use Rattle.hp_board.specs.Hooks.{has_hook, has_hook_after, leaves_hook}
-use Rattle.hp_board.specs.Turns.{IsTurn, IsHookOut, IsNotYet, goes_on}
+use Rattle.hp_board.specs.Turns.{IsTurn, IsHookOut, IsNotYet, goes_on as turn_goes_on}
 use Rattle.hp_board.specs.declared.turn.Turn.{Turn}
 use Rattle.hp_board.specs.declared.turn.Turn.TheVariants.{Made, Answered, NotYet}
-use Rattle.hp_board.proofs.HookOuts.{one_away, comes_unless, full_unless, waits_out, made_waits_not, kept_out_for}
+use Rattle.hp_board.proofs.HookOuts.{one_wait, comes_unless, full_unless, waits_out, made_waits_not, kept_out_for}
 use Rattle.hp_event.specs.declared.answer.Answer.{Answer}
 use Rattle.hp_event.specs.declared.answer.Answer.TheVariants.{LogFull}
 use Rattle.hp_ledger.specs.Next.{IsKept}
@@ -23,11 +23,14 @@ use Rattle.hp_states.specs.declared.no_memory.NoMemory.{NoMemory}
 use Rattle.hp_board.proofs.TurnsMade.{brought, turn_made, hook_after, hook_same, kept, unanswered}
 use Rattle.hp_model.proofs.DueGives.{due_gives}
 use Rattle.hp_board.specs.Loans.{loan, AreOut, IsCalm}
-use Rattle.hp_board.proofs.Homes.{idle_home}
-use Rattle.hp_board.proofs.LoansStay.{loans_stay}
-use Rattle.hp_board.proofs.Loans.{home_due, home_beside, out_stays, none_out, disarms_not}
-use Rattle.hp_table.specs.Step.{AllHome}
-use Rattle.hp_ledger.proofs.Homes.{home_after}
+use Rattle.hp_board.proofs.Loans.{home_beside, disarms_not}
+use Rattle.hp_board.proofs.LoansStay.{goes_on, loans_stay, out_stays}
+use Rattle.hp_board.proofs.OwnEntries.{own_home}
+use Rattle.hp_board.proofs.Served.{calm_entry}
+use Rattle.hp_board.proofs.Waiting.{arms_leaves, arms_quietly}
+use Rattle.hp_event.specs.declared.event.Event.TheVariants.{Call}
+use Rattle.hp_event.specs.declared.event.Role.TheVariants.{Client}
+use Rattle.hp_model.specs.Seats.{role_of}
 use Rattle.hp_board.proofs.Busy.{hook_again}
 use Rattle.hp_board.proofs.board.Board.turn.Goals as goal
 
@@ -131,7 +134,7 @@ returns-in_ok-make-in-Event-clause-again g c = λ on.
     let after = hook_after l.events e c.args.ask.now.hook c.make.new.hook brings made.hands made.left in
     let had : is_some c.args.ask.now.hook ≡ has_hook l.events k op =
     c.requires.hook ∙ ap (λ (b : Contents). has_hook b.events k op) (sym c.self.view_is) in
-    let none = unanswered (answer_by e) c.len-at.result (ap goes_on (sym c.turn_of.ensures) ∙ on) in
+    let none = unanswered (answer_by e) c.len-at.result (ap turn_goes_on (sym c.turn_of.ensures) ∙ on) in
     after ∙ ap (has_hook_after l.events (Some e)) had ∙ hook_again l.head l.events k op e c.in-Event.ensures.0 none
     ∙ ap (λ (x : Contents). has_hook x.events k op) (sym made.made)
 
@@ -148,26 +151,27 @@ returns-in-Entry-clause-again g c = λ on.
 
 pub make_entry-requires-clause-home : goal.make_entry-requires-clause-home
 make_entry-requires-clause-home g c =
-    let l = c.self.inside.machine in
     let b = c.self.inside.machine in
-    let e = entry_event l.head l.events c.in-Entry.entry in
+    let e = entry_event b.head b.events c.in-Entry.entry in
     let nothing = subst (λ (b : Contents). loan b c.args.by ≡ None) (sym c.self.view_is) c.requires.nothing in
-    let s = next_stands l.head l.events c.args.by c.args.ask.now.op e c.in-Entry.ensures in
-    let due = due_gives l.head l.events c.args.by e c.sound.ensures.lawful s.0 refl s.1 in
-    home_due b c.args.by e c.sound.ensures.lawful c.self.invariant due nothing c.in-Entry.entry.key.state
+    let client = subst (λ (b : Contents). role_of c.args.by b.events ≡ Some Client) (sym c.self.view_is) c.requires.allowed.client in
+    let s = next_stands b.head b.events c.args.by c.args.ask.now.op e c.in-Entry.ensures in
+    let due = due_gives b.head b.events c.args.by e c.sound.ensures.lawful s.0 refl s.1 in
+    own_home b c.args.by c.in-Entry.entry c.sound.ensures.lawful c.self.invariant client due nothing
 
 pub returns-in-Entry-clause-stays : goal.returns-in-Entry-clause-stays
 returns-in-Entry-clause-stays g c = λ k.
-    let l = c.self.inside.machine in
-    let e = entry_event l.head l.events c.in-Entry.entry in
     let b = c.self.inside.machine in
+    let x = c.in-Entry.entry in
+    let e = entry_event b.head b.events x in
     let nothing = subst (λ (b : Contents). loan b c.args.by ≡ None) (sym c.self.view_is) c.requires.nothing in
-    let s = next_stands l.head l.events c.args.by c.args.ask.now.op e c.in-Entry.ensures in
-    let due = due_gives l.head l.events c.args.by e c.sound.ensures.lawful s.0 refl s.1 in
-    let home = home_due b c.args.by e c.sound.ensures.lawful c.self.invariant due nothing in
-    let new = c.make_entry.new.self in
-    idle_home new k (subst (λ (z : Contents). AllHome z.places) (sym c.make_entry.ensures) (home_after l.head l.events e l.places home))
-    ∙ (sym (idle_home b k home) ∙ ap (λ (z : Contents). loan z k) c.self.view_is)
+    let client = subst (λ (b : Contents). role_of c.args.by b.events ≡ Some Client) (sym c.self.view_is) c.requires.allowed.client in
+    let s = next_stands b.head b.events c.args.by c.args.ask.now.op e c.in-Entry.ensures in
+    let due = due_gives b.head b.events c.args.by e c.sound.ensures.lawful s.0 refl s.1 in
+    let home = own_home b c.args.by x c.sound.ensures.lawful c.self.invariant client due nothing in
+    ap (λ (z : Contents). loan z k) c.make_entry.ensures
+    ∙ (loans_stay b c.args.by e c.sound.ensures.lawful c.self.invariant s.0 s.1 nothing (calm_entry b x home) k
+    ∙ ap (λ (z : Contents). loan z k) c.self.view_is)
 
 pub returns-in_ok-make-in-Event-clause-stays : goal.returns-in_ok-make-in-Event-clause-stays
 returns-in_ok-make-in-Event-clause-stays g c = λ k.
@@ -187,7 +191,7 @@ pub make-requires-clause-home : goal.make-requires-clause-home
 make-requires-clause-home g c = λ is.
     let l = c.self.inside.machine in
     let stands = (next_stands l.head l.events c.args.by c.args.ask.now.op c.in-Event.event c.in-Event.ensures.0).0 in
-    home_beside l.head l.events l.places c.in-Event.event c.sound.ensures.lawful c.self.invariant stands is
+    home_beside l c.in-Event.event c.sound.ensures.lawful c.self.invariant stands is
 
 pub invariant_of-self-in-Event : goal.invariant_of-self-in-Event
 invariant_of-self-in-Event g c =
@@ -196,20 +200,23 @@ invariant_of-self-in-Event g c =
     let nothing = subst (λ (b : Contents). loan b c.args.by ≡ None) (sym c.self.view_is) c.requires.nothing in
     let calm = subst (λ (b : Contents). IsCalm b e) (sym c.self.view_is) c.in_default.ensures.calm in
     let s = next_stands b.head b.events c.args.by c.args.ask.now.op e c.in-Event.ensures.0 in
-    subst (λ (z : Contents). AreOut z.head z.events z.places) (sym c.in_ok-make-in-Event.ensures.made)
-    (out_stays b c.args.by e c.sound.ensures.lawful c.self.invariant s.0 s.1 nothing calm)
+    subst AreOut (sym c.in_ok-make-in-Event.ensures.made)
+    (out_stays b _ c.self.invariant
+    (goes_on b c.args.by e c.sound.ensures.lawful c.self.invariant s.0 s.1 nothing calm))
 
 pub invariant_of-self-in-Entry : goal.invariant_of-self-in-Entry
 invariant_of-self-in-Entry g c =
     let b = c.self.inside.machine in
-    let e = entry_event b.head b.events c.in-Entry.entry in
+    let x = c.in-Entry.entry in
+    let e = entry_event b.head b.events x in
     let nothing = subst (λ (b : Contents). loan b c.args.by ≡ None) (sym c.self.view_is) c.requires.nothing in
+    let client = subst (λ (b : Contents). role_of c.args.by b.events ≡ Some Client) (sym c.self.view_is) c.requires.allowed.client in
     let s = next_stands b.head b.events c.args.by c.args.ask.now.op e c.in-Entry.ensures in
     let due = due_gives b.head b.events c.args.by e c.sound.ensures.lawful s.0 refl s.1 in
-    let home = home_due b c.args.by e c.sound.ensures.lawful c.self.invariant due nothing in
-    let new = c.make_entry.new.self in
-    none_out new.head new.events new.places
-    (subst (λ (z : Contents). AllHome z.places) (sym c.make_entry.ensures) (home_after b.head b.events e b.places home))
+    let home = own_home b c.args.by x c.sound.ensures.lawful c.self.invariant client due nothing in
+    subst AreOut (sym c.make_entry.ensures)
+    (out_stays b _ c.self.invariant
+    (goes_on b c.args.by e c.sound.ensures.lawful c.self.invariant s.0 s.1 nothing (calm_entry b x home)))
 
 same_why : (v w : Why) → ◌≡◌ {A = Result Turn NoMemory} (Ok (NotYet v)) (Ok (NotYet w)) → v ≡ w
 same_why v w e = cc
@@ -235,10 +242,9 @@ pub returns-in-Some-clause-hook_out : goal.returns-in-Some-clause-hook_out
 returns-in-Some-clause-hook_out g c = λ s.
     let b = c.args.self.now in
     let lawful = subst (λ (b : Contents). IsLawful b.head b.events) c.self.view_is c.sound.ensures.lawful in
-    let invariant = subst (λ (b : Contents). AreOut b.head b.events b.places) c.self.view_is c.self.invariant in
     let next = subst (λ (b : Contents). next_event b.head b.events c.args.by c.args.ask.now.op ≡ Some c.in-Event.event) c.self.view_is c.in-Event.ensures.0 in
-    let here = kept_out_for b c.in-Some.state c.args.by c.args.ask.now.op c.in-Event.event next c.in-Some.ensures.out.0 c.in-Some.ensures.out.1 in (
-      λ h. ap (λ t. Ok (NotYet (HookOut t))) (one_away b c.in-Some.state s lawful invariant here.0 h.0),
+    let here = kept_out_for b c.in-Some.state c.args.by c.args.ask.now.op c.in-Event.event next c.in-Some.ensures.out in (
+      λ h. ap (λ t. Ok (NotYet (HookOut t))) (one_wait b c.in-Some.state s c.args.by c.args.ask.now.op lawful here h),
       λ is. subst (λ t. IsHookOut t c.args.by c.args.ask.now.op b) (same_state c.in-Some.state s is) here,
     )
 
@@ -246,9 +252,8 @@ pub returns-in_ok-make-in-Event-clause-hook_out : goal.returns-in_ok-make-in-Eve
 returns-in_ok-make-in-Event-clause-hook_out g c = λ s.
     let b = c.args.self.now in
     let lawful = subst (λ (b : Contents). IsLawful b.head b.events) c.self.view_is c.sound.ensures.lawful in
-    let invariant = subst (λ (b : Contents). AreOut b.head b.events b.places) c.self.view_is c.self.invariant in
     let next = subst (λ (b : Contents). next_event b.head b.events c.args.by c.args.ask.now.op ≡ Some c.in-Event.event) c.self.view_is c.in-Event.ensures.0 in (
-      λ h. absurd (comes_unless b s c.args.by c.args.ask.now.op c.in-Event.event lawful invariant next c.in_default.ensures.calm h),
+      λ h. absurd (comes_unless b s c.args.by c.args.ask.now.op c.in-Event.event next c.in_default.ensures.calm.0 h),
       λ is. absurd (made_waits_not (answer_by c.in-Event.event) c.len-at.result c.turn_of.result (HookOut s) c.turn_of.ensures (same_turn c.turn_of.result (NotYet (HookOut s)) is)),
     )
 
@@ -256,9 +261,8 @@ pub returns-in_err-make-in-Event-clause-hook_out : goal.returns-in_err-make-in-E
 returns-in_err-make-in-Event-clause-hook_out g c = λ s.
     let b = c.args.self.now in
     let lawful = subst (λ (b : Contents). IsLawful b.head b.events) c.self.view_is c.sound.ensures.lawful in
-    let invariant = subst (λ (b : Contents). AreOut b.head b.events b.places) c.self.view_is c.self.invariant in
     let next = subst (λ (b : Contents). next_event b.head b.events c.args.by c.args.ask.now.op ≡ Some c.in-Event.event) c.self.view_is c.in-Event.ensures.0 in (
-      λ h. absurd (comes_unless b s c.args.by c.args.ask.now.op c.in-Event.event lawful invariant next c.in_default.ensures.calm h),
+      λ h. absurd (comes_unless b s c.args.by c.args.ask.now.op c.in-Event.event next c.in_default.ensures.calm.0 h),
       λ is. absurd (err_apart c.from_residual.result (NotYet (HookOut s)) c.from_residual.ensures.0 is),
     )
 
@@ -268,8 +272,8 @@ returns-in-Entry-clause-hook_out g c = λ s.
     let m = c.self.inside.machine in
     let x = c.in-Entry.entry in
     let back = λ (h : IsHookOut s c.args.by c.args.ask.now.op b). subst (λ (z : Contents). IsHookOut s c.args.by c.args.ask.now.op z) (sym c.self.view_is) h in (
-      λ h. absurd (comes_unless m s c.args.by c.args.ask.now.op (entry_event m.head m.events x) c.sound.ensures.lawful c.self.invariant c.in-Entry.ensures
-          (λ t o away. disarms_not m.events o.seat o.cpu t o.inst o.dir o.how (entry_event m.head m.events x) refl) (back h)),
+      λ h. absurd (comes_unless m s c.args.by c.args.ask.now.op (entry_event m.head m.events x) c.in-Entry.ensures
+          (λ t o. disarms_not m.events o.seat o.cpu t o.inst o.dir o.how (entry_event m.head m.events x) refl) (back h)),
       λ is. absurd (made_apart c.len-at-in-Entry.result s (same_turn (Made c.len-at-in-Entry.result) (NotYet (HookOut s)) is)),
     )
 
@@ -287,9 +291,34 @@ returns-in-Wait-clause-hook_out g c = λ s.
     let b = c.args.self.now in
     let op = c.args.ask.now.op in
     let lawful = subst (λ (b : Contents). IsLawful b.head b.events) c.self.view_is c.sound.ensures.lawful in
-    let invariant = subst (λ (b : Contents). AreOut b.head b.events b.places) c.self.view_is c.self.invariant in
     let kept = subst (λ (b : Contents). IsKept b.head b.events c.args.by op c.in-Wait.why) c.self.view_is c.in-Wait.ensures in
     let waits = c.waits_for.ensures c.args.by op kept in (
-      λ h. ap (λ w. Ok (NotYet w)) (waits_out b s c.args.by op c.waits_for.result lawful invariant c.requires.allowed h waits),
+      λ h. ap (λ w. Ok (NotYet w)) (waits_out b s c.args.by op c.waits_for.result lawful c.requires.allowed h waits),
       λ is. subst (λ w. IsNotYet c.args.by op b w) (same_why c.waits_for.result (HookOut s) is) waits,
     )
+
+pub returns-in-Some-clause-turn : goal.returns-in-Some-clause-turn
+returns-in-Some-clause-turn g c =
+    let b = c.args.self.now in
+    let op = c.args.ask.now.op in
+    let next = subst (λ (b : Contents). next_event b.head b.events c.args.by op ≡ Some c.in-Event.event) c.self.view_is c.in-Event.ensures.0 in
+    (kept_out_for b c.in-Some.state c.args.by op c.in-Event.event next c.in-Some.ensures.out, refl)
+
+pub returns-in-Some-clause-has_hook : goal.returns-in-Some-clause-has_hook
+returns-in-Some-clause-has_hook g c =
+    let b = c.args.self.now in
+    let op = c.args.ask.now.op in
+    let had = is_some c.args.ask.now.hook in
+    let o = c.in-Some.ensures.out.0 in
+    let next = subst (λ (b : Contents). next_event b.head b.events c.args.by op ≡ Some c.in-Event.event) c.self.view_is c.in-Event.ensures.0 in
+    sym (ap (λ o. has_hook_after b.events o had) next
+    ∙ arms_leaves b.events (Call o.seat o.cpu c.in-Some.state o.inst o.dir o.how) c.in-Event.event had c.in-Some.ensures.out.1)
+
+pub returns-in-Some-clause-handed : goal.returns-in-Some-clause-handed
+returns-in-Some-clause-handed g c = λ leaves.
+    let b = c.args.self.now in
+    let op = c.args.ask.now.op in
+    let o = c.in-Some.ensures.out.0 in
+    let next = subst (λ (b : Contents). next_event b.head b.events c.args.by op ≡ Some c.in-Event.event) c.self.view_is c.in-Event.ensures.0 in
+    let quiet = arms_quietly b.events (Call o.seat o.cpu c.in-Some.state o.inst o.dir o.how) c.in-Event.event c.in-Some.ensures.out.1 in
+    absurd (true≢false (sym quiet ∙ (ap (leaves_hook b.events) (sym next) ∙ leaves)))

@@ -8,4 +8,4 @@ use Rattle.hp_law.proofs.law.Law.start.Goals as goal
 pub invariant_of-result : goal.invariant_of-result
 invariant_of-result c =
     let m = c.in_ok-machine.machine in
-    λ s. ap is_home (vacant_of m.places (ONLINE + 1) s (ap (λ (x : Contents). x.places) c.in_ok-machine.ensures))
+    λ s. ap is_home (vacant_of m.places (ONLINE + 1) s (ap (λ (x : Contents). x.places) c.in_ok-machine.ensures.begins))

@@ -2,7 +2,6 @@ use Rattle.std.proofs.Common.{◌≡◌, [], ◌∷◌, ◌++◌, Some, None, Re
 use Rattle.std.specs.Prelude.{List}
 use Rattle.hp_event.specs.declared.head.Head.{Head}
 use Rattle.hp_event.specs.declared.event.Event.{Event}
-use Rattle.hp_event.specs.declared.event.Event.TheVariants.{Admit}
 use Rattle.hp_model.specs.Events.{is_call, seat_of}
 use Rattle.hp_model.specs.Lawful.{Stands}
 use Rattle.hp_model.proofs.DueGives.{due_gives, due_stands}

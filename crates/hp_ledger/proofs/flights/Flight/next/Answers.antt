@@ -1,8 +1,9 @@
 use Rattle.std.proofs.Common.{◌≡◌, ℕ, cond, sym, subst, rules}
 use Rattle.std.specs.Prelude.{Some, option_map}
 use Rattle.hp_states.specs.Sections.{is_ap_state}
+use Rattle.hp_walk.specs.Cursor.{cpu_of}
 use Rattle.hp_ledger.specs.declared.coming.Coming.TheVariants as coming
-use Rattle.hp_ledger.specs.Coming.{IsComing}
+use Rattle.hp_ledger.specs.WalkComing.{IsNextOn}
 use Rattle.hp_ledger.proofs.WalkComing.{flight_entry, flight_end, entry_at}
 use Rattle.hp_ledger.proofs.flights.Flight.next.Goals as goal
 use Rattle.hp_ledger.proofs.flights.Flight.next.Goals.{then-is_ap, else-is_ap}
@@ -15,7 +16,7 @@ returns-after-is_ap g c =
     search rules in
     let there = rw c.cpu-cpu.ensures at entry in
     λ head events one beside.
-    let P : ℕ → Type 0 = λ cpu. IsComing head events (coming.Entry c.args.self.now.seat cpu c.map-entry.result) in
+    let P : ℕ → Type 0 = λ cpu. IsNextOn head events (cpu_of c.args.self.now.walk) (coming.Entry c.args.self.now.seat cpu c.map-entry.result) in
     subst P (sym c.cpu-cpu.ensures)
     (flight_entry head events c.args.self.now c.args.table.now c.args.armed c.args.thread c.in-Call.key c.in-Call.dir c.in-Call.place
     c.in-Call.first c.means_in_walk-means.result c.if-is_ap.seat c.map-entry.result one beside c.in-Call.ensures.asked c.requires

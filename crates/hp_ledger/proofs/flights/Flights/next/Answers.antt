@@ -1,6 +1,7 @@
 use Rattle.std.proofs.Common.{◌≡◌, sym, subst, ◌∙◌}
 use Rattle.std.specs.Prelude.{Some}
 use Rattle.hp_ledger.specs.Places.{at_place}
+use Rattle.hp_ledger.specs.WalkComing.{IsNextOn}
 use Rattle.hp_ledger.specs.Walking.{IsBeside}
 use Rattle.hp_ledger.proofs.FlightFacts.{at_place-read, one_of}
 use Rattle.hp_ledger.proofs.flights.Flights.next.Goals as goal
@@ -11,5 +12,6 @@ returns g c =
     at_place-read c.args.self.now.by_cpu.items c.args.cpu c.index.result.now c.requires.cpu c.index.ensures ∙ c.in-Some.is in
     λ head events flights beside.
     let one = one_of head events c.args.self.now c.args.cpu c.in-Some.flight flights there in
-    c.next.ensures head events one.1
-    (subst (λ n. IsBeside head events c.args.table.now n c.args.armed c.args.thread) (sym one.0) beside)
+    subst (λ n. IsNextOn head events n c.next.result) one.0
+    (c.next.ensures head events one.1
+    (subst (λ n. IsBeside head events c.args.table.now n c.args.armed c.args.thread) (sym one.0) beside))

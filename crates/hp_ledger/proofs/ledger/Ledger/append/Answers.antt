@@ -12,7 +12,7 @@ use Rattle.hp_ledger.proofs.ledger.Ledger.append.Goals.{After-append-freed, Afte
 
 pub append-freed-requires : goal.append-freed-requires
 append-freed-requires g c =
-    let e = c.args.event in
+    let e = c.args.event.now in
     let at = sym c.self.view_is in
     let i = c.self.invariant.kept in
     let j = c.self.inside.journal in
@@ -23,14 +23,14 @@ append-freed-requires g c =
 
 -- there is room for the event and for what it gives back, and its account is kept
 goes_on : (g : given.Over) (c : After-append-freed g) →
-    GoesOn c.self.inside.journal c.append-freed.result c.args.event c.append-freed.new.self
+    GoesOn c.self.inside.journal c.append-freed.result c.args.event.now c.append-freed.new.self
 goes_on g c =
     goes_on_from c.self.inside.journal c.self.inside.reserved c.append-freed.result c.self.inside.parts c.append-freed.new.self
-    c.args.table.now c.args.event c.args.self.now c.self.view_is c.self.invariant.kept c.requires.stands c.requires.room c.requires.table
+    c.args.table.now c.args.event.now c.args.self.now c.self.view_is c.self.invariant.kept c.requires.stands c.requires.room c.requires.table
     c.append-freed.ensures
 
 -- so it is when the journal has the event and has given back what that freed
-kept : (g : given.Over) (c : After-give_back g) → GoesOn c.self.inside.journal c.append-freed.result c.args.event c.append-freed.new.self →
+kept : (g : given.Over) (c : After-give_back g) → GoesOn c.self.inside.journal c.append-freed.result c.args.event.now c.append-freed.new.self →
     IsAccounted c.give_back.new.self 0 c.append-freed.new.self
 kept g c on =
     let freed = c.append-freed.result in

@@ -1,4 +1,4 @@
-use Rattle.std.proofs.Common.{None, [], refl, sym, subst}
+use Rattle.std.proofs.Common.{None, [], refl, sym, subst, inl}
 use Rattle.hp_event.specs.Story.{Story}
 use Rattle.hp_model.specs.Registrations.{registration}
 use Rattle.hp_model.specs.Walks.{walking}
@@ -13,5 +13,5 @@ invariant_of-result c =
     subst (λ (s : Story). IsLedger s 0 c.in_ok-parts.parts None) (sym c.new-2.ensures)
     (record {
       kept = begins_kept c.args.head c.in_ok-parts.parts c.requires c.in_ok-parts.ensures;
-      coming_is = record { none = nothing_under_way c.args.head [] refl refl; no_walk = refl; no_registration = refl };
+      coming_is = inl (record { none = nothing_under_way c.args.head [] refl refl; no_walk = refl; no_registration = refl });
     })

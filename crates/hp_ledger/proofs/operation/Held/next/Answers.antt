@@ -1,11 +1,13 @@
-use Rattle.std.proofs.Common.{ap, ◌∙◌, sym, subst}
+use Rattle.std.proofs.Common.{◌≡◌, to_z, w32, pos, ap, ◌∙◌, sym, subst, rules}
 use Rattle.std.specs.Prelude.{slice_index}
 use Rattle.hp_suspend.specs.Tables.{AreOnline, ArePresent, AreFrozen, AreSettled}
+use Rattle.hp_event.specs.declared.answer.Answer.TheVariants.{Ok}
+use Rattle.hp_model.specs.Sequence.{ends}
 use Rattle.hp_model.specs.Suspend.{frozen}
 use Rattle.hp_model.specs.Lists.{among}
 use Rattle.hp_model.specs.Processors.{is_present}
 use Rattle.hp_ledger.specs.Operations.{IsSequence, single_by}
-use Rattle.hp_ledger.proofs.HeldNext.{flags_all, settled_all, online_all, single_is, freeze_is, thaw_is, boot_is, of_held}
+use Rattle.hp_ledger.proofs.HeldNext.{flags_all, settled_all, online_all, single_is, freeze_is, thaw_is, boot_is, batch_is, batch_walks_next, batch_ends_next, of_held}
 use Rattle.hp_ledger.proofs.operation.Held.next.Goals as goal
 
 pub returns-in-Single : goal.returns-in-Single
@@ -38,3 +40,19 @@ returns-in-Boot c = λ head events o lawful held op walking standing suspended.
     c.next-in-Boot.ensures.by_journal head events o b.max lawful op b.op_is walking b.is
     (subst (ArePresent head) (sym c.present.ensures) (flags_all head (is_present head) c.args.processors.now.present standing.present_is))
     (subst (AreOnline head events) (sym c.online-in-Boot.ensures.online) (online_all head events c.args.processors.now standing))
+
+pub returns-in-Some : goal.returns-in-Some
+returns-in-Some c = λ head events o lawful held op walking standing suspended.
+    let is : IsSequence head o.before events o.op c.args.self.now.sequence = of_held head events c.args.self.now o held op in
+    let b = batch_is head events o c.in-Batch.batch (subst (IsSequence head o.before events o.op) c.in-Batch.is is) in
+    batch_walks_next head events o b.set c.in-Some.cpu op b.op_is
+    (sym c.in-Some.is ∙ c.next-in-Batch.ensures head events o b.set lawful op b.op_is b.is)
+
+pub returns-in-None : goal.returns-in-None
+returns-in-None c = λ head events o lawful held op walking standing suspended.
+    let is : IsSequence head o.before events o.op c.args.self.now.sequence = of_held head events c.args.self.now o held op in
+    let b = batch_is head events o c.in-Batch.batch (subst (IsSequence head o.before events o.op) c.in-Batch.is is) in
+    let same : to_z w32 c.failed.result ≡ pos c.in-Batch.batch.failed = search rules in
+    ap (λ z. ends (Ok z)) same
+    ∙ batch_ends_next head events o b.set c.in-Batch.batch op b.op_is b.is walking
+    (sym c.in-None.is ∙ c.next-in-Batch.ensures head events o b.set lawful op b.op_is b.is)

@@ -4,4 +4,4 @@ use Rattle.hp_ledger.proofs.parts.Parts.new.Goals as goal
 
 pub returns : goal.returns
 returns c =
-    account_none c.args.head.now _ c.in_ok-new.ensures c.new-2.ensures c.in_ok-new-2.ensures refl c.in_ok-new-3.ensures refl c.in_ok-new-4.ensures
+    account_none c.args.head.now _ c.in_ok-new.ensures c.new-2.ensures c.in_ok-new-2.ensures refl c.in_ok-new-3.ensures refl c.in_ok-new-4.ensures c.in_ok-new-5.ensures c.none.ensures

@@ -31,6 +31,6 @@ returns-in-Call g c =
     ≡ seat_by (is_nocalls r.reg.op) c.in-Call.key.state (at_place c.args.seats.now.threads c.in-Call.cpu) r.seat =
     c.seat_of-seat.ensures ∙ ap (λ t. seat_by (is_nocalls r.reg.op) c.in-Call.key.state t r.seat) c.thread.ensures in
     rw (entry, seat)
-    (comes_by_entry head c.args.journal.now.events places c.args.processors.now c.args.seats.now r c.requires.registering
+    (comes_by_entry head c.args.journal.now.events places c.args.processors.now c.args.seats.now r c.requires.lawful c.requires.registering
     c.requires.table c.requires.standing c.requires.roll c.in-Call.cpu c.in-Call.key c.in-Call.dir c.in-Call.place
     c.means-means.result c.in-Call.ensures.on.2 asks c.means-means.ensures)

@@ -1,15 +1,54 @@
-use Rattle.std.proofs.Common.{sym, subst}
+use Rattle.std.proofs.Common.{◌≡◌, ℕ, true, Option, None, List, IsSome, IfNone, ◌∙◌, ap, sym, subst}
+use Rattle.std.proofs.lemmas.Bool.{false≢true}
+use Rattle.hp_model.specs.Lawful.{Stands}
+use Rattle.hp_table.specs.Step.{Step, step_at, changed_at, lent_step, is_home}
+use Rattle.hp_ledger.specs.Entries.{entry_event}
+use Rattle.hp_ledger.specs.Ledger.{Entries}
+use Rattle.hp_ledger.specs.Machine.{IsMachine}
 use Rattle.hp_ledger.specs.Table.{IsTableOf}
-use Rattle.hp_machine.proofs.LentTable.{table_lent_or_not}
+use Rattle.hp_machine.specs.Contents.{Contents}
+use Rattle.hp_machine.proofs.Below.{call_in_set}
+use Rattle.hp_machine.proofs.LentTable.{table_lent_or_not, lent_nothing}
+use Rattle.hp_machine.proofs.Made.{seen}
 use Rattle.hp_machine.proofs.machine.Machine.lend.Goals as goal
+
+lent_machine : (l : Entries) (places new : List (Option Step)) (s : ℕ) → IsMachine l places → new ≡ changed_at places s lent_step →
+    IsMachine l new
+lent_machine l places new s m is =
+    record {
+      lawful = m.lawful;
+      table_is = subst (IsTableOf l.head l.events) (sym is) (table_lent_or_not l.head l.events places s m.table_is);
+      nothing_reserved = m.nothing_reserved;
+    }
 
 pub invariant_of-self : goal.invariant_of-self
 invariant_of-self g c =
+    lent_machine c.self.inside.ledger c.self.inside.table c.lend.new.self c.args.entry.now.key.state c.self.invariant c.lend.ensures.lent
+
+pub invariant_of-self-2 : goal.invariant_of-self-2
+invariant_of-self-2 g c =
+    lent_machine c.self.inside.ledger c.self.inside.table c.lend.new.self c.args.entry.now.key.state c.self.invariant c.lend.ensures.lent
+
+no_hook : {A : Type 0} (r : Option A) → r ≡ None → IsSome r → ⊥
+no_hook r none some = false≢true (subst (λ o. IsSome o) none some)
+
+on_none : {A : Type 0} (r : Option A) (P : Type 0) → P → IfNone r P
+on_none None P p = p
+on_none (Option.Some x) P p = tt
+
+pub returns-in_err-hook-clause-none : goal.returns-in_err-hook-clause-none
+returns-in_err-hook-clause-none g c =
+    let places = c.self.inside.table in
+    let s = c.args.entry.now.key.state in
+    let never : IsSome (step_at places s) × (is_home (step_at places s) ≡ true) → ⊥ = λ h.
+    no_hook c.lend.result c.in_err-hook.was (c.lend.ensures.some.1 h) in
+    let same = c.lend.ensures.lent ∙ lent_nothing places s never in
+    on_none c.from_residual.result _
+    (ap (λ p. seen c.self.inside.ledger p c.self.inside.lent) same ∙ c.self.view_is)
+
+pub put-requires : goal.put-requires
+put-requires g c =
     let l = c.self.inside.ledger in
-    record {
-      lawful = c.self.invariant.lawful;
-      table_is =
-          subst (IsTableOf l.head l.events) (sym c.lend.ensures.lent)
-          (table_lent_or_not l.head l.events c.self.inside.table c.args.state c.self.invariant.table_is);
-      nothing_reserved = c.self.invariant.nothing_reserved;
-    }
+    let x = c.args.entry.now in
+    let stands = subst (λ (m : Contents). Stands m.head m.events (entry_event m.head m.events x)) (sym c.self.view_is) c.requires in
+    call_in_set l.head l.events x.seat x.cpu x.key.state x.key.inst x.dir _ c.self.invariant.lawful stands.0

@@ -8,9 +8,10 @@ use Rattle.hp_ledger.specs.Entries.{entry_event, entry_made, how_by}
 use Rattle.hp_ledger.specs.Table.{IsTableOf}
 use Rattle.hp_ledger.specs.TableChanges.{table_after}
 use Rattle.hp_machine.specs.Contents.{Contents, with_event}
+use Rattle.hp_machine.proofs.Below.{call_in_set}
 use Rattle.hp_machine.proofs.Entries.{by_hook}
 use Rattle.hp_machine.proofs.LentTable.{restored}
-use Rattle.hp_machine.proofs.Made.{Makes, makes, seen}
+use Rattle.hp_machine.proofs.Made.{Makes, makes, seen, with_made}
 use Rattle.hp_machine.proofs.machine.Machine.make_answered.Given as given
 use Rattle.hp_machine.proofs.machine.Machine.make_answered.Goals as goal
 use Rattle.hp_machine.proofs.machine.Machine.make_answered.Goals.{After-event}
@@ -34,7 +35,7 @@ home g c =
     let changed : c.restore.new.self ≡ table_after l.head l.events e table =
     c.restore.ensures ∙ (restored table x.key.state h.step site _ h.there back ∙ sym h.changed_is) in
     makes l table c.restore.new.self e c.event.result c.self.invariant stands same changed
-    (subst (IsTableOf l.head (with_event (seen l table) e).events) (sym changed) h.after)
+    (subst (IsTableOf l.head (with_made l e).events) (sym changed) h.after)
 
 pub append-requires-clause-stands : goal.append-requires-clause-stands
 append-requires-clause-stands g c = (home g (goal.at.append-requires-clause-stands g c).After-event).stands
@@ -45,8 +46,19 @@ append-requires-clause-table g c = (home g (goal.at.append-requires-clause-table
 pub invariant_of-self : goal.invariant_of-self
 invariant_of-self g c = (home g (goal.at.invariant_of-self g c).After-event).goes_on c.append.new.self c.append.ensures
 
-pub returns : goal.returns
-returns g c =
+pub returns-clause-made : goal.returns-clause-made
+returns-clause-made g c =
     let x = c.args.entry.now in
-    subst (λ (m : Contents). seen c.append.new.self c.restore.new.self ≡ with_event m (entry_event m.head m.events x)) c.self.view_is
-    ((home g (goal.at.returns g c).After-event).is c.append.new.self c.append.ensures)
+    let lent = c.take.new.self in
+    subst
+    (λ (m : Contents).
+    seen c.append.new.self c.restore.new.self lent ≡ with_event (record m { lent = lent }) (entry_event m.head m.events x))
+    c.self.view_is
+    ((home g (goal.at.returns-clause-made g c).After-event).is c.append.new.self lent c.append.ensures)
+
+pub take-requires : goal.take-requires
+take-requires g c =
+    let l = c.self.inside.ledger in
+    let x = c.args.entry.now in
+    let stands = subst (λ (m : Contents). Stands m.head m.events (entry_event m.head m.events x)) (sym c.self.view_is) c.requires.stands in
+    call_in_set l.head l.events x.seat x.cpu x.key.state x.key.inst x.dir _ c.self.invariant.lawful stands.0

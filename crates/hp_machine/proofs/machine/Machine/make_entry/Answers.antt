@@ -9,7 +9,7 @@ use Rattle.hp_ledger.specs.Table.{IsTableOf}
 use Rattle.hp_ledger.specs.TableChanges.{table_after}
 use Rattle.hp_machine.specs.Contents.{Contents, with_event}
 use Rattle.hp_machine.proofs.Entries.{IsByHook, by_hook, without_hook}
-use Rattle.hp_machine.proofs.Made.{Makes, makes, seen}
+use Rattle.hp_machine.proofs.Made.{Makes, makes, seen, with_made}
 use Rattle.hp_machine.proofs.machine.Machine.make_entry.Given as given
 use Rattle.hp_machine.proofs.machine.Machine.make_entry.Goals as goal
 use Rattle.hp_machine.proofs.machine.Machine.make_entry.Goals.{In-Hook, After-event, After-event-in_default}
@@ -44,7 +44,7 @@ called g c h =
     let same = c.event.ensures ∙ (ap (entry_made x) c.how.ensures ∙ (ap (λ n. entry_made x (how_by x n)) answer ∙ h.event_is)) in
     let changed : c.call-answer.new.self ≡ table_after l.head l.events e c.self.inside.table = c.call-answer.ensures.called ∙ sym h.changed_is in
     makes l c.self.inside.table c.call-answer.new.self e c.event.result c.self.invariant stands same changed
-    (subst (IsTableOf l.head (with_event (seen l c.self.inside.table) e).events) (sym changed) h.after)
+    (subst (IsTableOf l.head (with_made l e).events) (sym changed) h.after)
 
 pub append-requires-clause-stands : goal.append-requires-clause-stands
 append-requires-clause-stands g c =
@@ -65,8 +65,9 @@ pub returns-in-Hook : goal.returns-in-Hook
 returns-in-Hook g c =
     let at = goal.at.returns-in-Hook g c in
     let x = c.args.entry.now in
-    subst (λ (m : Contents). seen c.append.new.self c.call-answer.new.self ≡ with_event m (entry_event m.head m.events x)) c.self.view_is
-    ((called g at.After-event (there g at.In-Hook)).is c.append.new.self c.append.ensures)
+    let lent = c.self.inside.lent in
+    subst (λ (m : Contents). seen c.append.new.self c.call-answer.new.self lent ≡ with_event m (entry_event m.head m.events x)) c.self.view_is
+    ((called g at.After-event (there g at.In-Hook)).is c.append.new.self lent c.append.ensures)
 
 uncalled : (g : given.Over) (c : After-event-in_default g) →
     Makes c.self.inside.ledger c.self.inside.table c.self.inside.table

@@ -1,9 +1,8 @@
-use Rattle.std.proofs.Common.{◌≡◌, Some, IsSome, List, Option, true, refl, sym, subst}
+use Rattle.std.proofs.Common.{◌≡◌, Some, IsSome, List, Option, refl, sym, subst}
 use Rattle.hp_states.specs.Rules.{Site, site_at}
 use Rattle.hp_table.specs.Step.{Step, step_at, called_step}
 use Rattle.hp_table.specs.Inside.{IsCounted}
-use Rattle.hp_table.proofs.Placed.{home_there}
-use Rattle.hp_table.proofs.Places.{found_there, none_there, written}
+use Rattle.hp_table.proofs.Places.{found_there, written}
 use Rattle.hp_table.proofs.Tables.{counted_kept}
 use Rattle.hp_table.proofs.table.Table.call.Goals as goal
 

@@ -1,4 +1,4 @@
-use Rattle.std.proofs.Common.{rules, false}
+use Rattle.std.proofs.Common.{rules}
 use Rattle.hp_table.specs.Step.{lent_step}
 use Rattle.hp_table.proofs.Placed.{none_by, none_changed}
 use Rattle.hp_table.proofs.table.Table.lend.Goals as goal
