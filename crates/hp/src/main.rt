@@ -5,9 +5,10 @@
 //! hooks of scripts.
 #![tactic(auto)]
 
+use hp_edge::NO_MEMORY;
 use hp_hook::{Hook, Rack, ScriptHook};
 use hp_io::{RealSink, RealSource};
-use hp_play::{NO_MEMORY, hp_main};
+use hp_play::hp_main;
 use std::io;
 use std::process::ExitCode;
 

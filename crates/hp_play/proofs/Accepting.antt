@@ -14,7 +14,8 @@ use Rattle.hp_replay.specs.declared.error.ReplayKind.{ReplayKind}
 use Rattle.hp_replay.specs.Judged.{accepted, refused}
 use Rattle.hp_replay.specs.Verdict.{IsReplay}
 use Rattle.hp_replay.proofs.VerdictLaws.{one_outcome}
-use Rattle.hp_play.specs.Main.{WasRead, Asked, HoldsScript, HoldsJournal, HasInput, IsBadScript, IsBadJournal, IsRefusedBy}
+use Rattle.hp_edge.specs.Reading.{WasRead}
+use Rattle.hp_play.specs.Main.{Asked, HoldsScript, HoldsJournal, HasInput, IsBadScript, IsBadJournal, IsRefusedBy}
 use Rattle.hp_play.specs.Played.{counted_hooks}
 
 same_some : (a b : List ℕ) → Some a ≡ Some b → a ≡ b

@@ -1,12 +1,14 @@
 -- What the program answers: a status, and what it writes. This project's own.
-use Rattle.std.specs.Prelude.{◌≡◌, ℕ, ◌+◌, ◌<◌, ◌≤◌, ◌⊎◌, Option, Some, List, [], ◌∷◌, ◌++◌, take, length, codes}
-use Rattle.std.specs.Io.KnownBytes.{prepend_known, append_known, IsAtEnd}
+use Rattle.std.specs.Prelude.{◌≡◌, ℕ, ◌<◌, ◌≤◌, Option, Some, List, [], ◌∷◌, ◌++◌, take, length, codes}
+use Rattle.std.specs.Io.KnownBytes.{append_known}
 use Rattle.hp_states.specs.declared.limits.TheConstants.{MAX_SCRIPT_BYTES, MAX_JOURNAL_BYTES}
 use Rattle.hp_event.specs.declared.event.Event.{Event}
 use Rattle.hp_event.specs.declared.head.Head.{Head}
 use Rattle.hp_command.specs.declared.command.Command.{Command}
 use Rattle.hp_command.specs.declared.command.Command.TheVariants as asks
 use Rattle.hp_command.specs.Commands.{IsCommand}
+use Rattle.hp_edge.specs.Reading.{WasRead}
+use Rattle.hp_edge.specs.Refusals.{script_error_line, journal_error_line}
 use Rattle.hp_model.specs.Summary.{summary}
 use Rattle.hp_replay.specs.declared.error.ReplayError.TheVariants.{Bad as BadJournal}
 use Rattle.hp_replay.specs.declared.error.ReplayKind.{ReplayKind}
@@ -21,15 +23,9 @@ use Rattle.hp_play.specs.declared.output.Output.{Output}
 use Rattle.hp_play.specs.declared.output.Output.TheVariants as writes
 use Rattle.hp_play.specs.Played.{IsPlayed, counted_hooks}
 use Rattle.hp_play.specs.Racks.{Racks, Stays}
-use Rattle.hp_play.specs.Refusals.{script_error_line, journal_error_line}
 
 abbrev pub usage_line : List ℕ
 usage_line = codes "usage: hp play|replay|states|report|gen|bench [--seed N] [--size N]" ++ 10 ∷ []
-
--- the bytes were read: all that there were, or one past the limit
-pub record WasRead (limit : ℕ) (left now : Option (List ℕ)) (bytes : List ℕ) : Type 0 where
-  pub first : left ≡ prepend_known bytes now
-  pub whole : IsAtEnd now ⊎ (length bytes ≡ limit + 1)
 
 -- ---- what is done
 

@@ -10,7 +10,7 @@ use Rattle.hp_play.specs.declared.stop.Stop.{Stop}
 use Rattle.hp_play.specs.declared.stop.Stop.TheVariants.{BadScript, BadJournal, ReadFault, NoMemory}
 use Rattle.hp_play.specs.Main.{IsBadScript, IsBadJournal, IsRefusedBy}
 use Rattle.hp_play.specs.Played.{counted_hooks}
-use Rattle.hp_play.specs.Refusals.{script_error_line}
+use Rattle.hp_edge.specs.Refusals.{script_error_line}
 
 -- the options of a command are in their ranges
 abbrev pub AreInRange : (seed size : ℕ) → Type 0

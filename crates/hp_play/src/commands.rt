@@ -6,12 +6,11 @@ ghost use Rattle.hp_play.specs.Played.{IsPlayed};
 ghost use Rattle.hp_play.specs.Racks.{racks};
 ghost use Rattle.hp_play.specs.Stops.{HasRanges, Stops, StopsScript, StopsJournal, Refuses};
 
-use crate::error::{journal_error_line, script_error_line};
 use crate::output::Output;
 use crate::play::play;
-use crate::read::read_input;
 use crate::stop::Stop;
 use hp_command::Command;
+use hp_edge::{journal_error_line, read_input, script_error_line};
 use hp_hook::{Hook, Rack};
 use hp_io::Source;
 use hp_replay::{ReplayError, check_and_summarize};

@@ -10,11 +10,9 @@
 #![tactic(auto)]
 
 mod commands;
-mod error;
 mod output;
 mod play;
-mod read;
 mod stop;
 mod top;
 
-pub use top::{NO_MEMORY, hp_main};
+pub use top::hp_main;

@@ -11,43 +11,15 @@ ghost use Rattle.hp_play.specs.Stops.{Reads};
 use crate::commands::output_of;
 use crate::stop::Stop;
 use hp_command::command_of;
+use hp_edge::{
+    BAD_JOURNAL, BAD_SCRIPT, BAD_WORDS, DONE, NO_MEMORY, READ_FAULT, WRITE_FAULT, write_answer,
+};
 use hp_hook::{Hook, Rack};
-use hp_io::{Failed, Sink, Source, write_all};
+use hp_io::{Sink, Source};
 use hp_states::NoMemory;
 use std::alloc::Global;
 
 const USAGE: &[u8] = b"usage: hp play|replay|states|report|gen|bench [--seed N] [--size N]\n";
-
-const DONE: u8 = 0;
-
-const BAD_WORDS: u8 = 1;
-
-const BAD_SCRIPT: u8 = 2;
-
-const READ_FAULT: u8 = 3;
-
-const WRITE_FAULT: u8 = 4;
-
-/// The status of want of memory.
-pub const NO_MEMORY: u8 = 5;
-
-const BAD_JOURNAL: u8 = 6;
-
-/// Writes bytes, and answers a status, or that a write failed.
-fn write<K: Sink>(sink: &mut K, bytes: &[u8], status: u8) -> u8
-    requires faults { K.faults sink.old < u64.MAX }
-    requires status { status ≢ WRITE_FAULT }
-    ensures written { result ≢ WRITE_FAULT → (result ≡ status)
-        × (K.taken sink.new ≡ append_known (K.taken sink.old) bytes.now) × (K.faults sink.new ≡ K.faults sink.old) }
-    ensures fault { result ≡ WRITE_FAULT →
-        (n : ℕ) × (n < length bytes.now) × (K.taken sink.new ≡ append_known (K.taken sink.old) (take n bytes.now))
-        × (K.faults sink.new ≡ K.faults sink.old + 1) }
-{
-    match write_all(sink, bytes) {
-        Ok(()) => status,
-        Err(Failed) => WRITE_FAULT,
-    }
-}
 
 /// The program `hp`: does what the words say, and answers the exit status. It always returns.
 ///
@@ -129,13 +101,13 @@ pub fn hp_main<S: Source, K: Sink, H: Hook>(
 {
     let command = match command_of(alloc, words) {
         Ok(Some(command)) => command,
-        Ok(None) => return write(sink, USAGE, BAD_WORDS),
+        Ok(None) => return write_answer(sink, USAGE, BAD_WORDS),
         Err(NoMemory) => return NO_MEMORY,
     };
     match output_of(alloc, command, source, rack) {
-        Ok(text) => write(sink, &text, DONE),
-        Err(Stop::BadScript(line)) => write(sink, &line, BAD_SCRIPT),
-        Err(Stop::BadJournal(line)) => write(sink, &line, BAD_JOURNAL),
+        Ok(text) => write_answer(sink, &text, DONE),
+        Err(Stop::BadScript(line)) => write_answer(sink, &line, BAD_SCRIPT),
+        Err(Stop::BadJournal(line)) => write_answer(sink, &line, BAD_JOURNAL),
         Err(Stop::ReadFault) => READ_FAULT,
         Err(Stop::NoMemory) => NO_MEMORY,
     }

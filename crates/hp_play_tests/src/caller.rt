@@ -2,9 +2,10 @@
 
 ghost use Rattle.std.specs.Prelude.{◌≡◌, ◌<◌, IfOk};
 
+use hp_edge::NO_MEMORY;
 use hp_hook::{Hook, Rack, ScriptHook};
 use hp_io::{MemSink, MemSource};
-use hp_play::{NO_MEMORY, hp_main};
+use hp_play::hp_main;
 use std::alloc::{AllocError, Global};
 use std::process::Abort;
 use std::test::*;

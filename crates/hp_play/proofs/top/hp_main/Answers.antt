@@ -15,17 +15,17 @@ returns-in-Ok-None-clause-bad_words g c = λ e. record {
         (ap (map string_bytes) c.deref.ensures.value) (rw c.in-Ok-None.field-0-is at c.in-Ok-None.ensures.none),
     refl,
   );
-  all = (c.write.ensures.written (λ f. absurd (omega (arith, e, f)))).1;
+  all = (c.write_answer.ensures.written (λ f. absurd (omega (arith, e, f)))).1;
 }
 
 pub returns-in-Ok-None-clause-write_fault : goal.returns-in-Ok-None-clause-write_fault
 returns-in-Ok-None-clause-write_fault g c = λ e.
-    let f = c.write.ensures.fault e in (
+    let f = c.write_answer.ensures.fault e in (
       f.3,
       part_of usage (map string_bytes c.args.words.now.items)
           (racks g.H.Hook.counts c.args.rack.now.hooks.items c.args.rack.now.hooks.items)
           (g.S.Source.left c.args.source.now) (g.S.Source.left c.args.source.now) (g.K.Sink.taken c.args.sink.now)
-          (g.K.Sink.taken c.write.new.sink) usage_line usage_line (
+          (g.K.Sink.taken c.write_answer.new.sink) usage_line usage_line (
             no_command (map string_bytes c.deref.result.now) (map string_bytes c.args.words.now.items) (g.S.Source.left c.args.source.now)
                 (ap (map string_bytes) c.deref.ensures.value) (rw c.in-Ok-None.field-0-is at c.in-Ok-None.ensures.none),
             refl,
@@ -34,7 +34,7 @@ returns-in-Ok-None-clause-write_fault g c = λ e.
 
 pub returns-in-Err-BadScript-clause-write_fault : goal.returns-in-Err-BadScript-clause-write_fault
 returns-in-Err-BadScript-clause-write_fault g c = λ e.
-    let f = c.write-in-Err-BadScript.ensures.fault e in
+    let f = c.write_answer-in-Err-BadScript.ensures.fault e in
     let kept = (rw c.in-Err-BadScript.field-0-is at c.in-Err-BadScript.ensures.rack) (λ none. absurd (cc)) in
     let stop = rw c.in-Err-BadScript.field-0-is at c.in-Err-BadScript.ensures.stop in
     let asked = rw c.in-Ok-Some.field-0-is at c.in-Ok-Some.ensures.some in (
@@ -42,7 +42,7 @@ returns-in-Err-BadScript-clause-write_fault g c = λ e.
       part_of refusal (map string_bytes c.args.words.now.items)
           (racks g.H.Hook.counts c.args.rack.now.hooks.items c.output_of.new.rack.hooks.items)
           (g.S.Source.left c.args.source.now) (g.S.Source.left c.output_of.new.source) (g.K.Sink.taken c.args.sink.now)
-          (g.K.Sink.taken c.write-in-Err-BadScript.new.sink) c.in-Err-BadScript.line.items c.deref-in-Err-BadScript.result.now (
+          (g.K.Sink.taken c.write_answer-in-Err-BadScript.new.sink) c.in-Err-BadScript.line.items c.deref-in-Err-BadScript.result.now (
             record {
               command = c.in-Ok-Some.command;
               asked = subst (λ z. IsCommand z c.in-Ok-Some.command) (ap (map string_bytes) c.deref.ensures.value) asked;
@@ -54,7 +54,7 @@ returns-in-Err-BadScript-clause-write_fault g c = λ e.
 
 pub returns-in-Err-BadJournal-clause-write_fault : goal.returns-in-Err-BadJournal-clause-write_fault
 returns-in-Err-BadJournal-clause-write_fault g c = λ e.
-    let f = c.write-in-Err-BadJournal.ensures.fault e in
+    let f = c.write_answer-in-Err-BadJournal.ensures.fault e in
     let kept = (rw c.in-Err-BadJournal.field-0-is at c.in-Err-BadJournal.ensures.rack) (λ none. absurd (cc)) in
     let stop = rw c.in-Err-BadJournal.field-0-is at c.in-Err-BadJournal.ensures.stop in
     let asked = rw c.in-Ok-Some.field-0-is at c.in-Ok-Some.ensures.some in (
@@ -62,7 +62,7 @@ returns-in-Err-BadJournal-clause-write_fault g c = λ e.
       part_of bad_journal (map string_bytes c.args.words.now.items)
           (racks g.H.Hook.counts c.args.rack.now.hooks.items c.output_of.new.rack.hooks.items)
           (g.S.Source.left c.args.source.now) (g.S.Source.left c.output_of.new.source) (g.K.Sink.taken c.args.sink.now)
-          (g.K.Sink.taken c.write-in-Err-BadJournal.new.sink) c.in-Err-BadJournal.line.items c.deref-in-Err-BadJournal.result.now (
+          (g.K.Sink.taken c.write_answer-in-Err-BadJournal.new.sink) c.in-Err-BadJournal.line.items c.deref-in-Err-BadJournal.result.now (
             record {
               command = c.in-Ok-Some.command;
               asked = subst (λ z. IsCommand z c.in-Ok-Some.command) (ap (map string_bytes) c.deref.ensures.value) asked;

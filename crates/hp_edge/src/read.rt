@@ -1,7 +1,7 @@
 //! What is read.
 
 ghost use Rattle.std.specs.Prelude.{◌≡◌, ◌+◌, ◌<◌, IfOk, OnOk, OnErr, IfErr};
-ghost use Rattle.hp_play.specs.Main.{WasRead};
+ghost use Rattle.hp_edge.specs.Reading.{WasRead};
 
 use hp_io::{ReadError, Source, read_up_to};
 use std::alloc::Global;

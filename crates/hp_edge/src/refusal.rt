@@ -1,7 +1,7 @@
 //! The line that says why an input is refused.
 
 ghost use Rattle.std.specs.Prelude.{◌≡◌, IfOk};
-ghost use Rattle.hp_play.specs.Refusals.{script_error_line, journal_error_line};
+ghost use Rattle.hp_edge.specs.Refusals.{script_error_line, journal_error_line};
 
 use hp_replay::ReplayError;
 use hp_script::ParseError;
@@ -24,6 +24,6 @@ pub fn script_error_line(alloc: Global, error: ParseError) -> Result<Vec<u8>, No
 pub fn journal_error_line(alloc: Global, error: ReplayError) -> Result<Vec<u8>, NoMemory>
     ensures { IfOk result (λ line. line.items ≡ journal_error_line error) }
 {
-    let text = format!(in alloc; "error: {error}\n")?;
-    Ok(text.into_bytes())
+    let line = format!(in alloc; "error: {error}\n")?;
+    Ok(line.into_bytes())
 }
