@@ -7,12 +7,13 @@ use Rattle.std.proofs.lemmas.Option.{slice_get_within, get_or_from_slice_get}
 use Rattle.hp_board.specs.Contents.{Contents}
 use Rattle.hp_board.specs.HookCount.{hook_count, held}
 use Rattle.hp_board.specs.declared.turn.Ask.{Ask}
-use Rattle.hp_ledger.specs.TableChanges.{is_setup}
+use Rattle.hp_account.specs.TableChanges.{is_setup}
 use Rattle.hp_script.specs.Playable.{setups_in}
 use Rattle.hp_table.specs.Step.{Step}
+use Rattle.hp_actors.specs.Actors.{AreLoaded}
 use Rattle.hp_actors.specs.declared.actor.Actor.{Actor}
 use Rattle.hp_actors.specs.Positions.{op_of, ops_of}
-use Rattle.hp_actors.specs.Racks.{AreLoaded, IsFresh, hooks_with, hooks_in}
+use Rattle.hp_actors.specs.Racks.{IsFresh, hooks_with, hooks_in}
 use Rattle.hp_actors.proofs.Taking.{setups_cons, sum_cons}
 
 -- an operation's hook in place of the one that it had
@@ -52,7 +53,7 @@ all_hold places places_now actors i actor now at kept =
     let c = actors_count actors i actor now at in omega (arith, c, kept)
 
 -- at the start each setup has its hook
-loaded_count : {H : Type 0} (asks : List (Ask H)) → AreLoaded asks →
+pub loaded_count : {H : Type 0} (asks : List (Ask H)) → AreLoaded asks →
     sum_by (λ x. held (is_some x.hook)) asks ≡ setups_in (map op_of asks)
 loaded_count [] loaded = refl
 loaded_count (a ∷ more) loaded =
@@ -66,7 +67,7 @@ pub fresh_count : {H : Type 0} (actors : List (Actor H)) → IsFresh actors →
     sum_by hooks_with actors ≡ sum_by setups_in (map ops_of actors)
 fresh_count [] fresh = refl
 fresh_count (a ∷ more) fresh =
-    let one = loaded_count a.asks.items (fresh 0 a (omega arith)).1 in
+    let one = loaded_count a.asks (fresh 0 a (omega arith)).1 in
     let rest = fresh_count more (λ k d below. fresh (suc k) d (omega (arith, below))) in
     let l = sum_by-cons hooks_with a more in
     let r = sum_cons (ops_of a) (map ops_of more) in

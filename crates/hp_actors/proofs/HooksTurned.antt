@@ -3,7 +3,6 @@ use Rattle.std.proofs.Common.{◌≡◌, ◌≢◌, ℕ, zero, suc, ◌+◌, ◌
 use Rattle.std.specs.Prelude.{option_map, slice_get}
 use Rattle.std.proofs.lemmas.Bool.{true≢false, eqb-true, eqb-false, ltb-true, ltb-false, lt-ltb}
 use Rattle.std.proofs.lemmas.List.{map-set, set-get_or, get_or-set_same, get_or-set_other, length-map}
-use Rattle.std.proofs.Math.Seq.{map-set_same}
 use Rattle.std.proofs.lemmas.Option.{slice_get-map, get_or_from_slice_get, slice_get_within}
 use Rattle.hp_event.specs.declared.event.Event.{Event}
 use Rattle.hp_event.specs.declared.event.Event.TheVariants.{RegEnd}
@@ -13,8 +12,8 @@ use Rattle.hp_board.specs.Contents.{Contents}
 use Rattle.hp_board.specs.Hooks.{has_hook_after, leaves_hook}
 use Rattle.hp_board.specs.declared.turn.Ask.{Ask}
 use Rattle.hp_hook.specs.Counted.{Counts}
-use Rattle.hp_ledger.specs.Table.{IsTableOf, IsStepOf, HasRegistration, counts_by}
-use Rattle.hp_ledger.specs.TableChanges.{brings_hook, hands_at_end, hands_hook, registering_step}
+use Rattle.hp_account.specs.Table.{IsTableOf, IsStepOf, HasRegistration, counts_by}
+use Rattle.hp_account.specs.TableChanges.{brings_hook, hands_at_end, hands_hook, registering_step}
 use Rattle.hp_model.specs.Calls.{sub_at}
 use Rattle.hp_model.specs.Events.{is_answer}
 use Rattle.hp_model.specs.NextEvent.{next_event, is_full}
@@ -99,8 +98,8 @@ hook_turned {H} seen head events places (Some e) had now table has same handed =
 
 -- those of an actor after the turn of its first operation that isn't answered
 pub own_turned : {H : Type 0} (seen : H → Counts) (k : ℕ) (board : Contents) (actor : Actor H) (asks : List (Ask H)) (ask now : Ask H) →
-    IsTableOf board.head board.events board.places → slice_get actor.asks.items actor.answered ≡ Some ask →
-    asks ≡ set actor.asks.items actor.answered now →
+    IsTableOf board.head board.events board.places → slice_get actor.asks actor.answered ≡ Some ask →
+    asks ≡ set actor.asks actor.answered now →
     is_some now.hook ≡ has_hook_after board.events (next_event board.head board.events k ask.op) (is_some ask.hook) →
     (leaves_hook board.events (next_event board.head board.events k ask.op) ≡ true → now.hook ≡ ask.hook) →
     (leaves_hook board.events (next_event board.head board.events k ask.op) ≡ false →
@@ -111,9 +110,9 @@ own_turned seen k board actor asks ask now table at are has same handed =
     let op : asked actor ≡ Some ask.op = ap (option_map op_of) at in
     let had : get_or (hooks_of seen actor) n None ≡ hook_of seen ask =
     get_or_from_slice_get (hooks_of seen actor) n (hook_of seen ask) None
-    (slice_get-map (hook_of seen) actor.asks.items n ∙ ap (option_map (hook_of seen)) at) in
+    (slice_get-map (hook_of seen) actor.asks n ∙ ap (option_map (hook_of seen)) at) in
     ap (map (hook_of seen)) are
-    ∙ (map-set (hook_of seen) actor.asks.items n now
+    ∙ (map-set (hook_of seen) actor.asks n now
     ∙ ap (set (hooks_of seen actor) n)
     (hook_turned seen board.head board.events board.places (next_event board.head board.events k ask.op) ask.hook now.hook table has same handed
     ∙ (ap (hook_after board.head board.events (next_event board.head board.events k ask.op)) (sym had)
@@ -124,12 +123,6 @@ pub none_turned : (head : Head) (events : List Event) (k n : ℕ) (op : Option O
     hooks ≡ hooks_after head events k n op hooks
 none_turned head events k n op hooks none =
     sym (ap (λ o. hooks_after head events k n o hooks) none ∙ set-get_or hooks n None)
-
--- an operation in place of itself
-pub own_same : {H : Type 0} (seen : H → Counts) (asks : List (Ask H)) (n : ℕ) (ask now : Ask H) → slice_get asks n ≡ Some ask → now ≡ ask →
-    map (hook_of seen) (set asks n now) ≡ map (hook_of seen) asks
-own_same seen asks n ask now at same =
-    map-set_same (hook_of seen) asks n now ask (ap (hook_of seen) (same ∙ sym (get_or_from_slice_get asks n ask ask at)))
 
 -- ---- those of the whole run
 

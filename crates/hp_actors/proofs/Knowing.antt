@@ -1,10 +1,9 @@
 -- What a run knows of the actors that wait holds after each turn, and the turn of such an actor makes nothing.
-use Rattle.std.proofs.Common.{◌≡◌, ◌≢◌, ℕ, ◌+◌, ◌<◌, ◌≤◌, Bool, true, false, cond, is_some, OnOk, OnErr, Result, Ok, Err, IfSome, Option, Some, None, List, ◌++◌, length, length-append, map, set, refl, ap, sym, subst, ◌∙◌, inl, inr, ◌⊎◌, arith}
+use Rattle.std.proofs.Common.{◌≡◌, ◌≢◌, ℕ, zero, suc, ◌+◌, ◌<◌, ◌≤◌, Bool, true, false, cond, ltb, is_some, OnOk, OnErr, Result, Ok, Err, IfSome, Option, Some, None, List, [], ◌∷◌, ◌++◌, length, length-append, map, set, refl, ap, sym, subst, ◌∙◌, inl, inr, ◌⊎◌, arith}
 use Rattle.std.specs.Prelude.{option_to_list, option_map, slice_get}
 use Rattle.std.proofs.lemmas.List.{append-nil}
-use Rattle.std.proofs.lemmas.Option.{slice_get-map, slice_get_within, get_or_from_slice_get}
-use Rattle.std.proofs.lemmas.Bool.{true≢false}
-use Rattle.std.specs.Prelude.{All}
+use Rattle.std.proofs.lemmas.Option.{slice_get-map, slice_get_past, slice_get_within, get_or_from_slice_get}
+use Rattle.std.proofs.lemmas.Bool.{true≢false, ltb-false}
 use Rattle.hp_event.specs.declared.op.Op.{Op}
 use Rattle.hp_event.specs.declared.head.Head.{Head}
 use Rattle.hp_event.specs.declared.event.Event.{Event}
@@ -16,7 +15,7 @@ use Rattle.hp_board.specs.Turns.{IsTurn}
 use Rattle.hp_board.specs.declared.turn.Ask.{Ask}
 use Rattle.hp_board.specs.declared.turn.Turn.{Turn}
 use Rattle.hp_board.specs.declared.turn.Turn.TheVariants.{Made, Answered, NotYet}
-use Rattle.hp_ledger.specs.Next.{IsKept, WaitsFor}
+use Rattle.hp_machine.specs.Next.{IsKept, WaitsFor}
 use Rattle.hp_locks.specs.declared.why.Why.{Why}
 use Rattle.hp_locks.specs.declared.why.Why.TheVariants.{MapsHeld, WriterIn, ReadersIn, RegIn, ApTurn, HookOut, Idle}
 use Rattle.hp_model.specs.ApTurn.{IsEntryOf, IsApTurn}
@@ -32,14 +31,16 @@ use Rattle.hp_model.proofs.NextStands.{next_stands}
 use Rattle.hp_model.proofs.OneNext.{owners}
 use Rattle.hp_model.proofs.Owners.{Owners, idle_op, idle_reg, not_self}
 use Rattle.hp_actors.specs.declared.actor.Actor.{Actor}
+use Rattle.hp_actors.specs.Actors.{IsAgenda, agenda_at, noted, wait_for, with_ask}
 use Rattle.hp_actors.specs.Asking.{IsPlaying}
 use Rattle.hp_actors.specs.Positions.{ops_of, op_of, answered_of, progress_of}
+use Rattle.hp_actors.specs.Racks.{IsFresh}
 use Rattle.hp_actors.specs.Turned.{asked, event_for, answers_for, is_answered}
-use Rattle.hp_actors.specs.Waiting.{IsReady, IsWaiting, EndsNothing, MakesNoEvent, MakesNothing, NeedsMap, IsKnown, KnowsWait, KnowsWaits, is_end, noted}
+use Rattle.hp_actors.specs.Waiting.{IsReady, IsWaiting, EndsNothing, MakesNoEvent, MakesNothing, NeedsMap, IsKnown, KnowsWait, KnowsWaits, is_end, waited}
 use Rattle.hp_actors.specs.declared.actor.Waits.{Waits}
-use Rattle.hp_actors.specs.declared.actor.Waits.TheVariants.{Unknown, WhileMapHeld, UntilEnd}
-use Rattle.hp_actors.proofs.Asked.{turned}
-use Rattle.hp_actors.proofs.Playing.{Served, asked_is, set_at}
+use Rattle.hp_actors.specs.declared.actor.Waits.TheVariants.{Unknown, WhileMapHeld, UntilEnd, Forever}
+use Rattle.hp_actors.proofs.Asked.{ops_set}
+use Rattle.hp_actors.proofs.Playing.{Served, asked_is, in_place, set_at}
 use Rattle.hp_actors.proofs.Progressing.{actor_turn}
 use Rattle.hp_actors.proofs.Waiting.{ready_still, waits_still, refused_waiting, held_waits, map_waited, waiting_next, waiting_full}
 
@@ -80,13 +81,13 @@ found_waiting head xs k op Idle lawful h idle = absurd h.why_is
 -- an actor's operation is the same while no other is answered
 pub asked_same : {H : Type 0} (actor now : Actor H) → ops_of now ≡ ops_of actor → now.answered ≡ actor.answered → asked now ≡ asked actor
 asked_same actor now ops answered =
-    sym (slice_get-map op_of now.asks.items now.answered)
+    sym (slice_get-map op_of now.asks now.answered)
     ∙ (ap (λ xs. slice_get xs now.answered) ops
-    ∙ (ap (slice_get (ops_of actor)) answered ∙ slice_get-map op_of actor.asks.items actor.answered))
+    ∙ (ap (slice_get (ops_of actor)) answered ∙ slice_get-map op_of actor.asks actor.answered))
 
 -- what is noted of an operation that waits
 waits_noted : (head : Head) (xs : List Event) (last last_now k : ℕ) (op : Op) (why : Why) → IsLawful head xs → IsKept head xs k op why →
-    is_busy k xs ≡ false → last ≤ last_now → IsKnown head xs last_now k (Some op) (noted (NotYet why) false last)
+    is_busy k xs ≡ false → last ≤ last_now → IsKnown head xs last_now k (Some op) (wait_for why last)
 waits_noted head xs last last_now k op (MapsHeld seat) lawful h idle up =
     let begins = h.why_is.wait_is in
     ((waits_for head xs k op (maps_held seat) idle h.why_is).ready, map_waited xs op seat (rw idle at begins))
@@ -102,51 +103,63 @@ waits_noted head xs last last_now k op (HookOut s) lawful h idle up =
     (up, λ same. found_waiting head xs k op (HookOut s) lawful h idle)
 waits_noted head xs last last_now k op Idle lawful h idle up = (up, λ same. found_waiting head xs k op Idle lawful h idle)
 
-none_noted : (head : Head) (xs : List Event) (last last_now k : ℕ) (why : Why) → last ≤ last_now →
-    IsKnown head xs last_now k None (noted (NotYet why) false last)
-none_noted head xs last last_now k (MapsHeld seat) up = tt
-none_noted head xs last last_now k (WriterIn seat) up = (up, λ same. tt)
-none_noted head xs last last_now k (ReadersIn count) up = (up, λ same. tt)
-none_noted head xs last last_now k (RegIn seat) up = (up, λ same. tt)
-none_noted head xs last last_now k (ApTurn cpu) up = (up, λ same. tt)
-none_noted head xs last last_now k (HookOut s) up = (up, λ same. tt)
-none_noted head xs last last_now k Idle up = (up, λ same. tt)
+-- what is known before the next operation is asked for
+pub at_known : {H : Type 0} (head : Head) (xs : List Event) (last k : ℕ) (asks : List (Ask H)) (n : ℕ) →
+    KnowsWait head xs last k (agenda_at asks n)
+at_known head xs last k asks n = go (ltb n (length asks)) refl
+  where
+    go : (b : Bool) → ltb n (length asks) ≡ b →
+        IsKnown head xs last k (option_map op_of (slice_get asks n)) (cond b Unknown Forever)
+    go true f = tt
+    go false f = ap (option_map op_of) (slice_get_past asks n (ltb-false n (length asks) f))
+
+past : {X : Type 0} (xs : List X) (i : ℕ) → slice_get xs i ≡ None → length xs ≤ i
+past [] i none = omega arith
+past (x ∷ xs) zero none = absurd (cc)
+past (x ∷ xs) (suc i) none = let e = past xs i none in omega (arith, e)
+
+-- an actor with no operation left waits for ever
+pub forever_known : {H : Type 0} (head : Head) (xs : List Event) (last k : ℕ) (actor : Actor H) → IsAgenda actor →
+    slice_get actor.asks actor.answered ≡ None → KnowsWait head xs last k actor
+forever_known head xs last k actor is none =
+    let within = is.within in
+    let after = past actor.asks actor.answered none in
+    let forever : actor.waits ≡ Forever = is.over.1 (omega (arith, within, after)) in
+    subst (IsKnown head xs last k (asked actor)) (sym forever) (ap (option_map op_of) none)
 
 -- what an actor's turn notes
-pub turn_notes : {H : Type 0} (k last last_now : ℕ) (old new : Contents) (actor now : Actor H) (t : Turn) → IsLawful old.head old.events → AllHome old.places →
-    ((ask : Ask H) → slice_get actor.asks.items actor.answered ≡ Some ask → IsTurn k ask.op old new t) →
-    now.answered ≡ actor.answered + (cond (answers_for old.head old.events k (asked actor)) 1 0) → ops_of now ≡ ops_of actor →
-    last ≤ last_now → IsKnown new.head new.events last_now k (asked now) (noted t (is_busy k new.events) last)
-turn_notes k last last_now old new actor now (Made at) lawful home turn answered ops up = tt
-turn_notes k last last_now old new actor now (Answered at answer) lawful home turn answered ops up = tt
-turn_notes {H} k last last_now old new actor now (NotYet why) lawful home turn answered ops up = go (is_busy k new.events) refl
+pub turn_notes : {H : Type 0} (k last last_now : ℕ) (old new : Contents) (actor now : Actor H) (ask ask_now : Ask H) (t : Turn) →
+    IsLawful old.head old.events → AllHome old.places → IsTurn k ask.op old new t → ask_now.op ≡ ask.op →
+    slice_get actor.asks actor.answered ≡ Some ask → now ≡ waited (noted (with_ask actor ask_now) t) t (is_busy k new.events) last →
+    last ≤ last_now → KnowsWait new.head new.events last_now k now
+turn_notes {H} k last last_now old new actor now ask ask_now t lawful home turn op at is up =
+    subst (KnowsWait new.head new.events last_now k) (sym is) (go t turn)
   where
-    known : (o : Option (Ask H)) → slice_get actor.asks.items actor.answered ≡ o → is_busy k new.events ≡ false →
-        IsKnown new.head new.events last_now k (asked now) (noted (NotYet why) false last)
-    known None none idle =
-        let no : asked actor ≡ None = ap (option_map op_of) none in
-        let same : now.answered ≡ actor.answered + 0 =
-        answered ∙ ap (λ o. actor.answered + (cond (answers_for old.head old.events k o) 1 0)) no in
-        let asks : asked now ≡ None = asked_same actor now ops (omega (arith, same)) ∙ no in
-        subst (λ o. IsKnown new.head new.events last_now k o (noted (NotYet why) false last)) (sym asks)
-        (none_noted new.head new.events last last_now k why up)
-    known (Some ask) at idle =
-        let there : asked actor ≡ Some ask.op = ap (option_map op_of) at in
-        let kept = turn ask at in
-        let made = turned k ask.op old new (NotYet why) home kept in
-        let same : now.answered ≡ actor.answered + 0 =
-        answered
-        ∙ (ap (λ o. actor.answered + (cond (answers_for old.head old.events k o) 1 0)) there
-        ∙ ap (λ b. actor.answered + (cond b 1 0)) made.answers) in
-        let asks : asked now ≡ Some ask.op = asked_same actor now ops (omega (arith, same)) ∙ there in
+    asks : List (Ask H)
+    asks = set actor.asks actor.answered ask_now
+
+    waits : (why : Why) → IsTurn k ask.op old new (NotYet why) → is_busy k new.events ≡ false →
+        KnowsWait new.head new.events last_now k (waited (noted (with_ask actor ask_now) (NotYet why)) (NotYet why) false last)
+    waits why kept idle =
+        let n : ℕ = actor.answered in
+        let same : n + 0 ≡ n = omega arith in
+        let there : option_map op_of (slice_get asks (n + 0)) ≡ Some ask.op =
+        asked_same actor (agenda_at asks (n + 0)) (ops_set actor.asks n ask ask_now at op) same ∙ ap (option_map op_of) at in
         let free : is_busy k old.events ≡ false = ap (λ (b : Contents). is_busy k b.events) (sym kept.1) ∙ idle in
-        subst (λ o. IsKnown new.head new.events last_now k o (noted (NotYet why) false last)) (sym asks)
-        (subst (λ (b : Contents). IsKnown b.head b.events last_now k (Some ask.op) (noted (NotYet why) false last)) (sym kept.1)
+        subst (λ o. IsKnown new.head new.events last_now k o (wait_for why last)) (sym there)
+        (subst (λ (b : Contents). IsKnown b.head b.events last_now k (Some ask.op) (wait_for why last)) (sym kept.1)
         (waits_noted old.head old.events last last_now k ask.op why lawful (plain_wait k ask.op old why home kept.0) free up))
 
-    go : (b : Bool) → is_busy k new.events ≡ b → IsKnown new.head new.events last_now k (asked now) (noted (NotYet why) b last)
-    go true f = tt
-    go false f = known (slice_get actor.asks.items actor.answered) refl f
+    by : (why : Why) (b : Bool) → is_busy k new.events ≡ b → IsTurn k ask.op old new (NotYet why) →
+        KnowsWait new.head new.events last_now k (waited (noted (with_ask actor ask_now) (NotYet why)) (NotYet why) b last)
+    by why true f kept = at_known new.head new.events last_now k asks (actor.answered + 0)
+    by why false f kept = waits why kept f
+
+    go : (u : Turn) → IsTurn k ask.op old new u →
+        KnowsWait new.head new.events last_now k (waited (noted (with_ask actor ask_now) u) u (is_busy k new.events) last)
+    go (Made place) made = at_known new.head new.events last_now k asks (actor.answered + 0)
+    go (Answered place answer) made = at_known new.head new.events last_now k asks (actor.answered + 1)
+    go (NotYet why) kept = by why (is_busy k new.events) refl kept
 
 -- ---- what is known after a turn
 
@@ -179,6 +192,7 @@ known_on head before last last_now k j o op (UntilEnd since) by other up ends h 
       omega (arith, le, up),
       λ is. nothing_on head before k j o op by other (ends (omega (arith, le, up, is))) (h.1 (omega (arith, le, up, is))),
     )
+known_on head before last last_now k j o op Forever by other up ends h = h
 
 knows_on : {H : Type 0} (head : Head) (before : List Event) (last last_now k j : ℕ) (o : Option Event) (actor : Actor H) →
     IfSome o (λ e. Stands head before e × (seat_of e ≡ k)) → k ≢ j → last ≤ last_now → (last_now ≡ last → EndsNothing o) →
@@ -186,8 +200,15 @@ knows_on : {H : Type 0} (head : Head) (before : List Event) (last last_now k j :
 knows_on head before last last_now k j o actor by other up ends know =
     known_on head before last last_now k j o (asked actor) actor.waits by other up ends know
 
-longer : (before : List Event) (o : Option Event) (n : ℕ) → n ≤ length before → n ≤ length (before ++ option_to_list o)
+pub longer : (before : List Event) (o : Option Event) (n : ℕ) → n ≤ length before → n ≤ length (before ++ option_to_list o)
 longer before o n few = let l = length-append before (option_to_list o) in omega (arith, few, l)
+
+-- one event more that is no end leaves the last end where it was
+pub ends_known : (before after : List Event) (o : Option Event) (last now : ℕ) → after ≡ before ++ option_to_list o → last ≤ length before →
+    ((front : List Event) (e : Event) → after ≡ front ++ e ∷ [] → last ≤ length front → now ≡ last → is_end e ≡ false) →
+    now ≡ last → EndsNothing o
+ends_known before after None last now is few no_end same = tt
+ends_known before after (Some e) last now is few no_end same = no_end before e is few same
 
 due_by : (head : Head) (events : List Event) (k : ℕ) (o : Option Event) → due_entry head events k ≡ o →
     IfSome o (λ e. Stands head events e × (seat_of e ≡ k)) × EndsNothing o
@@ -251,14 +272,14 @@ actor_knows {H} old new actors threads last last_now i actor now n w = record {
 
 -- whether memory was wanting or not, where the seat is known by its number
 pub turn_knows : {H E F : Type 0} (r : Result E F) (old new : Contents) (actors : List (Actor H)) (threads last last_now i k : ℕ)
-    (actor now : Actor H) → threads + i ≡ k → new.head ≡ old.head →
+    (actor now : Actor H) → threads + i ≡ k → slice_get actors i ≡ Some actor → new.head ≡ old.head →
     OnOk r (new.events ≡ old.events ++ option_to_list (event_for old.head old.events k (asked actor))) →
-    OnErr r ((new ≡ old) × (now.answered ≡ actor.answered)) →
+    OnErr r ((new ≡ old) × (now ≡ actor)) → OnErr r (last_now ≡ last) →
     (last ≤ last_now) × (last_now ≤ length new.events) →
     OnOk r (last_now ≡ last → EndsNothing (event_for old.head old.events k (asked actor))) →
-    KnowsWait new.head new.events last_now k now → KnowsWaits old threads last actors →
+    OnOk r (KnowsWait new.head new.events last_now k now) → KnowsWaits old threads last actors →
     KnowsWaits new threads last_now (set actors i now)
-turn_knows (Ok x) old new actors threads last last_now i k actor now e head events err up ends knows w =
+turn_knows (Ok x) old new actors threads last last_now i k actor now e at head events err still up ends knows w =
     actor_knows old new actors threads last last_now i actor now
     (record {
       head_is = head;
@@ -271,28 +292,21 @@ turn_knows (Ok x) old new actors threads last last_now i k actor now e head even
       ends = ends;
       knows = subst (λ z. KnowsWait new.head new.events last_now z now) (sym e) knows;
     }) w
-turn_knows (Err x) old new actors threads last last_now i k actor now e head events err up ends knows w =
-    actor_knows old new actors threads last last_now i actor now
-    (record {
-      head_is = head;
-      event = None;
-      events_are = ap (λ (b : Contents). b.events) err.0 ∙ sym (append-nil old.events);
-      by = tt;
-      up = up.0;
-      made = up.1;
-      ends = λ same. tt;
-      knows = subst (λ z. KnowsWait new.head new.events last_now z now) (sym e) knows;
-    }) w
+turn_knows (Err x) old new actors threads last last_now i k actor now e at head events err still up ends knows w =
+    subst (λ (b : Contents). KnowsWaits b threads last_now (set actors i now)) (sym err.0)
+    (subst (λ l. KnowsWaits old threads l (set actors i now)) (sym still)
+    (subst (KnowsWaits old threads last) (sym (in_place actors i actor now at err.1)) w))
 
 -- nothing is known at the start
-pub none_known : {H : Type 0} (board : Contents) (threads : ℕ) (actors : List (Actor H)) → All (λ actor. actor.waits ≡ Unknown) actors →
+pub none_known : {H : Type 0} (board : Contents) (threads : ℕ) (actors : List (Actor H)) → IsFresh actors →
     KnowsWaits board threads 0 actors
-none_known {H} board threads actors unmarked = record {
+none_known {H} board threads actors fresh = record {
   made = omega arith;
   each = λ i actor at.
       let there = get_or_from_slice_get actors i actor actor at in
-      let none = subst (λ (a : Actor H). a.waits ≡ Unknown) there (unmarked i actor (slice_get_within actors i actor at)) in
-      subst (IsKnown board.head board.events 0 (threads + i) (asked actor)) (sym none) tt;
+      let first = subst (λ (a : Actor H). a ≡ agenda_at a.asks 0) there (fresh i actor (slice_get_within actors i actor at)).0 in
+      subst (KnowsWait board.head board.events 0 (threads + i)) (sym first)
+      (at_known board.head board.events 0 (threads + i) actor.asks 0);
 }
 
 -- ---- an actor that is known to wait is passed over
@@ -380,3 +394,11 @@ pub known_held : {H : Type 0} (board : Contents) (threads last i : ℕ) (actors 
 known_held board threads last i actors actor w at noted held =
     map_nothing board.head board.events (threads + i) (asked actor)
     (subst (IsKnown board.head board.events last (threads + i) (asked actor)) noted (w.each i actor at)) held
+
+-- and of one with no operation left
+pub known_forever : {H : Type 0} (board : Contents) (threads last i : ℕ) (actors : List (Actor H)) (actor : Actor H) →
+    KnowsWaits board threads last actors → slice_get actors i ≡ Some actor → actor.waits ≡ Forever →
+    MakesNothing board.head board.events (threads + i) (asked actor)
+known_forever board threads last i actors actor w at noted =
+    subst (MakesNothing board.head board.events (threads + i))
+    (sym (subst (IsKnown board.head board.events last (threads + i) (asked actor)) noted (w.each i actor at))) tt

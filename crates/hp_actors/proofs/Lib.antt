@@ -1,3 +1,4 @@
+mod Agendas
 mod Busy
 mod Progressing
 mod Holding

@@ -3,15 +3,19 @@ use Rattle.std.proofs.Common.{◌≡◌, Option, Some, None, IfSome, IfNone, Lis
 use Rattle.std.specs.Prelude.{option_map, option_to_list}
 use Rattle.std.specs.List.{flat_map}
 use Rattle.std.proofs.lemmas.Grind.{flat_map-append}
-use Rattle.std.proofs.lemmas.List.{map-append, append-nil, append_assoc, reverse-append}
+use Rattle.std.proofs.lemmas.List.{map-append, append-nil, append_assoc, reverse-append, length-reverse}
 use Rattle.std.proofs.lemmas.List.Elements.{All-head, All-tail}
 use Rattle.hp_board.specs.declared.turn.Ask.{Ask}
 use Rattle.hp_hook.specs.Counted.{Counts}
-use Rattle.hp_ledger.specs.TableChanges.{is_setup}
+use Rattle.hp_account.specs.TableChanges.{is_setup}
+use Rattle.hp_actors.specs.Actors.{AreDealt, AreLoaded, agenda_at, own_hooks}
 use Rattle.hp_actors.specs.declared.actor.Actor.{Actor}
 use Rattle.hp_actors.specs.Hooks.{hooks_there, AreFromRack}
 use Rattle.hp_actors.specs.Positions.{hook_of, hooks_of, op_of, ops_of}
-use Rattle.hp_actors.specs.Racks.{AreLoaded, IsFresh}
+use Rattle.hp_actors.specs.Racks.{IsFresh, Takes}
+use Rattle.hp_actors.proofs.Giving.{asks_there, asks_held}
+use Rattle.hp_actors.proofs.Holding.{loaded_count}
+use Rattle.hp_script.specs.Playable.{setups_in}
 
 -- one after the other
 both_taken : (old now after xs ys zs : List Counts) → AreFromRack old now xs → AreFromRack now after ys → zs ≡ xs ++ ys →
@@ -22,24 +26,50 @@ both_taken old now after xs ys zs a b are =
     ∙ (append_assoc after (reverse ys) (reverse xs)
     ∙ ap (λ z. after ++ z) (sym (ap reverse are ∙ reverse-append xs ys))))
 
-last_taken : {H : Type 0} (seen : H → Counts) (now after : List H) (hook : Option H) → IfSome hook (λ h. now ≡ after ++ h ∷ []) →
-    IfNone hook (now ≡ after) → AreFromRack (map seen now) (map seen after) (option_to_list (option_map seen hook))
-last_taken seen now after None some none = ap (map seen) none ∙ sym (append-nil (map seen after))
-last_taken seen now after (Some h) some none = ap (map seen) some ∙ map-append seen after (h ∷ [])
+-- what is left of the rack
+left_by : {H : Type 0} (now after : List H) (hook : Option H) → IfSome hook (λ h. now ≡ after ++ h ∷ []) → IfNone hook (now ≡ after) →
+    now ≡ after ++ reverse (option_to_list hook)
+left_by now after None some none = none ∙ sym (append-nil after)
+left_by now after (Some h) some none = some
 
 -- one operation more
-pub asks_taken : {H : Type 0} (seen : H → Counts) (old now after : List H) (asks pushed : List (Ask H)) (ask : Ask H) →
-    AreFromRack (map seen old) (map seen now) (flat_map option_to_list (map (hook_of seen) asks)) →
-    IfSome ask.hook (λ h. now ≡ after ++ h ∷ []) → IfNone ask.hook (now ≡ after) → pushed ≡ asks ++ ask ∷ [] →
-    AreFromRack (map seen old) (map seen after) (flat_map option_to_list (map (hook_of seen) pushed))
-asks_taken seen old now after asks pushed ask before some none is =
-    both_taken (map seen old) (map seen now) (map seen after) (flat_map option_to_list (map (hook_of seen) asks))
-    (option_to_list (option_map seen ask.hook)) (flat_map option_to_list (map (hook_of seen) pushed)) before
-    (last_taken seen now after ask.hook some none)
-    (ap (λ z. flat_map option_to_list (map (hook_of seen) z)) is
-    ∙ (ap (flat_map option_to_list) (map-append (hook_of seen) asks (ask ∷ []))
-    ∙ (flat_map-append option_to_list (map (hook_of seen) asks) (hook_of seen ask ∷ [])
-    ∙ ap (λ z. flat_map option_to_list (map (hook_of seen) asks) ++ z) (append-nil (option_to_list (hook_of seen ask))))))
+pub dealt_more : {H : Type 0} (old now after : List H) (asks pushed : List (Ask H)) (ask : Ask H) → AreDealt old now asks →
+    IfSome ask.hook (λ h. now ≡ after ++ h ∷ []) → IfNone ask.hook (now ≡ after) → pushed ≡ asks ++ ask ∷ [] → AreDealt old after pushed
+dealt_more {H} old now after asks pushed ask before some none is =
+    before
+    ∙ (ap (λ z. z ++ reverse (own_hooks asks)) (left_by now after ask.hook some none)
+    ∙ (append_assoc after (reverse (option_to_list ask.hook)) (reverse (own_hooks asks))
+    ∙ ap (λ z. after ++ z) (sym (reverse-append (own_hooks asks) (option_to_list ask.hook)) ∙ ap reverse (sym hooks))))
+  where
+    hooks : own_hooks pushed ≡ own_hooks asks ++ option_to_list ask.hook
+    hooks =
+        ap own_hooks is
+        ∙ (flat_map-append (λ (a : Ask H). option_to_list a.hook) asks (ask ∷ [])
+        ∙ ap (λ z. own_hooks asks ++ z) (append-nil (option_to_list ask.hook)))
+
+-- as many as there are setups
+pub dealt_takes : {H : Type 0} (old new : List H) (asks : List (Ask H)) → AreDealt old new asks → AreLoaded asks →
+    Takes old new (setups_in (map op_of asks))
+dealt_takes old new asks dealt loaded = record {
+  taken = reverse (own_hooks asks);
+  old_is = dealt;
+  count_is = length-reverse (own_hooks asks) ∙ (asks_held asks ∙ loaded_count asks loaded);
+}
+
+map_reverse : {X Y : Type 0} (f : X → Y) (xs : List X) → map f (reverse xs) ≡ reverse (map f xs)
+map_reverse f [] = refl
+map_reverse f (x ∷ xs) =
+    ap (map f) (reverse-append (x ∷ []) xs)
+    ∙ (map-append f (reverse xs) (x ∷ [])
+    ∙ (ap (λ z. z ++ f x ∷ []) (map_reverse f xs) ∙ sym (reverse-append (f x ∷ []) (map f xs))))
+
+-- what they have counted
+pub dealt_counts : {H : Type 0} (seen : H → Counts) (old new : List H) (actor : Actor H) → AreDealt old new actor.asks →
+    AreFromRack (map seen old) (map seen new) (flat_map option_to_list (hooks_of seen actor))
+dealt_counts seen old new actor dealt =
+    ap (map seen) dealt
+    ∙ (map-append seen new (reverse (own_hooks actor.asks))
+    ∙ ap (λ z. map seen new ++ z) (map_reverse seen (own_hooks actor.asks) ∙ ap reverse (asks_there seen actor.asks)))
 
 -- one actor more
 pub actors_taken : {H : Type 0} (seen : H → Counts) (old now after : List H) (actors pushed : List (Actor H)) (actor : Actor H) →
@@ -53,6 +83,9 @@ actors_taken seen old now after actors pushed actor before own is =
     ∙ (ap hooks_there (map-append (hooks_of seen) actors (actor ∷ []))
     ∙ (flat_map-append (flat_map option_to_list) (map (hooks_of seen) actors) (hooks_of seen actor ∷ [])
     ∙ ap (λ z. hooks_there (map (hooks_of seen) actors) ++ z) (append-nil (flat_map option_to_list (hooks_of seen actor))))))
+
+pub none_dealt : {H : Type 0} (old : List H) → AreDealt old old []
+none_dealt old = sym (append-nil old)
 
 pub none_taken : (old : List Counts) → AreFromRack old old []
 none_taken old = sym (append-nil old)
@@ -76,6 +109,6 @@ pub actors_loaded : {H : Type 0} (seen : H → Counts) (actors : List (Actor H))
     map (map is_some) (map (hooks_of seen) actors) ≡ map (map is_setup) (map ops_of actors)
 actors_loaded seen [] fresh = refl
 actors_loaded {H} seen (a ∷ rest) fresh =
-    let P : Actor H → Type 0 = λ actor. (actor.answered ≡ 0) × AreLoaded actor.asks.items in
-    ap (λ z. z ∷ map (map is_some) (map (hooks_of seen) rest)) (asks_loaded seen a.asks.items (All-head P a rest fresh).1)
+    let P : Actor H → Type 0 = λ actor. (actor ≡ agenda_at actor.asks 0) × AreLoaded actor.asks in
+    ap (λ z. z ∷ map (map is_some) (map (hooks_of seen) rest)) (asks_loaded seen a.asks (All-head P a rest fresh).1)
     ∙ ap (λ z. map is_setup (ops_of a) ∷ z) (actors_loaded seen rest (All-tail P a rest fresh))

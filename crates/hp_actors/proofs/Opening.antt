@@ -1,5 +1,5 @@
 -- A run at its start: every seat is in, and nothing is answered.
-use Rattle.std.proofs.Common.{◌≡◌, ℕ, suc, ◌+◌, Bool, true, false, not, eqb, ◌&&◌, ◌||◌, is_some, Some, List, [], ◌∷◌, ◌++◌, length, map, replicate, refl, ap, sym, subst, ◌∙◌, arith}
+use Rattle.std.proofs.Common.{◌≡◌, ℕ, suc, ◌+◌, false, ◌||◌, is_some, Some, List, [], ◌∷◌, ◌++◌, length, map, replicate, refl, ap, sym, subst, ◌∙◌, arith}
 use Rattle.std.specs.Prelude.{slice_get}
 use Rattle.std.proofs.lemmas.List.{length-map}
 use Rattle.std.proofs.lemmas.Option.{slice_get_within, get_or_from_slice_get}
@@ -8,7 +8,7 @@ use Rattle.hp_event.specs.declared.head.Head.{Head}
 use Rattle.hp_event.specs.declared.event.Event.{Event}
 use Rattle.hp_board.specs.Contents.{Contents}
 use Rattle.hp_hook.specs.Counted.{Counts}
-use Rattle.hp_ledger.specs.TableChanges.{is_setup}
+use Rattle.hp_account.specs.TableChanges.{is_setup}
 use Rattle.hp_model.specs.Processors.{present}
 use Rattle.hp_model.specs.Admissions.{admissions, ap_admits}
 use Rattle.hp_model.specs.Scripts.{IsScript}
@@ -18,18 +18,20 @@ use Rattle.hp_model.specs.Seats.{is_busy, holds_map, registers}
 use Rattle.hp_model.specs.Registrations.{registration}
 use Rattle.hp_model.proofs.Roster.{operation_first, registration_first}
 use Rattle.hp_actors.specs.declared.actor.Actor.{Actor}
-use Rattle.hp_actors.specs.Asking.{HasHooks, IsPlaying}
+use Rattle.hp_actors.specs.Actors.{AreLoaded}
+use Rattle.hp_actors.specs.Asking.{HasHook, IsPlaying}
 use Rattle.hp_actors.specs.Positions.{Position, position_of, hooks_of, ops_of, answered_of, progress_of}
-use Rattle.hp_actors.specs.Racks.{AreLoaded, IsFresh}
+use Rattle.hp_actors.specs.Racks.{IsFresh}
 use Rattle.hp_board.specs.HookCount.{hook_count}
 use Rattle.hp_actors.proofs.Holding.{fresh_count}
 use Rattle.hp_actors.proofs.Admissions.{clients_are}
+use Rattle.hp_actors.proofs.Playing.{idle_hook}
 use Rattle.hp_actors.proofs.Progressing.{turns_none}
 
 none_answered : {H : Type 0} (actors : List (Actor H)) → IsFresh actors → map answered_of actors ≡ replicate (length actors) 0
 none_answered [] fresh = refl
-none_answered (a ∷ more) fresh =
-    let first : a.answered ≡ 0 = (fresh 0 a (omega arith)).0 in
+none_answered {H} (a ∷ more) fresh =
+    let first : a.answered ≡ 0 = ap (λ (x : Actor H). x.answered) (fresh 0 a (omega arith)).0 in
     ap (λ (n : ℕ). n ∷ map answered_of more) first
     ∙ ap (λ ns. 0 ∷ ns) (none_answered more (λ k d below. fresh (suc k) d (omega (arith, below))))
 
@@ -42,18 +44,12 @@ idle_first head actors k =
 pub same_admissions : (head : Head) (actors : List (List Op)) → admissions head (replicate (length actors) []) ≡ admissions head actors
 same_admissions head actors = ap (λ es. ap_admits 0 (present head) ++ es) (sym (clients_are (length (present head)) actors))
 
-and_not : (a b : Bool) → (a && not (b && false)) ≡ a
-and_not true true = refl
-and_not true false = refl
-and_not false b = refl
-
-loaded_hooks : {H : Type 0} (events : List Event) (k : ℕ) (actor : Actor H) → is_busy k events ≡ false → AreLoaded actor.asks.items →
-    HasHooks events k actor
-loaded_hooks events k actor idle loaded = λ j ask from at.
-    subst (λ x. is_some x.hook ≡ is_setup x.op) (get_or_from_slice_get actor.asks.items j ask ask at)
-    (loaded j ask (slice_get_within actor.asks.items j ask at))
-    ∙ (sym (and_not (is_setup ask.op) (eqb j actor.answered))
-    ∙ ap (λ b. is_setup ask.op && not (eqb j actor.answered && b)) (sym idle))
+loaded_hook : {H : Type 0} (events : List Event) (k : ℕ) (actor : Actor H) → is_busy k events ≡ false → AreLoaded actor.asks →
+    HasHook events k actor
+loaded_hook events k actor idle loaded = λ ask at.
+    subst (λ x. is_some x.hook ≡ is_setup x.op) (get_or_from_slice_get actor.asks actor.answered ask ask at)
+    (loaded actor.answered ask (slice_get_within actor.asks actor.answered ask at))
+    ∙ idle_hook events k ask.op idle
 
 pub record Opened {H : Type 0} (board : Contents) (threads : ℕ) (actors : List (Actor H)) (head : Head) (ops : List (List Op)) : Type 0
   where
@@ -110,9 +106,9 @@ opened_playing {H} board threads actors head ops o = record {
         ∙ (ap (λ h. start h ops) (sym o.head_is)
         ∙ (ap (start board.head) (sym o.ops_are) ∙ sym (turns_none board.head (map ops_of actors) (start board.head (map ops_of actors)))))
 
-    hooks : (i : ℕ) (actor : Actor H) → slice_get actors i ≡ Some actor → HasHooks board.events (threads + i) actor
+    hooks : (i : ℕ) (actor : Actor H) → slice_get actors i ≡ Some actor → HasHook board.events (threads + i) actor
     hooks i actor at =
         let there = get_or_from_slice_get actors i actor actor at in
-        loaded_hooks board.events (threads + i) actor
+        loaded_hook board.events (threads + i) actor
         (ap (is_busy (threads + i)) (o.events_are ∙ same_admissions head ops) ∙ idle_first head ops (threads + i))
-        (subst (λ (a : Actor H). AreLoaded a.asks.items) there (o.fresh i actor (slice_get_within actors i actor at)).1)
+        (subst (λ (a : Actor H). AreLoaded a.asks) there (o.fresh i actor (slice_get_within actors i actor at)).1)

@@ -1,5 +1,5 @@
 -- What holds of a run holds after a turn of a thread or of an actor.
-use Rattle.std.proofs.Common.{◌≡◌, ◌≢◌, ℕ, zero, suc, ◌+◌, ◌-◌, Result, Ok, Err, OnOk, OnErr, ◌<◌, ◌≤◌, Bool, true, false, not, cond, eqb, ◌&&◌, IfSome, Option, Some, None, List, [], ◌∷◌, ◌++◌, length, map, set, get_or, refl, ap, sym, subst, ◌∙◌, inl, inr, ◌⊎◌, arith}
+use Rattle.std.proofs.Common.{◌≡◌, ◌≢◌, ℕ, zero, suc, ◌+◌, ◌-◌, Result, Ok, Err, OnOk, OnErr, ◌<◌, ◌≤◌, Bool, true, false, not, cond, ◌&&◌, IfSome, Option, Some, None, List, [], ◌∷◌, ◌++◌, length, map, set, get_or, refl, ap, sym, subst, ◌∙◌, inl, inr, ◌⊎◌, arith}
 use Rattle.std.specs.Prelude.{option_to_list, option_map, slice_get}
 use Rattle.std.proofs.lemmas.List.{append-nil, map-set, set-get_or, length-map}
 use Rattle.std.proofs.Math.Seq.{map-set_same}
@@ -10,6 +10,7 @@ use Rattle.hp_event.specs.declared.event.Event.{Event}
 use Rattle.hp_hook.specs.Counted.{Counts}
 use Rattle.hp_board.specs.Contents.{Contents}
 use Rattle.hp_board.specs.HookCount.{hook_count}
+use Rattle.hp_board.specs.Hooks.{has_hook}
 use Rattle.hp_board.specs.Turns.{IsServed}
 use Rattle.hp_board.specs.declared.turn.Turn.{Turn}
 use Rattle.hp_board.specs.declared.turn.Turn.TheVariants.{Made, NotYet}
@@ -17,7 +18,7 @@ use Rattle.hp_board.specs.declared.turn.Ask.{Ask}
 use Rattle.hp_locks.specs.declared.why.Why.TheVariants.{HookOut, Idle}
 use Rattle.hp_table.specs.Step.{AllHome}
 use Rattle.std.proofs.lemmas.Bool.{true≢false}
-use Rattle.hp_ledger.specs.TableChanges.{is_setup}
+use Rattle.hp_account.specs.TableChanges.{is_setup}
 use Rattle.hp_board.proofs.Busy.{others_keep}
 use Rattle.hp_board.proofs.HooksCounted.{serve_keeps_hooks}
 use Rattle.hp_model.specs.Events.{seat_of}
@@ -35,7 +36,7 @@ use Rattle.hp_model.proofs.NextStands.{next_stands}
 use Rattle.hp_model.proofs.Owners.{same_some}
 use Rattle.hp_actors.specs.declared.actor.Actor.{Actor}
 use Rattle.hp_actors.specs.Positions.{position_of, progress_of, hooks_of, ops_of, op_of, answered_of}
-use Rattle.hp_actors.specs.Asking.{HasHooks, IsReached, IsPlaying}
+use Rattle.hp_actors.specs.Asking.{HasHook, IsReached, IsPlaying}
 use Rattle.hp_actors.specs.Racks.{hooks_with}
 use Rattle.hp_actors.specs.Turned.{asked, event_for, answers_for}
 use Rattle.hp_script.specs.Playable.{setups_in}
@@ -58,11 +59,17 @@ busy_kept head before after k j g other = ap (is_busy j) g.after_is ∙ go g.nex
     go None s = ap (is_busy j) (append-nil before)
     go (Some e) s = others_keep head before e j s.0 (λ is. other (sym s.1 ∙ is))
 
-hooks_kept : {H : Type 0} (before after : List Event) (k : ℕ) (actor : Actor H) → is_busy k after ≡ is_busy k before →
-    HasHooks before k actor → HasHooks after k actor
-hooks_kept before after k actor same h =
-    λ j ask from at.
-    h j ask from at ∙ ap (λ b. is_setup ask.op && not (eqb j actor.answered && b)) (sym same)
+hook_kept : {H : Type 0} (before after : List Event) (k : ℕ) (actor : Actor H) → is_busy k after ≡ is_busy k before →
+    HasHook before k actor → HasHook after k actor
+hook_kept before after k actor same h = λ ask at. h ask at ∙ ap (λ b. is_setup ask.op && not b) (sym same)
+
+-- where nothing is in flight a setup has its hook
+pub idle_hook : (events : List Event) (k : ℕ) (op : Op) → is_busy k events ≡ false → is_setup op ≡ has_hook events k op
+idle_hook events k op idle = sym (ap (λ b. is_setup op && not b) idle ∙ and_true (is_setup op))
+  where
+    and_true : (b : Bool) → (b && true) ≡ b
+    and_true true = refl
+    and_true false = refl
 
 due_grows : (head : Head) (before after : List Event) (k : ℕ) → after ≡ before ++ option_to_list (due_entry head before k) →
     Grows head before after k
@@ -127,7 +134,7 @@ thread_playing old new actors threads k p below s = record {
       (subst (λ z. IsReached old.head (map ops_of actors) z)
       (t ∙ ap (λ es. record { events = es; answers = map answered_of actors }) (sym s.events_are)) r);
   hooks = λ i actor at.
-      hooks_kept old.events new.events (threads + i) actor
+      hook_kept old.events new.events (threads + i) actor
       (busy_kept old.head old.events new.events k (threads + i) (due_grows old.head old.events new.events k s.events_are)
       (λ is. absurd (omega (arith, is))))
       (p.hooks i actor at);
@@ -141,7 +148,7 @@ pub record ActorTurned {H : Type 0} (seat : ℕ) (old new : Contents) (actor now
   pub answered_is :
       now.answered ≡ actor.answered + (cond (answers_for old.head old.events seat (asked actor)) 1 0)
   pub ops_are : ops_of now ≡ ops_of actor
-  pub hooks : HasHooks new.events seat now
+  pub hook : HasHook new.events seat now
   pub kept : hook_count new.places + hooks_with now ≡ hook_count old.places + hooks_with actor
 
 -- what an actor is asked for is the script's operation
@@ -153,7 +160,7 @@ asked_is actors i actor at =
     slice_get-map answered_of actors i ∙ ap (option_map answered_of) at in
     let n : get_or (map answered_of actors) i 0 ≡ actor.answered =
     get_or_from_slice_get (map answered_of actors) i actor.answered 0 count in
-    rw (here, n) (slice_get-map op_of actor.asks.items actor.answered)
+    rw (here, n) (slice_get-map op_of actor.asks actor.answered)
 
 counts : (b : Bool) (i : ℕ) (ns : List ℕ) (n : ℕ) → n ≡ get_or ns i 0 + (cond b 1 0) → set ns i n ≡ counted i b ns
 counts true i ns n is = ap (set ns i) is
@@ -223,18 +230,18 @@ actor_playing {H} old new actors threads i actor now p at t = record {
       subst (λ h. IsReached h (map ops_of (set actors i now)) (progress_of new.events (set actors i now))) (sym t.head_is)
       (subst (λ z. IsReached old.head z (progress_of new.events (set actors i now))) (sym ops)
       (subst (λ z. IsReached old.head (map ops_of actors) z) (sym (after_turn old new actors threads i actor now p at t)) r));
-  hooks = λ j other found. hooks j other (set_at actors i j now other found);
+  hooks = λ j other found. hook j other (set_at actors i j now other found);
   held = all_hold old.places new.places actors i actor now at t.kept ∙ (p.held ∙ ap (sum_by setups_in) (sym ops));
 }
   where
     ops : map ops_of (set actors i now) ≡ map ops_of actors
     ops = ops_kept actors i actor now at t.ops_are
 
-    hooks : (j : ℕ) (other : Actor H) → ((j ≡ i) × (other ≡ now)) ⊎ ((j ≡ i → ⊥) × (slice_get actors j ≡ Some other)) →
-        HasHooks new.events (threads + j) other
-    hooks j other (inl h) = rw (h.0, h.1) t.hooks
-    hooks j other (inr h) =
-        hooks_kept old.events new.events (threads + j) other
+    hook : (j : ℕ) (other : Actor H) → ((j ≡ i) × (other ≡ now)) ⊎ ((j ≡ i → ⊥) × (slice_get actors j ≡ Some other)) →
+        HasHook new.events (threads + j) other
+    hook j other (inl h) = rw (h.0, h.1) t.hook
+    hook j other (inr h) =
+        hook_kept old.events new.events (threads + j) other
         (busy_kept old.head old.events new.events (threads + i) (threads + j)
         (asked_grows old.head old.events new.events (threads + i) (asked actor) t.events_are)
         (λ is. h.0 (omega (arith, is))))
@@ -254,7 +261,7 @@ lawful_of board threads actors p = (going_of board threads actors p).lawful
 
 -- an actor's operation is one that its seat may ask for
 pub allowed_of : {H : Type 0} (board : Contents) (threads : ℕ) (actors : List (Actor H)) (i : ℕ) (actor : Actor H) (ask : Ask H) →
-    IsPlaying board threads actors → slice_get actors i ≡ Some actor → slice_get actor.asks.items actor.answered ≡ Some ask →
+    IsPlaying board threads actors → slice_get actors i ≡ Some actor → slice_get actor.asks actor.answered ≡ Some ask →
     IsAllowed board.head board.events (record { seat = threads + i; op = ask.op })
 allowed_of board threads actors i actor ask p at asks =
     asks_allowed board.head (map ops_of actors) board.events (map answered_of actors) (threads + i) i ask.op p.script
@@ -262,54 +269,29 @@ allowed_of board threads actors i actor ask p at asks =
     (asked_is actors i actor at ∙ ap (option_map op_of) asks)
 
 -- an actor whose turn failed is as it was
-failed_playing : {H : Type 0} (old new : Contents) (actors : List (Actor H)) (threads i : ℕ) (actor now : Actor H) →
-    IsPlaying old threads actors → slice_get actors i ≡ Some actor → new ≡ old → now.answered ≡ actor.answered →
-    ops_of now ≡ ops_of actor → HasHooks new.events (threads + i) now →
-    hook_count new.places + hooks_with now ≡ hook_count old.places + hooks_with actor → IsPlaying new threads (set actors i now)
-failed_playing {H} old new actors threads i actor now p at same answered ops_are own kept = record {
-  script = subst (λ b. IsScript b.head (map ops_of (set actors i now))) (sym same) (subst (λ z. IsScript old.head z) (sym ops) p.script);
-  threads_are = p.threads_are ∙ ap (λ b. length (present b.head)) (sym same);
-  reached =
-      subst (λ b. IsReached b.head (map ops_of (set actors i now)) (progress_of b.events (set actors i now))) (sym same)
-      (subst (λ z. IsReached old.head z (progress_of old.events (set actors i now))) (sym ops)
-      (subst (λ z. IsReached old.head (map ops_of actors) (record { events = old.events; answers = z })) (sym counts_same) p.reached));
-  hooks = λ j other found. hooks j other (set_at actors i j now other found);
-  held = all_hold old.places new.places actors i actor now at kept ∙ (p.held ∙ ap (sum_by setups_in) (sym ops));
-}
-  where
-    ops : map ops_of (set actors i now) ≡ map ops_of actors
-    ops = ops_kept actors i actor now at ops_are
-
-    counts_same : map answered_of (set actors i now) ≡ map answered_of actors
-    counts_same =
-        let e : now.answered ≡ actor.answered + 0 = omega (arith, answered) in
-        answers_are actors i actor now false at e
-
-    hooks : (j : ℕ) (other : Actor H) → ((j ≡ i) × (other ≡ now)) ⊎ ((j ≡ i → ⊥) × (slice_get actors j ≡ Some other)) →
-        HasHooks new.events (threads + j) other
-    hooks j other (inl h) = rw (h.0, h.1) own
-    hooks j other (inr h) =
-        hooks_kept old.events new.events (threads + j) other (ap (λ b. is_busy (threads + j) b.events) same) (p.hooks j other h.1)
+pub in_place : {X : Type 0} (xs : List X) (i : ℕ) (x now : X) → slice_get xs i ≡ Some x → now ≡ x → set xs i now ≡ xs
+in_place xs i x now at same = ap (set xs i) (same ∙ sym (get_or_from_slice_get xs i x x at)) ∙ set-get_or xs i x
 
 -- an actor's turn, whether memory was wanting or not
 pub turn_playing : {H E F : Type 0} (r : Result E F) (old new : Contents) (actors : List (Actor H)) (threads i : ℕ) (actor now : Actor H) →
     IsPlaying old threads actors → slice_get actors i ≡ Some actor → new.head ≡ old.head →
     OnOk r (new.events ≡ old.events ++ option_to_list (event_for old.head old.events (threads + i) (asked actor))) →
     OnOk r (now.answered ≡ actor.answered + (cond (answers_for old.head old.events (threads + i) (asked actor)) 1 0)) →
-    ops_of now ≡ ops_of actor → HasHooks new.events (threads + i) now →
+    ops_of now ≡ ops_of actor → HasHook new.events (threads + i) now →
     hook_count new.places + hooks_with now ≡ hook_count old.places + hooks_with actor →
-    OnErr r ((new ≡ old) × (now.answered ≡ actor.answered)) → IsPlaying new threads (set actors i now)
-turn_playing (Ok x) old new actors threads i actor now p at head events answered ops hooks kept err =
+    OnErr r ((new ≡ old) × (now ≡ actor)) → IsPlaying new threads (set actors i now)
+turn_playing (Ok x) old new actors threads i actor now p at head events answered ops hook kept err =
     actor_playing old new actors threads i actor now p at
-    (record { head_is = head; events_are = events; answered_is = answered; ops_are = ops; hooks = hooks; kept = kept })
-turn_playing (Err e) old new actors threads i actor now p at head events answered ops hooks kept err =
-    failed_playing old new actors threads i actor now p at err.0 err.1 ops hooks kept
+    (record { head_is = head; events_are = events; answered_is = answered; ops_are = ops; hook = hook; kept = kept })
+turn_playing (Err e) old new actors threads i actor now p at head events answered ops hook kept err =
+    subst (λ b. IsPlaying b threads (set actors i now)) (sym err.0)
+    (subst (IsPlaying old threads) (sym (in_place actors i actor now at err.1)) p)
 
 pub turn_position : {H E F : Type 0} (r : Result E F) (seen : H → Counts) (old new : Contents) (actors : List (Actor H)) (threads i : ℕ)
     (actor now : Actor H) → IsPlaying old threads actors → slice_get actors i ≡ Some actor → new.head ≡ old.head →
     OnOk r (new.events ≡ old.events ++ option_to_list (event_for old.head old.events (threads + i) (asked actor))) →
     OnOk r (now.answered ≡ actor.answered + (cond (answers_for old.head old.events (threads + i) (asked actor)) 1 0)) →
-    ops_of now ≡ ops_of actor → HasHooks new.events (threads + i) now →
+    ops_of now ≡ ops_of actor → HasHook new.events (threads + i) now →
     hook_count new.places + hooks_with now ≡ hook_count old.places + hooks_with actor →
     OnOk r
     (position_of seen new (set actors i now)
@@ -317,10 +299,10 @@ pub turn_position : {H E F : Type 0} (r : Result E F) (seen : H → Counts) (old
       progress = turn old.head (map ops_of actors) (progress_of old.events actors) (threads + i);
       hooks = map (hooks_of seen) (set actors i now);
     })
-turn_position (Ok x) seen old new actors threads i actor now p at head events answered ops hooks kept =
+turn_position (Ok x) seen old new actors threads i actor now p at head events answered ops hook kept =
     actor_position seen old new actors threads i actor now p at
-    (record { head_is = head; events_are = events; answered_is = answered; ops_are = ops; hooks = hooks; kept = kept })
-turn_position (Err e) seen old new actors threads i actor now p at head events answered ops hooks kept = tt
+    (record { head_is = head; events_are = events; answered_is = answered; ops_are = ops; hook = hook; kept = kept })
+turn_position (Err e) seen old new actors threads i actor now p at head events answered ops hook kept = tt
 
 -- a number that is no seat does nothing
 pub no_seat : {H : Type 0} (board : Contents) (threads : ℕ) (actors : List (Actor H)) (seat : ℕ) → IsPlaying board threads actors →
@@ -337,21 +319,21 @@ pub turn_playing_at : {H E F : Type 0} (r : Result E F) (old new : Contents) (ac
     new.head ≡ old.head →
     OnOk r (new.events ≡ old.events ++ option_to_list (event_for old.head old.events k (asked actor))) →
     OnOk r (now.answered ≡ actor.answered + (cond (answers_for old.head old.events k (asked actor)) 1 0)) →
-    ops_of now ≡ ops_of actor → HasHooks new.events k now →
+    ops_of now ≡ ops_of actor → HasHook new.events k now →
     hook_count new.places + hooks_with now ≡ hook_count old.places + hooks_with actor →
-    OnErr r ((new ≡ old) × (now.answered ≡ actor.answered)) → IsPlaying new threads (set actors i now)
-turn_playing_at r old new actors threads i k actor now e p at head events answered ops hooks kept err =
+    OnErr r ((new ≡ old) × (now ≡ actor)) → IsPlaying new threads (set actors i now)
+turn_playing_at r old new actors threads i k actor now e p at head events answered ops hook kept err =
     turn_playing r old new actors threads i actor now p at head
     (subst (λ z. OnOk r (new.events ≡ old.events ++ option_to_list (event_for old.head old.events z (asked actor)))) (sym e) events)
     (subst (λ z. OnOk r (now.answered ≡ actor.answered + (cond (answers_for old.head old.events z (asked actor)) 1 0))) (sym e) answered)
-    ops (subst (λ z. HasHooks new.events z now) (sym e) hooks) kept err
+    ops (subst (λ z. HasHook new.events z now) (sym e) hook) kept err
 
 pub turn_position_at : {H E F : Type 0} (r : Result E F) (seen : H → Counts) (old new : Contents) (actors : List (Actor H)) (threads i k : ℕ)
     (actor now : Actor H) → threads + i ≡ k → IsPlaying old threads actors → slice_get actors i ≡ Some actor →
     new.head ≡ old.head →
     OnOk r (new.events ≡ old.events ++ option_to_list (event_for old.head old.events k (asked actor))) →
     OnOk r (now.answered ≡ actor.answered + (cond (answers_for old.head old.events k (asked actor)) 1 0)) →
-    ops_of now ≡ ops_of actor → HasHooks new.events k now →
+    ops_of now ≡ ops_of actor → HasHook new.events k now →
     hook_count new.places + hooks_with now ≡ hook_count old.places + hooks_with actor →
     OnOk r
     (position_of seen new (set actors i now)
@@ -359,7 +341,7 @@ pub turn_position_at : {H E F : Type 0} (r : Result E F) (seen : H → Counts) (
       progress = turn old.head (map ops_of actors) (progress_of old.events actors) k;
       hooks = map (hooks_of seen) (set actors i now);
     })
-turn_position_at r seen old new actors threads i k actor now e p at head events answered ops hooks kept =
+turn_position_at r seen old new actors threads i k actor now e p at head events answered ops hook kept =
     subst (λ z.
     OnOk r
     (position_of seen new (set actors i now)
@@ -370,16 +352,12 @@ turn_position_at r seen old new actors threads i k actor now e p at head events 
     (turn_position r seen old new actors threads i actor now p at head
     (subst (λ z. OnOk r (new.events ≡ old.events ++ option_to_list (event_for old.head old.events z (asked actor)))) (sym e) events)
     (subst (λ z. OnOk r (now.answered ≡ actor.answered + (cond (answers_for old.head old.events z (asked actor)) 1 0))) (sym e) answered)
-    ops (subst (λ z. HasHooks new.events z now) (sym e) hooks) kept)
+    ops (subst (λ z. HasHook new.events z now) (sym e) hook) kept)
 
 pub failed_position : {H E F : Type 0} (r : Result E F) (seen : H → Counts) (old new : Contents) (actors : List (Actor H)) (i : ℕ) (actor now : Actor H) →
-    slice_get actors i ≡ Some actor → ops_of now ≡ ops_of actor → OnErr r ((new ≡ old) × (now.answered ≡ actor.answered)) →
-    OnErr r (hooks_of seen now ≡ hooks_of seen actor) → OnErr r (position_of seen new (set actors i now) ≡ position_of seen old actors)
-failed_position (Ok x) seen old new actors i actor now at ops err own = tt
-failed_position (Err e) seen old new actors i actor now at ops err own =
-    let hooks : map (hooks_of seen) (set actors i now) ≡ map (hooks_of seen) actors =
-    map-set_same (hooks_of seen) actors i now actor (own ∙ ap (hooks_of seen) (sym (get_or_from_slice_get actors i actor actor at))) in
-    let same : map ops_of (set actors i now) ≡ map ops_of actors = ops_kept actors i actor now at ops in
-    let counts : map answered_of (set actors i now) ≡ map answered_of actors =
-    let z : now.answered ≡ actor.answered + 0 = omega (arith, err.1) in answers_are actors i actor now false at z in
-    rw (err.0, same, counts, hooks) refl
+    slice_get actors i ≡ Some actor → OnErr r ((new ≡ old) × (now ≡ actor)) →
+    OnErr r (position_of seen new (set actors i now) ≡ position_of seen old actors)
+failed_position (Ok x) seen old new actors i actor now at err = tt
+failed_position (Err e) seen old new actors i actor now at err =
+    ap (λ b. position_of seen b (set actors i now)) err.0
+    ∙ ap (position_of seen old) (in_place actors i actor now at err.1)

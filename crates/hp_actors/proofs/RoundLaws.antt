@@ -15,13 +15,14 @@ use Rattle.hp_model.specs.Scripts.{IsScript}
 use Rattle.hp_model.specs.ScriptRun.{start, answered_below, is_over, after_round, after_rounds, IsRun}
 use Rattle.hp_model.specs.ScriptTurns.{RunState, unanswered, turn, after_turns}
 use Rattle.hp_model.proofs.RoundsEnd.{turns_go_on, turns_bounded}
+use Rattle.hp_model.proofs.EntryProcessors.{present_below as there_possible}
 use Rattle.hp_board.specs.declared.turn.Ask.{Ask}
 use Rattle.hp_actors.specs.Asking.{IsReached}
 use Rattle.hp_actors.specs.Positions.{Position, op_of}
-use Rattle.hp_ledger.specs.UnderWay.{IsThreadDue, NoThreadDue}
+use Rattle.hp_account.specs.UnderWay.{IsThreadDue, NoThreadDue}
 use Rattle.hp_actors.proofs.Admissions.{present_below}
 use Rattle.hp_actors.proofs.Progressing.{turns_push, turns_none, turns_more, thread_turn, idle_turn}
-use Rattle.hp_actors.proofs.ThreadSeats.{IsSeatOf, IsSeated, AreQuiet, seated, below_rises, below_next, there_possible, seats_idle, quiet_before, sits_below}
+use Rattle.hp_actors.proofs.ThreadSeats.{IsSeatOf, IsSeated, AreQuiet, seated, below_rises, below_next, seats_idle, quiet_before, sits_below}
 
 -- seats that nothing is due from are passed over
 pub idle_until : (head : Head) (actors : List (List Op)) (at : RunState) (m d n : ℕ) → n ≡ m + d → n ≤ length (present head) →

@@ -7,7 +7,7 @@ use Rattle.std.proofs.lemmas.List.Sums.{sum_by-cons}
 use Rattle.std.proofs.lemmas.Option.{get_or_from_slice_get, slice_get_within}
 use Rattle.hp_event.specs.declared.op.Op.{Op}
 use Rattle.hp_event.specs.declared.op.Op.TheVariants.{Setup}
-use Rattle.hp_ledger.specs.TableChanges.{is_setup}
+use Rattle.hp_account.specs.TableChanges.{is_setup}
 use Rattle.hp_event.specs.Ops.{is_setup as counts}
 use Rattle.hp_script.specs.Playable.{setups_in}
 use Rattle.hp_actors.specs.Racks.{Takes}
@@ -22,47 +22,21 @@ setups_cons op ops = sum_by-cons one op ops ∙ ap (λ n. n + setups_in ops) (sa
     same (Setup s sub form) = refl
     same op = refl
 
-pub setups_push : (ops : List Op) (op : Op) → setups_in (ops ++ op ∷ []) ≡ setups_in ops + (cond (is_setup op) 1 0)
-setups_push [] op = let e = setups_cons op [] in let z : setups_in [] ≡ 0 = refl in omega (arith, e, z)
-setups_push (x ∷ xs) op =
-    let a = setups_cons x (xs ++ op ∷ []) in
-    let b = setups_push xs op in
-    let d = setups_cons x xs in
-    omega (arith, a, b, d)
-
 pub drop_at : {X : Type 0} (xs : List X) (i : ℕ) (d : X) → i < length xs → drop i xs ≡ get_or xs i d ∷ drop (i + 1) xs
 drop_at xs i d below = rw (add-one, drop-cons xs i d) refl
 
 pub take_at : {X : Type 0} (xs : List X) (i : ℕ) (d : X) → i < length xs → take (i + 1) xs ≡ take i xs ++ get_or xs i d ∷ []
 take_at xs i d below = rw add-one (take-suc xs i d below)
 
--- what is left of the setups, and of those that were met
+-- what is left of the setups
 pub setups_left : (ops : List Op) (i : ℕ) (d : Op) → i < length ops →
     setups_in (drop i ops) ≡ (cond (is_setup (get_or ops i d)) 1 0) + setups_in (drop (i + 1) ops)
 setups_left ops i d below = ap setups_in (drop_at ops i d below) ∙ setups_cons (get_or ops i d) (drop (i + 1) ops)
-
-pub setups_met : (ops : List Op) (i : ℕ) (d : Op) → i < length ops →
-    setups_in (take (i + 1) ops) ≡ setups_in (take i ops) + (cond (is_setup (get_or ops i d)) 1 0)
-setups_met ops i d below = ap setups_in (take_at ops i d below) ∙ setups_push (take i ops) (get_or ops i d)
 
 pub rack_left : {H : Type 0} (now after : List H) (hook : Option H) → IfSome hook (λ h. now ≡ after ++ h ∷ []) →
     IfNone hook (now ≡ after) → length now ≡ length after + (cond (is_some hook) 1 0)
 rack_left now after None some none = let e = ap length none in omega (arith, e)
 rack_left now after (Some h) some none = ap length some ∙ length-append after (h ∷ [])
-
--- one hook more, or none
-pub takes_more : {H : Type 0} (old now after : List H) (hook : Option H) (n m : ℕ) → Takes old now n →
-    IfSome hook (λ h. now ≡ after ++ h ∷ []) → IfNone hook (now ≡ after) → m ≡ n + (cond (is_some hook) 1 0) → Takes old after m
-takes_more old now after None n m t some none is = record {
-  taken = t.taken;
-  old_is = t.old_is ∙ ap (λ z. z ++ t.taken) none;
-  count_is = let c = t.count_is in omega (arith, c, is);
-}
-takes_more old now after (Some h) n m t some none is = record {
-  taken = h ∷ t.taken;
-  old_is = t.old_is ∙ (ap (λ z. z ++ t.taken) some ∙ append_assoc after (h ∷ []) t.taken);
-  count_is = let c = t.count_is in omega (arith, c, is);
-}
 
 -- those of two
 pub takes_both : {H : Type 0} (old now after : List H) (n m k : ℕ) → Takes old now n → Takes now after m → k ≡ n + m → Takes old after k

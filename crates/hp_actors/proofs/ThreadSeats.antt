@@ -1,7 +1,7 @@
 -- The seat of a processor's thread: so many as there are present processors below. From a thread's seat nothing is due but of its own
 -- processor.
 use Rattle.std.proofs.Common.{◌≡◌, ℕ, zero, suc, ◌+◌, ◌-◌, ◌<◌, ◌≤◌, Bool, true, false, cond, eqb, ltb, IfSome, Option, Some, None, List, [], ◌∷◌, ◌++◌, length, length-append, append-nil, refl, ap, sym, subst, ◌∙◌, inl, inr, ◌⊎◌, arith, append_assoc}
-use Rattle.std.proofs.lemmas.Bool.{true≢false, false≢true, eqb-true, ltb-true, ltb-false, and_parts}
+use Rattle.std.proofs.lemmas.Bool.{true≢false, false≢true, eqb-true, ltb-true, ltb-false}
 use Rattle.std.below.core.specs.declared.int.u32.TheConstants as u32
 use Rattle.hp_states.specs.declared.dir.Dir.{Dir}
 use Rattle.hp_event.specs.declared.how.How.{How}
@@ -10,7 +10,7 @@ use Rattle.hp_event.specs.declared.event.Role.TheVariants.{Client, Ap}
 use Rattle.hp_event.specs.declared.head.Head.{Head}
 use Rattle.hp_event.specs.declared.event.Event.{Event}
 use Rattle.hp_event.specs.declared.event.Event.TheVariants.{Admit, Leave, Call}
-use Rattle.hp_ledger.specs.UnderWay.{IsDueOn, IsThreadDue, NoThreadDue}
+use Rattle.hp_account.specs.UnderWay.{IsDueOn, IsThreadDue, NoThreadDue}
 use Rattle.hp_model.specs.Journal.{over_from}
 use Rattle.hp_model.specs.Admissions.{admissions, ap_admits, client_admits}
 use Rattle.hp_model.specs.Events.{seat_of, is_call, BelongsTo}
@@ -26,15 +26,12 @@ use Rattle.hp_model.specs.Seats.{ap_seat, ap_step, role_of}
 use Rattle.hp_model.specs.StandsCalls.{Calls}
 use Rattle.hp_model.proofs.DueGives.{due_stands}
 use Rattle.hp_model.proofs.Going.{IsGoing, asks_allowed, turn_going, turns_going, start_going}
-use Rattle.hp_model.proofs.Kept.{WalkKept, RegistrationKept}
 use Rattle.hp_model.proofs.Laws.{ap_push}
-use Rattle.hp_model.proofs.NextOfRegistration.{EndsNext, EntryNext, registration_next}
 use Rattle.hp_model.proofs.NextStands.{next_belongs}
-use Rattle.hp_model.proofs.OneRegistration.{same_registration_entry, registration_ended}
 use Rattle.hp_model.proofs.OneNext.{owners}
 use Rattle.hp_model.proofs.Owners.{same_some, none_some}
-use Rattle.hp_model.proofs.SomeMoves.{facts}
 use Rattle.hp_model.proofs.Stages.{called_by}
+use Rattle.hp_model.proofs.EntryProcessors.{call_present, present_below as there_possible}
 use Rattle.hp_actors.specs.Asking.{IsReached}
 use Rattle.hp_actors.proofs.Admissions.{present_below, present_there, present_not, aps_append}
 
@@ -242,24 +239,6 @@ caller_thread head xs seat cpu state inst dir how s (inr r) below =
         absurd (omega (arith, c, below))
     go (inr a) = a
 
--- an entry is of a present processor
-caller_there : (head : Head) (xs : List Event) (seat cpu state inst : ℕ) (dir : Dir) (how : How) → IsLawful head xs →
-    Calls head xs seat cpu state inst dir how → is_present head cpu ≡ true
-caller_there head xs seat cpu state inst dir how lawful (inl w) =
-    let f = facts head xs lawful in
-    let at = w.entry.in_flight in
-    let k : WalkKept head cpu w.entry.of xs = rw at at (f.kept.at cpu).kept in k.present
-caller_there head xs seat cpu state inst dir how lawful (inr r) = go (registration_next head xs r.entry.of r.entry.in_flight kept)
-  where
-    kept : RegistrationKept head r.entry.of xs
-    kept = let at = r.entry.in_flight in rw at at (facts head xs lawful).kept.registration_kept
-
-    go : EndsNext head xs r.entry.of ⊎ EntryNext head xs r.entry.of → is_present head cpu ≡ true
-    go (inl e) = absurd (registration_ended head xs r.entry.of.seat cpu state inst dir how e.answer r.entry e.ends)
-    go (inr n) =
-        let same = (same_registration_entry head xs cpu n.cpu state n.state inst n.inst dir n.dir how n.how r.entry n.entry).0 in
-        ap (is_present head) same ∙ n.present
-
 by_call : (P : Event → Type 0) (head : Head) (xs : List Event) (k : ℕ) (e : Event) → due_entry head xs k ≡ Some e →
     ((cpu state inst : ℕ) (dir : Dir) (how : How) → Calls head xs k cpu state inst dir how → P (Call k cpu state inst dir how)) → P e
 by_call P head xs k e due called = go e (due_stands head xs k e due)
@@ -282,10 +261,7 @@ pub due_there : (head : Head) (xs : List Event) (k c : ℕ) → IsLawful head xs
 due_there head xs k c lawful d =
     subst (λ z. is_present head z ≡ true) d.cpu_is
     (by_call (λ e. is_present head (cpu_of e) ≡ true) head xs k d.entry d.due
-    (λ cpu state inst dir how h. caller_there head xs k cpu state inst dir how lawful h))
-
-pub there_possible : (head : Head) (c : ℕ) → is_present head c ≡ true → c < head.possible
-there_possible head c h = ltb-true c head.possible (and_parts (ltb c head.possible) _ h).0
+    (λ cpu state inst dir how h. call_present head xs k cpu state inst dir how lawful h))
 
 -- a thread's seat is below those of the clients
 pub sits_below : (head : Head) (c k : ℕ) → IsSeatOf head c k → k < length (present head)

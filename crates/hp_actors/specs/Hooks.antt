@@ -6,8 +6,8 @@ use Rattle.hp_event.specs.declared.event.Event.{Event}
 use Rattle.hp_event.specs.declared.head.Head.{Head}
 use Rattle.hp_event.specs.declared.op.Op.{Op}
 use Rattle.hp_hook.specs.Counted.{Counts}
-use Rattle.hp_ledger.specs.Table.{counts_by}
-use Rattle.hp_ledger.specs.TableChanges.{brings_hook, hands_hook, is_setup}
+use Rattle.hp_account.specs.Table.{counts_by}
+use Rattle.hp_account.specs.TableChanges.{brings_hook, hands_hook, is_setup}
 use Rattle.hp_model.specs.Calls.{sub_at}
 use Rattle.hp_model.specs.Processors.{present}
 use Rattle.hp_model.specs.Registrations.{Registration, registration}

@@ -1,3 +1,5 @@
+pub mod Actors
+pub mod Lending
 pub mod Positions
 pub mod Asking
 pub mod Turned

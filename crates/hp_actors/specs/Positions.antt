@@ -22,7 +22,7 @@ op_of ask = ask.op
 
 -- the operations of an actor
 abbrev pub ops_of : {H : Type 0} → Actor H → List Op
-ops_of actor = map op_of actor.asks.items
+ops_of actor = map op_of actor.asks
 
 abbrev pub answered_of : {H : Type 0} → Actor H → ℕ
 answered_of actor = actor.answered
@@ -37,7 +37,7 @@ hook_of seen ask = option_map seen ask.hook
 
 -- the hooks of an actor's operations
 abbrev pub hooks_of : {H : Type 0} → (seen : H → Counts) → Actor H → List (Option Counts)
-hooks_of seen actor = map (hook_of seen) actor.asks.items
+hooks_of seen actor = map (hook_of seen) actor.asks
 
 abbrev pub position_of : {H : Type 0} → (seen : H → Counts) → Contents → List (Actor H) → Position
 position_of seen board actors =

@@ -2,22 +2,17 @@
 use Rattle.std.specs.Prelude.{◌≡◌, ℕ, ◌+◌, is_some, Option, List, ◌++◌, length, All}
 use Rattle.std.specs.List.{sum_by}
 use Rattle.hp_board.specs.HookCount.{hook_count, held}
-use Rattle.hp_board.specs.declared.turn.Ask.{Ask}
 use Rattle.hp_table.specs.Step.{Step}
-use Rattle.hp_ledger.specs.TableChanges.{is_setup}
+use Rattle.hp_actors.specs.Actors.{AreLoaded, agenda_at}
 use Rattle.hp_actors.specs.declared.actor.Actor.{Actor}
-
--- each setup has its hook, and nothing else has one
-abbrev pub AreLoaded : {H : Type 0} → List (Ask H) → Type 0
-AreLoaded asks = All (λ ask. is_some ask.hook ≡ is_setup ask.op) asks
 
 -- actors of which nothing is answered, with their hooks
 abbrev pub IsFresh : {H : Type 0} → List (Actor H) → Type 0
-IsFresh actors = All (λ actor. (actor.answered ≡ 0) × AreLoaded actor.asks.items) actors
+IsFresh actors = All (λ actor. (actor ≡ agenda_at actor.asks 0) × AreLoaded actor.asks) actors
 
 -- the hooks that are with an actor
 abbrev pub hooks_with : {H : Type 0} → Actor H → ℕ
-hooks_with actor = sum_by (λ ask. held (is_some ask.hook)) actor.asks.items
+hooks_with actor = sum_by (λ ask. held (is_some ask.hook)) actor.asks
 
 -- those that are with the machine and with all actors
 abbrev pub hooks_in : {H : Type 0} → (places : List (Option Step)) → List (Actor H) → ℕ

@@ -11,7 +11,7 @@ use Rattle.hp_actors.specs.Positions.{op_of}
 
 -- an actor's first operation that isn't answered
 abbrev pub asked : {H : Type 0} → Actor H → Option Op
-asked actor = option_map op_of (slice_get actor.asks.items actor.answered)
+asked actor = option_map op_of (slice_get actor.asks actor.answered)
 
 -- where nothing comes next the operation is answered if it has no room
 abbrev pub is_answered : (next : Option Event) → (full : Bool) → Bool

@@ -14,10 +14,10 @@ use Rattle.hp_model.specs.Waits.{is_waiting}
 use Rattle.hp_board.specs.Contents.{Contents}
 use Rattle.hp_board.specs.declared.turn.Turn.{Turn}
 use Rattle.hp_board.specs.declared.turn.Turn.TheVariants.{NotYet}
-use Rattle.hp_locks.specs.declared.why.Why.TheVariants.{MapsHeld}
+use Rattle.hp_actors.specs.Actors.{wait_for}
 use Rattle.hp_actors.specs.declared.actor.Actor.{Actor}
 use Rattle.hp_actors.specs.declared.actor.Waits.{Waits}
-use Rattle.hp_actors.specs.declared.actor.Waits.TheVariants.{Unknown, WhileMapHeld, UntilEnd}
+use Rattle.hp_actors.specs.declared.actor.Waits.TheVariants.{Unknown, WhileMapHeld, UntilEnd, Forever}
 use Rattle.hp_actors.specs.Turned.{asked}
 
 -- a turn for the operation makes no event, and doesn't answer it
@@ -64,6 +64,7 @@ abbrev pub IsKnown : Head → List Event → (last_end seat : ℕ) → Option Op
 IsKnown head events last k op Unknown = Unit {0}
 IsKnown head events last k op WhileMapHeld = NeedsMap head events k op
 IsKnown head events last k op (UntilEnd since) = (since ≤ last) × (since ≡ last → MakesNothing head events k op)
+IsKnown head events last k op Forever = op ≡ None
 
 abbrev pub KnowsWait : {H : Type 0} → Head → List Event → (last_end seat : ℕ) → Actor H → Type 0
 KnowsWait head events last k actor = IsKnown head events last k (asked actor) actor.waits
@@ -72,9 +73,10 @@ pub record KnowsWaits {H : Type 0} (board : Contents) (threads last_end : ℕ) (
   pub made : last_end ≤ length board.events
   pub each : (i : ℕ) (actor : Actor H) → slice_get actors i ≡ Some actor → KnowsWait board.head board.events last_end (threads + i) actor
 
--- what is noted after a turn of a seat
-abbrev pub noted : Turn → (busy : Bool) → (last_end : ℕ) → Waits
-noted (NotYet why) true last = Unknown
-noted (NotYet (MapsHeld seat)) false last = WhileMapHeld
-noted (NotYet why) false last = UntilEnd last
-noted turn busy last = Unknown
+-- what is noted of waiting after a turn of a seat: where nothing of it is in flight, for how long it waits for what it waits for
+abbrev pub wait_after : (had : Waits) → Turn → (busy : Bool) → (last_end : ℕ) → Waits
+wait_after had (NotYet why) false last = wait_for why last
+wait_after had turn busy last = had
+
+abbrev pub waited : {H : Type 0} → Actor H → Turn → (busy : Bool) → (last_end : ℕ) → Actor H
+waited actor turn busy last = record actor { waits = wait_after actor.waits turn busy last }

@@ -1,17 +1,18 @@
 //! The end of a run.
 
-ghost use Rattle.std.specs.Prelude.{◌≡◌, ◌+◌, ◌++◌, true, None, OnOk, length, option_to_list, sum_by};
+ghost use Rattle.std.specs.Prelude.{◌≡◌, ◌+◌, ◌++◌, true, None, OnOk, length, sum_by};
 ghost use Rattle.std.specs.List.{flat_map};
 ghost use Rattle.hp_script.specs.Playable.{setups_in};
 ghost use Rattle.hp_board.specs.Retired.{IsRacked, registered_hooks};
 ghost use Rattle.hp_model.specs.MapLock.{operation};
 ghost use Rattle.hp_model.specs.Registrations.{registration};
 ghost use Rattle.hp_model.specs.ScriptRun.{is_over};
+ghost use Rattle.hp_actors.specs.Actors.{own_hooks};
 ghost use Rattle.hp_actors.specs.Hooks.{hooks_there};
 
 use crate::actor::Actor;
 use crate::run::Run;
-use hp_board::{Ask, Board};
+use hp_board::Board;
 use hp_hook::{Hook, Rack};
 use hp_states::NoMemory;
 
@@ -62,32 +63,11 @@ impl<H: Hook> Run<H> {
 
 /// Puts the hooks that actors have behind those of the rack.
 fn give_back<H: Hook>(actors: Vec<Actor<H>>, rack: &mut Rack<H>) -> Result<(), NoMemory>
-    ensures { OnOk result (rack.new.hooks.items ≡ rack.old.hooks.items
-        ++ flat_map (λ actor. flat_map (λ ask. option_to_list ask.hook) actor.asks.items) actors.items) }
+    ensures { OnOk result (rack.new.hooks.items
+        ≡ rack.old.hooks.items ++ flat_map (λ actor. own_hooks actor.asks) actors.items) }
 {
     for actor in actors {
-        give_asks(actor.asks, rack)?;
-    }
-    Ok(())
-}
-
-/// Puts the hooks of operations behind those of the rack.
-fn give_asks<H: Hook>(asks: Vec<Ask<H>>, rack: &mut Rack<H>) -> Result<(), NoMemory>
-    ensures { OnOk result (rack.new.hooks.items
-        ≡ rack.old.hooks.items ++ flat_map (λ ask. option_to_list ask.hook) asks.items) }
-{
-    for ask in asks {
-        give_hook(ask.hook, rack)?;
-    }
-    Ok(())
-}
-
-/// Puts a hook, if there is one, behind those of the rack.
-fn give_hook<H: Hook>(hook: Option<H>, rack: &mut Rack<H>) -> Result<(), NoMemory>
-    ensures { OnOk result (rack.new.hooks.items ≡ rack.old.hooks.items ++ option_to_list hook) }
-{
-    if let Some(hook) = hook {
-        rack.hooks.push(hook)?;
+        actor.give_back(rack)?;
     }
     Ok(())
 }

@@ -1,7 +1,7 @@
 //! Rounds: one turn of each seat, in rising number.
 
 ghost use Rattle.std.specs.Prelude.{◌≡◌, ℕ, ◌+◌, ◌<◌, ◌≤◌, IfSome, IfNone, OnOk, List, length, true};
-ghost use Rattle.hp_ledger.specs.UnderWay.{IsThreadDue, NoThreadDue};
+ghost use Rattle.hp_account.specs.UnderWay.{IsThreadDue, NoThreadDue};
 ghost use Rattle.hp_model.specs.Lists.{numbers};
 ghost use Rattle.hp_model.specs.Processors.{present};
 ghost use Rattle.hp_model.specs.ScriptRun.{start, is_over, after_round, IsRun};

@@ -10,6 +10,7 @@ ghost use Rattle.hp_actors.specs.Waiting.{MakesNoEvent, WaitsForThread};
 ghost use Rattle.hp_model.specs.Scripts.{IsScript};
 
 use crate::actor::{Actor, Waits};
+use crate::step::step;
 use hp_board::Board;
 use hp_hook::Hook;
 use hp_states::NoMemory;
@@ -95,11 +96,17 @@ impl<H: Hook> Run<H> {
         if place >= self.actors.len() {
             return Ok(());
         }
-        self.actors[place].turn(&mut self.board, &mut self.last_end, seat)
+        step(
+            &mut self.actors[place],
+            &mut self.board,
+            &mut self.last_end,
+            seat,
+        )
     }
 
     /// Whether a seat is that of an actor whose next turn makes nothing: it waits as it did at its last turn, or
-    /// for the thread of a processor. It is passed over. No number that isn't an actor's seat waits.
+    /// for the thread of a processor, or has no operation left. It is passed over. No number that isn't an actor's
+    /// seat waits.
     ///
     /// Takes no memory, and a few steps where a turn takes hundreds.
     pub(crate) fn still_waits(&self, seat: u32) -> bool
@@ -121,10 +128,11 @@ impl<H: Hook> Run<H> {
             ≡ self.now.progress }
     {
         match self.actors.get(place) {
-            Some(actor) => match actor.waits {
+            Some(actor) => match actor.waits() {
+                Waits::Unknown => waits_for_thread(&self.board, self.threads + place as u32),
                 Waits::WhileMapHeld => self.board.holder().is_some(),
                 Waits::UntilEnd(end) => end == self.last_end,
-                Waits::Unknown => waits_for_thread(&self.board, self.threads + place as u32),
+                Waits::Forever => true,
             },
             None => false,
         }

@@ -1,13 +1,12 @@
 //! The start of a run.
 
-ghost use Rattle.std.specs.Prelude.{◌≡◌, ◌≤◌, IfOk, OnOk, map, length, sum_by, All};
+ghost use Rattle.std.specs.Prelude.{◌≡◌, ◌≤◌, IfOk, OnOk, map, length, sum_by};
 ghost use Rattle.hp_model.specs.Scripts.{IsScript};
 ghost use Rattle.hp_model.specs.ScriptRun.{start as start_of};
 ghost use Rattle.hp_script.specs.Playable.{setups_in};
 ghost use Rattle.hp_actors.specs.Hooks.{AreFromRack, OneForEachSetup, hooks_there};
 ghost use Rattle.hp_actors.specs.Positions.{hooks_of, ops_of};
 ghost use Rattle.hp_actors.specs.Racks.{IsFresh, Takes};
-ghost use Rattle.hp_actors.specs.declared.actor.Waits.TheVariants.{Unknown};
 
 use crate::actor::Actor;
 use crate::run::Run;
@@ -60,7 +59,6 @@ fn actors_of<H: Hook>(
     requires { sum_by setups_in script.now.actors ≤ length rack.old.hooks.items }
     ensures ops { IfOk result (λ actors. map ops_of actors.items ≡ script.now.actors) }
     ensures fresh { IfOk result (λ actors. IsFresh actors.items) }
-    ensures unmarked { IfOk result (λ actors. All (λ actor. actor.waits ≡ Unknown) actors.items) }
     ensures rack { OnOk result (Takes rack.old.hooks.items rack.new.hooks.items
         (sum_by setups_in script.now.actors)) }
     ensures hooks { IfOk result (λ actors. AreFromRack (map H.counts rack.old.hooks.items)

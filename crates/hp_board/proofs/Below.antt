@@ -5,7 +5,8 @@ use Rattle.hp_states.specs.CpuSets.{has}
 use Rattle.hp_states.specs.declared.limits.TheConstants.{MAX_CPU_SET}
 use Rattle.hp_model.specs.Lawful.{IsLawful}
 use Rattle.hp_model.proofs.EntryStays.{due_calls}
-use Rattle.hp_machine.proofs.Below.{call_below, call_in_set}
+use Rattle.hp_model.proofs.EntryProcessors.{call_below}
+use Rattle.hp_machine.proofs.Below.{call_in_set}
 use Rattle.hp_board.specs.Contents.{Contents}
 use Rattle.hp_board.specs.Loans.{AreOut}
 use Rattle.hp_board.proofs.Loans.{bool_is}

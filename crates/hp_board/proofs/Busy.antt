@@ -26,7 +26,7 @@ use Rattle.hp_model.proofs.Laws.{operation_push, registration_push}
 use Rattle.hp_model.proofs.NextStands.{next_stands}
 use Rattle.hp_model.proofs.Owners.{map_free, none_some, same_some}
 use Rattle.hp_model.proofs.Passing.{begins_alone}
-use Rattle.hp_ledger.specs.TableChanges.{is_setup, brings_hook, hands_hook}
+use Rattle.hp_account.specs.TableChanges.{is_setup, brings_hook, hands_hook}
 use Rattle.hp_board.specs.Hooks.{has_hook, has_hook_after}
 
 abbrev busy_after : (k : ℕ) → List Event → Event → Bool

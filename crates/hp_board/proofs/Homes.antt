@@ -9,7 +9,7 @@ use Rattle.hp_event.specs.declared.event.Event.TheVariants.{Call}
 use Rattle.hp_event.specs.declared.op.Op.{Op}
 use Rattle.hp_model.specs.NextEvent.{due_entry}
 use Rattle.hp_table.specs.Step.{Step, step_at, is_home, AllHome}
-use Rattle.hp_ledger.proofs.Homes.{home_after}
+use Rattle.hp_machine.proofs.Homes.{home_after}
 use Rattle.hp_board.specs.Contents.{Contents}
 use Rattle.hp_board.specs.HookCount.{hook_count, held}
 use Rattle.hp_board.specs.Answered.{aside_of}

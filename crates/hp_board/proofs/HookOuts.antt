@@ -13,8 +13,8 @@ use Rattle.hp_model.specs.Waits.{Wait}
 use Rattle.hp_model.specs.Walks.{walk}
 use Rattle.hp_model.proofs.EntryStays.{due_one}
 use Rattle.hp_model.proofs.FindsOne.{finds_one}
-use Rattle.hp_ledger.specs.Next.{IsKept, WaitsFor}
-use Rattle.hp_ledger.proofs.FullNone.{full_none}
+use Rattle.hp_machine.specs.Next.{IsKept, WaitsFor}
+use Rattle.hp_machine.proofs.FullNone.{full_none}
 use Rattle.hp_locks.specs.declared.why.Why.{Why}
 use Rattle.hp_locks.specs.declared.why.Why.TheVariants.{MapsHeld, WriterIn, ReadersIn, RegIn, ApTurn, HookOut, Idle}
 use Rattle.hp_board.specs.Contents.{Contents}

@@ -29,11 +29,11 @@ use Rattle.hp_table.specs.Sound.{IsSound}
 use Rattle.hp_table.specs.Step.{Step, step_at, bare, changed, changed_at, called_step}
 use Rattle.hp_table.specs.Instances.{with_instance, without_instance}
 use Rattle.hp_table.proofs.Places.{get_or-step_at, within_places, set_same}
-use Rattle.hp_ledger.specs.Table.{IsTableOf, HasRegistration}
-use Rattle.hp_ledger.specs.TableChanges.{CanChange, is_setup, new_record, with_added, without_left, hands_out, table_after}
-use Rattle.hp_ledger.proofs.Changeable.{can_change}
-use Rattle.hp_ledger.proofs.FullNone.{full_none}
-use Rattle.hp_ledger.proofs.TableChanged.{some_found}
+use Rattle.hp_account.specs.Table.{IsTableOf, HasRegistration}
+use Rattle.hp_account.specs.TableChanges.{CanChange, is_setup, new_record, with_added, without_left, hands_out, table_after}
+use Rattle.hp_account.proofs.Changeable.{can_change}
+use Rattle.hp_machine.proofs.FullNone.{full_none}
+use Rattle.hp_account.proofs.TableChanged.{some_found}
 use Rattle.hp_board.specs.declared.turn.Turn.{Turn}
 use Rattle.hp_board.specs.declared.turn.Turn.TheVariants.{Made, Answered, NotYet}
 use Rattle.hp_board.proofs.Waiting.{not_made, arms_leaves}

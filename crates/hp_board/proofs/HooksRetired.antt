@@ -7,32 +7,12 @@ use Rattle.hp_states.specs.declared.limits.TheConstants.{ONLINE}
 use Rattle.hp_event.specs.declared.head.Head.{Head}
 use Rattle.hp_event.specs.declared.event.Event.{Event}
 use Rattle.hp_hook.specs.Counted.{Counts}
-use Rattle.hp_model.specs.Lists.{numbers}
 use Rattle.hp_model.specs.Registered.{registered}
 use Rattle.hp_model.specs.Registrations.{Registration, registration}
+use Rattle.hp_model.proofs.ListLemmas.{from, numbers_from}
 use Rattle.hp_table.specs.Step.{Step, step_at}
-use Rattle.hp_ledger.specs.Table.{IsTableOf, IsStepOf, registered_by, registered_meanwhile}
+use Rattle.hp_account.specs.Table.{IsTableOf, IsStepOf, registered_by, registered_meanwhile}
 use Rattle.hp_board.specs.Retired.{hook_at, hooks_of, registered_hook, registered_hooks, IsRacked}
-
--- the numbers from one on
-unfoldable pub from : (a n : ℕ) → List ℕ
-from a zero = []
-from a (suc n) = a ∷ from (suc a) n
-
-from_more : (a n : ℕ) → from a (suc n) ≡ from a n ++ (a + n) ∷ []
-unfolding from
-from_more a zero = let e : a ≡ a + 0 = omega arith in ap (λ (k : ℕ). k ∷ []) e
-from_more a (suc n) =
-    let e : suc a + n ≡ a + suc n = omega arith in
-    ap (λ xs. a ∷ xs) (from_more (suc a) n ∙ ap (λ (k : ℕ). from (suc a) n ++ k ∷ []) e)
-
-numbers_from : (n : ℕ) → numbers n ≡ from 0 n
-unfolding from
-numbers_from zero = refl
-numbers_from (suc n) =
-    let e : 0 + n ≡ n = omega arith in
-    ap (λ xs. xs ++ n ∷ []) (numbers_from n)
-    ∙ sym (from_more 0 n ∙ ap (λ (k : ℕ). from 0 n ++ k ∷ []) e)
 
 -- what is said of each place is said of its state
 along : (f : ℕ → List Counts) (places : List (Option Step)) (a : ℕ) → ((i : ℕ) → hook_at (step_at places i) ≡ f (a + i)) →

@@ -1,4 +1,4 @@
--- The entry of a processor that a hook is lent for, by what the ledger says of the entries that are due.
+-- The entry of a processor that a hook is lent for, by what the machine says of the entries that are due.
 use Rattle.std.proofs.Common.{◌≡◌, ℕ, ◌<◌, ◌≤◌, true, Option, Some, None, IfSome, IfNone, ap, sym, ◌∙◌, arith}
 use mathlib.Core.Logic.{dite}
 use native.Mathlib.Decide.{ℕ_discrete}
@@ -10,9 +10,9 @@ use Rattle.hp_model.specs.Lawful.{IsLawful}
 use Rattle.hp_model.specs.Lent.{cpu_of}
 use Rattle.hp_model.specs.NextEvent.{due_entry}
 use Rattle.hp_model.proofs.DueGives.{due_stands}
-use Rattle.hp_ledger.specs.declared.entry.Entry.{Entry}
-use Rattle.hp_ledger.specs.Entries.{entry_event, how_by}
-use Rattle.hp_ledger.specs.UnderWay.{IsDueOn, NoneDue}
+use Rattle.hp_account.specs.declared.under_way.Entry.{Entry}
+use Rattle.hp_account.specs.Entries.{entry_event, how_by}
+use Rattle.hp_account.specs.UnderWay.{IsDueOn, NoneDue}
 use Rattle.hp_board.specs.Contents.{Contents}
 use Rattle.hp_board.specs.Loans.{AreOut, IsOutFor}
 use Rattle.hp_board.proofs.Below.{lent_possible}

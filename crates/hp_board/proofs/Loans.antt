@@ -8,9 +8,9 @@ use Rattle.hp_states.specs.Sections.{can_fail}
 use Rattle.hp_model.specs.Calls.{sites}
 use Rattle.hp_model.specs.How.{answer_at as answer_of_plan}
 use Rattle.hp_model.specs.Subsystems.{plan_of}
-use Rattle.hp_ledger.specs.Table.{IsTableOf, IsStepOf}
-use Rattle.hp_ledger.proofs.HookAnswers.{sub_there, answers_there}
-use Rattle.hp_ledger.proofs.TableMore.{answered_called}
+use Rattle.hp_account.specs.Table.{IsTableOf, IsStepOf}
+use Rattle.hp_machine.proofs.HookAnswers.{sub_there, answers_there}
+use Rattle.hp_account.proofs.TableMore.{answered_called}
 use Rattle.hp_event.specs.declared.aside.Aside.{Aside}
 use Rattle.hp_event.specs.declared.how.How.{How}
 use Rattle.hp_event.specs.declared.head.Head.{Head}
@@ -26,11 +26,11 @@ use Rattle.hp_model.proofs.DueGives.{due_stands}
 use Rattle.hp_model.proofs.EntryStays.{due_one, due_calls, caller_below, no_registration_begins, no_registration_ends}
 use Rattle.hp_hook.specs.Counted.{Counts}
 use Rattle.hp_table.specs.Step.{Step, step_at, is_home, AllHome}
-use Rattle.hp_ledger.specs.TableChanges.{is_registering}
-use Rattle.hp_ledger.specs.declared.entry.Entry.{Entry}
-use Rattle.hp_ledger.specs.declared.entry.Means.{Means}
-use Rattle.hp_ledger.specs.declared.entry.Means.TheVariants.{Presumed, Empty, Injected, Hook}
-use Rattle.hp_ledger.specs.Entries.{entry_event, how_by, how_of_means}
+use Rattle.hp_account.specs.TableChanges.{is_registering}
+use Rattle.hp_account.specs.declared.under_way.Entry.{Entry}
+use Rattle.hp_account.specs.declared.under_way.Means.{Means}
+use Rattle.hp_account.specs.declared.under_way.Means.TheVariants.{Presumed, Empty, Injected, Hook}
+use Rattle.hp_account.specs.Entries.{entry_event, how_by, how_of_means}
 use Rattle.hp_board.specs.Contents.{Contents}
 use Rattle.hp_board.specs.Answered.{aside_of}
 use Rattle.hp_board.specs.Loans.{IsLoan, is_hook, aside_at, loan_of, loan, IsOutFor, AreOut}

@@ -18,10 +18,10 @@ use Rattle.hp_model.proofs.DueGives.{due_stands}
 use Rattle.hp_model.proofs.EntryStays.{due_one}
 use Rattle.hp_table.specs.Step.{Step, step_at, changed, changed_at, lent_step, is_home}
 use Rattle.hp_table.proofs.Places.{step_at-changed_same, step_at-set_other}
-use Rattle.hp_ledger.specs.declared.entry.Entry.{Entry}
-use Rattle.hp_ledger.specs.declared.entry.Means.TheVariants.{Hook}
-use Rattle.hp_ledger.specs.Entries.{entry_event, how_by}
-use Rattle.hp_ledger.specs.Table.{IsTableOf}
+use Rattle.hp_account.specs.declared.under_way.Entry.{Entry}
+use Rattle.hp_account.specs.declared.under_way.Means.TheVariants.{Hook}
+use Rattle.hp_account.specs.Entries.{entry_event, how_by}
+use Rattle.hp_account.specs.Table.{IsTableOf}
 use Rattle.hp_machine.proofs.Entries.{by_hook}
 use Rattle.hp_board.specs.Answered.{aside_of}
 use Rattle.hp_board.specs.Contents.{Contents}

@@ -19,8 +19,8 @@ use Rattle.hp_model.proofs.EntryStays.{due_stays, due_one, due_calls, no_registr
 use Rattle.hp_model.proofs.HeadlineProof.{lawful_more}
 use Rattle.hp_table.specs.Step.{Step, step_at, changed, changed_at, called_step, is_home}
 use Rattle.hp_table.proofs.Places.{step_at-changed_same, step_at-set_other}
-use Rattle.hp_ledger.specs.TableChanges.{table_after}
-use Rattle.hp_ledger.proofs.Homes.{home_after}
+use Rattle.hp_account.specs.TableChanges.{table_after}
+use Rattle.hp_machine.proofs.Homes.{home_after}
 use Rattle.hp_board.specs.Answered.{aside_of}
 use Rattle.hp_board.specs.Contents.{Contents, with_event}
 use Rattle.hp_board.specs.Loans.{aside_at, loan_of, loan, IsOutFor, AreOut, IsCalm}

@@ -6,7 +6,7 @@ use Rattle.std.proofs.lemmas.List.Elements.{All-contains}
 use Rattle.hp_event.specs.declared.event.Event.{Event}
 use Rattle.hp_locks.specs.declared.why.Why.{Why}
 use Rattle.hp_locks.specs.declared.why.Why.TheVariants.{HookOut, Idle}
-use Rattle.hp_ledger.specs.Next.{IsKept}
+use Rattle.hp_machine.specs.Next.{IsKept}
 use Rattle.hp_model.specs.Lawful.{IsLawful}
 use Rattle.hp_model.specs.Moves.{ArePending, CanMove}
 use Rattle.hp_model.specs.NextEvent.{due_entry}

@@ -31,10 +31,10 @@ use Rattle.hp_model.proofs.OneEntry.{SameEntry, one_walk_entry}
 use Rattle.hp_model.proofs.Owners.{Owners}
 use Rattle.hp_model.proofs.Stages.{ap_no_client}
 use Rattle.hp_table.specs.Step.{step_at, is_home}
-use Rattle.hp_ledger.specs.declared.entry.Entry.{Entry}
-use Rattle.hp_ledger.specs.declared.entry.Means.TheVariants.{Hook}
-use Rattle.hp_ledger.specs.Entries.{entry_event, how_by}
-use Rattle.hp_ledger.specs.UnderWay.{hook_asked}
+use Rattle.hp_account.specs.declared.under_way.Entry.{Entry}
+use Rattle.hp_account.specs.declared.under_way.Means.TheVariants.{Hook}
+use Rattle.hp_account.specs.Entries.{entry_event, how_by}
+use Rattle.hp_account.specs.UnderWay.{hook_asked}
 use Rattle.hp_board.specs.Contents.{Contents}
 use Rattle.hp_board.specs.Loans.{is_hook, loan, AreOut}
 use Rattle.hp_board.proofs.Loans.{asks_hook, bool_is, not_mine}

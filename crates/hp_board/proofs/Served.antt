@@ -7,9 +7,9 @@ use Rattle.hp_event.specs.declared.how.How.{How}
 use Rattle.hp_model.specs.How.{answer_at}
 use Rattle.hp_model.specs.Lent.{calls_at}
 use Rattle.hp_model.specs.NextEvent.{due_entry}
-use Rattle.hp_ledger.specs.declared.entry.Entry.{Entry}
-use Rattle.hp_ledger.specs.declared.entry.Means.TheVariants.{Hook}
-use Rattle.hp_ledger.specs.Entries.{entry_event, how_by}
+use Rattle.hp_account.specs.declared.under_way.Entry.{Entry}
+use Rattle.hp_account.specs.declared.under_way.Means.TheVariants.{Hook}
+use Rattle.hp_account.specs.Entries.{entry_event, how_by}
 use Rattle.hp_table.specs.Step.{step_at, is_home}
 use Rattle.hp_board.specs.Contents.{Contents}
 use Rattle.hp_board.specs.Loans.{is_hook, CallsAway, IsCalm}

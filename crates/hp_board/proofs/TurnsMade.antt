@@ -14,7 +14,7 @@ use Rattle.hp_model.specs.Seats.{is_busy, holds_map}
 use Rattle.hp_model.specs.MapLock.{operation}
 use Rattle.hp_model.specs.Registrations.{Registration, registration}
 use Rattle.hp_model.proofs.NextStands.{next_stands, next_belongs}
-use Rattle.hp_ledger.specs.TableChanges.{is_setup, is_registering, brings_hook, hands_hook}
+use Rattle.hp_account.specs.TableChanges.{is_setup, is_registering, brings_hook, hands_hook}
 use Rattle.hp_board.specs.Contents.{Contents, with_event}
 use Rattle.hp_board.specs.Hooks.{has_hook, has_hook_after, leaves_hook}
 use Rattle.hp_board.specs.Turns.{IsTurn, turn_by, goes_on}

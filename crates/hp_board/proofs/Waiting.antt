@@ -2,7 +2,7 @@
 use Rattle.std.proofs.Common.{◌≡◌, ℕ, Bool, true, false, ◌&&◌, ◌||◌, is_some, Some, None, List, refl, sym, ◌∙◌, inl, inr, ◌⊎◌, ⊎_elim}
 use Rattle.std.proofs.lemmas.Bool.{false≢true, true≢false}
 use Rattle.hp_table.specs.Step.{AllHome}
-use Rattle.hp_ledger.specs.Next.{IsKept}
+use Rattle.hp_machine.specs.Next.{IsKept}
 use Rattle.hp_event.specs.declared.op.Op.{Op}
 use Rattle.hp_event.specs.declared.event.Event.{Event}
 use Rattle.hp_event.specs.declared.event.Event.TheVariants.{Armed, Call}
@@ -43,7 +43,7 @@ arms_leaves es c e had h = by_armed (λ x. has_hook_after es (Some x) had ≡ ha
 pub arms_quietly : (es : List Event) (c e : Event) → arms_walker es c e ≡ true → leaves_hook es (Some e) ≡ true
 arms_quietly es c e h = by_armed (λ x. leaves_hook es (Some x) ≡ true) (λ seat cpu value. refl) es c e h
 
--- where no hook is lent it is as the ledger says
+-- where no hook is lent it is as the machine says
 pub plain_wait : (k : ℕ) (op : Op) (b : Contents) (why : Why) → AllHome b.places → IsNotYet k op b why → IsKept b.head b.events k op why
 plain_wait k op b (HookOut s) home h =
     absurd (⊎_elim (λ (w : WaitsForThread b s k op). true≢false (sym (home s) ∙ w.away))

@@ -3,7 +3,7 @@
 use Rattle.std.specs.Prelude.{ℕ, Bool, true, not, ◌&&◌, ◌||◌, Option, Some, None, List}
 use Rattle.hp_event.specs.declared.event.Event.{Event}
 use Rattle.hp_event.specs.declared.op.Op.{Op}
-use Rattle.hp_ledger.specs.TableChanges.{is_setup, brings_hook, hands_hook}
+use Rattle.hp_account.specs.TableChanges.{is_setup, brings_hook, hands_hook}
 use Rattle.hp_model.specs.Seats.{is_busy}
 
 -- a setup has its hook at its first event, and nothing else has one

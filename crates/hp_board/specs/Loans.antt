@@ -18,10 +18,10 @@ use Rattle.hp_model.specs.NextEvent.{next_event, due_entry}
 use Rattle.hp_model.specs.Subsystems.{plan_of}
 use Rattle.hp_table.specs.Step.{Step, step_at, is_home}
 use Rattle.hp_locks.specs.declared.why.Why.TheVariants.{ApTurn}
-use Rattle.hp_ledger.specs.declared.entry.Means.{Means}
-use Rattle.hp_ledger.specs.declared.entry.Means.TheVariants.{Hook}
-use Rattle.hp_ledger.specs.Next.{IsKept}
-use Rattle.hp_ledger.specs.UnderWay.{hook_asked}
+use Rattle.hp_account.specs.declared.under_way.Means.{Means}
+use Rattle.hp_account.specs.declared.under_way.Means.TheVariants.{Hook}
+use Rattle.hp_machine.specs.Next.{IsKept}
+use Rattle.hp_account.specs.UnderWay.{hook_asked}
 use Rattle.hp_board.specs.Answered.{aside_of, answer_of_loan}
 use Rattle.hp_board.specs.Contents.{Contents}
 

@@ -9,7 +9,7 @@ use Rattle.hp_hook.specs.Counted.{Counts}
 use Rattle.hp_model.specs.Lists.{numbers}
 use Rattle.hp_model.specs.Registered.{Registered, registered}
 use Rattle.hp_model.specs.Subsystems.{sub_numbered, plan_of}
-use Rattle.hp_ledger.specs.Table.{counts_by}
+use Rattle.hp_account.specs.Table.{counts_by}
 use Rattle.hp_table.specs.Step.{Step}
 
 -- what the hook of a place has counted

@@ -4,7 +4,7 @@ use Rattle.hp_states.specs.declared.limits.TheConstants.{MAX_CPUS, MAX_SUBS}
 use Rattle.hp_event.specs.declared.head.Head.{Head}
 use Rattle.hp_model.specs.Heads.{IsHead}
 use Rattle.hp_model.specs.Processors.{is_present}
-use Rattle.hp_ledger.specs.Heads.{AreAbsent}
+use Rattle.hp_machine.specs.Heads.{AreAbsent}
 use Rattle.hp_board.specs.declared.start.StartError.{StartError}
 use Rattle.hp_board.specs.declared.start.StartError.TheVariants.{NoProcessor, TooManyCpus, BadAbsent, NoBoot, TooManySubs, NoMemory}
 

@@ -11,7 +11,7 @@ use Rattle.hp_locks.specs.declared.why.Why.TheVariants.{ApTurn, HookOut, Idle}
 use Rattle.hp_model.specs.Events.{answer_by}
 use Rattle.hp_model.specs.Needs.{need}
 use Rattle.hp_model.specs.NextEvent.{next_event, due_entry, is_full}
-use Rattle.hp_ledger.specs.Next.{IsKept}
+use Rattle.hp_machine.specs.Next.{IsKept}
 use Rattle.hp_board.specs.declared.turn.Turn.{Turn}
 use Rattle.hp_board.specs.declared.turn.Turn.TheVariants.{Made, Answered, NotYet}
 use Rattle.hp_board.specs.Contents.{Contents, with_event}

@@ -1,8 +1,8 @@
 //! The board.
 
 ghost use Rattle.std.specs.Prelude.{◌≡◌, ◌<◌, ◌≤◌, ◌↔◌, ℕ, Some, IfOk, IfSome, IfNone, option_map};
-ghost use Rattle.hp_ledger.specs.Clients.{clients};
-ghost use Rattle.hp_ledger.specs.UnderWay.{IsDueOn, NoneDue, IsThreadDue, NoThreadDue};
+ghost use Rattle.hp_machine.specs.Clients.{clients};
+ghost use Rattle.hp_account.specs.UnderWay.{IsDueOn, NoneDue, IsThreadDue, NoThreadDue};
 ghost use Rattle.hp_model.specs.ApTurn.{IsApTurn};
 ghost use Rattle.hp_model.specs.Lists.{among};
 ghost use Rattle.hp_model.specs.MapLock.{Operation, operation};

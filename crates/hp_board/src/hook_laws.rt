@@ -7,7 +7,7 @@ ghost use Rattle.hp_board.specs.HookCount.{hook_count, held};
 ghost use Rattle.hp_board.specs.Hooks.{has_hook, has_hook_after};
 ghost use Rattle.hp_board.specs.Turns.{IsTurn, IsServed};
 ghost use Rattle.hp_event.specs.declared.event.Event.TheVariants.{Admit, Leave};
-ghost use Rattle.hp_ledger.specs.Table.{IsTableOf};
+ghost use Rattle.hp_account.specs.Table.{IsTableOf};
 ghost use Rattle.hp_model.specs.Lawful.{IsLawful};
 ghost use Rattle.hp_model.specs.NextEvent.{next_event};
 ghost use Rattle.hp_model.specs.Pending.{IsAllowed};

@@ -10,7 +10,7 @@ ghost use Rattle.hp_board.specs.Contents.{Contents};
 ghost use Rattle.hp_board.specs.Hooks.{has_hook};
 ghost use Rattle.hp_board.specs.declared.turn.Turn.TheVariants.{Answered};
 ghost use Rattle.hp_board.specs.Turns.{IsTurn, IsServed};
-ghost use Rattle.hp_ledger.specs.TableChanges.{is_setup};
+ghost use Rattle.hp_account.specs.TableChanges.{is_setup};
 ghost use Rattle.hp_model.specs.Entries.{codes_of_faults};
 ghost use Rattle.hp_model.specs.Events.{seat_of, answer_by};
 ghost use Rattle.hp_model.specs.Lawful.{IsLawful, Stands};
@@ -51,7 +51,7 @@ pub fn setup_goes_on(head: &Head, events: &[Event], event: &Event, seat: u32, op
 {}
 
 /// Where there is no room for an operation's first event, no event of it comes next.
-#[tactic(auto, using(hp_ledger::proofs::FullNone::full_none))]
+#[tactic(auto, using(hp_machine::proofs::FullNone::full_none))]
 pub fn full_has_no_event(head: &Head, events: &[Event], seat: u32, op: Op)
     ensures { is_full head.now events.now seat op ≡ true → next_event head.now events.now seat op ≡ None }
 {}

@@ -4,16 +4,16 @@ ghost use Rattle.std.specs.Prelude.{◌≡◌, ◌≢◌, ◌↔◌, ◌==◌, �
 ghost use Rattle.hp_board.specs.Loans.{loan, can_lend, is_hook};
 ghost use Rattle.hp_board.specs.Turns.{IsServed};
 ghost use Rattle.hp_board.specs.declared.turn.Turn.TheVariants.{Made};
-ghost use Rattle.hp_ledger.specs.Entries.{entry_event};
-ghost use Rattle.hp_ledger.specs.declared.entry.Means.TheVariants.{Hook as ByHook};
+ghost use Rattle.hp_account.specs.Entries.{entry_event};
+ghost use Rattle.hp_account.specs.declared.under_way.Means.TheVariants.{Hook as ByHook};
 ghost use Rattle.hp_model.specs.NextEvent.{due_entry};
 ghost use Rattle.hp_states.specs.CpuSets.{has};
 ghost use Rattle.hp_table.specs.Step.{step_at, is_home, AllHome};
 
 use crate::board::Board;
 use crate::loan::{Back, Loan};
+use hp_account::{Entry, Means};
 use hp_hook::Hook;
-use hp_ledger::{Entry, Means};
 use hp_states::MAX_CPU_SET;
 
 impl<H: Hook> Board<H> {

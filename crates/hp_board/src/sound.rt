@@ -3,7 +3,7 @@
 ghost use Rattle.std.specs.Prelude.{◌≡◌, ℕ, Some};
 ghost use Rattle.hp_board.specs.Loans.{AreOut, IsLoan, loan};
 ghost use Rattle.hp_event.specs.declared.aside.Aside.{Aside as AnAside};
-ghost use Rattle.hp_ledger.specs.Table.{IsTableOf};
+ghost use Rattle.hp_account.specs.Table.{IsTableOf};
 ghost use Rattle.hp_model.specs.Lawful.{IsLawful};
 ghost use Rattle.hp_table.specs.Sound.{IsSound};
 

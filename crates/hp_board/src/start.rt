@@ -8,8 +8,7 @@ ghost use Rattle.hp_states.specs.declared.limits.TheConstants.{ONLINE};
 use crate::board::Board;
 use hp_event::{Head, Numbers, Subs};
 use hp_hook::Hook;
-use hp_ledger::are_absent;
-use hp_machine::Machine;
+use hp_machine::{Machine, are_absent};
 use hp_states::{MAX_CPUS, MAX_SUBS, NoMemory};
 use std::alloc::Global;
 

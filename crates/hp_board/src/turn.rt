@@ -5,9 +5,9 @@ ghost use Rattle.hp_board.specs.Hooks.{has_hook, has_hook_after, leaves_hook};
 ghost use Rattle.hp_board.specs.Loans.{loan, CallsAway, IsOutFor, IsCalm};
 ghost use Rattle.hp_board.specs.Turns.{IsTurn, IsServed, IsNotYet, IsHookOut, TakesRoom, turn_by, goes_on};
 ghost use Rattle.hp_board.specs.declared.turn.Turn.TheVariants.{NotYet};
-ghost use Rattle.hp_ledger.specs.Entries.{entry_event};
-ghost use Rattle.hp_ledger.specs.Next.{IsKept};
-ghost use Rattle.hp_ledger.specs.UnderWay.{hook_asked};
+ghost use Rattle.hp_account.specs.Entries.{entry_event};
+ghost use Rattle.hp_machine.specs.Next.{IsKept};
+ghost use Rattle.hp_account.specs.UnderWay.{hook_asked};
 ghost use Rattle.hp_model.specs.ApTurn.{IsApTurn};
 ghost use Rattle.hp_model.specs.Events.{answer_by, is_call};
 ghost use Rattle.hp_model.specs.Lent.{arms_walker};
@@ -15,20 +15,19 @@ ghost use Rattle.hp_model.specs.Walks.{walk};
 ghost use Rattle.hp_states.specs.CpuSets.{has};
 ghost use Rattle.hp_table.specs.Step.{step_at, is_home, HasCounted};
 ghost use Rattle.hp_event.specs.declared.event.Event.TheVariants.{Call};
-ghost use Rattle.hp_ledger.specs.TableChanges.{registering_step};
+ghost use Rattle.hp_account.specs.TableChanges.{registering_step};
 ghost use Rattle.hp_locks.specs.declared.why.Why.TheVariants.{HookOut};
 ghost use Rattle.hp_model.specs.NextEvent.{next_event, due_entry};
 ghost use Rattle.hp_model.specs.Pending.{IsAllowed, IsInFlight};
-ghost use Rattle.hp_model.specs.Seats.{role_of};
-ghost use Rattle.hp_event.specs.declared.event.Role.TheVariants.{Client};
 ghost use Rattle.hp_event.specs.declared.op.Op.{Op as AnOp};
 ghost use Rattle.hp_model.specs.Registrations.{registration};
 
 use crate::board::Board;
-use hp_event::{Answer, Event, Op, Role};
+use hp_account::Entry;
+use hp_event::{Answer, Event, Op};
 use hp_hook::Hook;
-use hp_ledger::{Entry, Next, names_sub};
 use hp_locks::Why;
+use hp_machine::{Next, names_sub};
 use hp_states::NoMemory;
 
 /// An operation that is asked for, and the hook that it brings.
@@ -214,20 +213,13 @@ impl<H: Hook> Board<H> {
         if self.has_lent(by) {
             return false;
         }
-        if !self.is_client(by)
+        if !self.machine.is_client(by)
             || !names_sub(self.machine.journal().head(), &ask.op)
             || !self.is_of(by, &ask.op)
         {
             return false;
         }
         ask.hook.is_some() == (ask.op.is_setup() && !self.machine.is_busy(by))
-    }
-
-    /// Whether a seat is in as a client.
-    fn is_client(&self, seat: u32) -> bool
-        ensures { IsTrue result ↔ (role_of seat self.now.events ≡ Some Client) }
-    {
-        matches!(self.machine.role(seat), Some(Role::Client))
     }
 
     /// Whether a seat has no other operation than this in flight.

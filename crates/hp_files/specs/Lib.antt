@@ -1,3 +1,4 @@
 pub mod Numbers
 pub mod StatesFile
 pub mod Writes
+pub mod WritesByJournal

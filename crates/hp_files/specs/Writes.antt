@@ -1,15 +1,11 @@
--- Why a write to `target` or `fail` is refused for its value: conditions in their order, each with its error number. The
--- registrations are those of the table. After `target_store` and `fail_store` of `kernel/cpu.c`; each condition and its
--- number are this project's own.
+-- Why a write to `target` or `fail` is refused for its value: conditions in their order, each with its error number.
+-- The registrations are those of the table. After `target_store` and `fail_store` of `kernel/cpu.c`; each condition and
+-- its number are this project's own.
 use Rattle.std.specs.Prelude.{◌≡◌, ℕ, zero, suc, ℤ, pos, negsuc, Bool, true, false, not, ◌&&◌, ◌||◌, nat_le, nat_lt, Option, Some, None, Result, Ok, Err, List, [], ◌∷◌}
 use Rattle.hp_states.specs.declared.limits.TheConstants.{BRINGUP_CPU, ONLINE, EINVAL}
 use Rattle.hp_states.specs.Sections.{is_stop, is_atomic_state}
-use Rattle.hp_event.specs.declared.op.Op.{Op}
 use Rattle.hp_event.specs.declared.head.Head.{Head}
 use Rattle.hp_event.specs.declared.event.Event.{Event}
-use Rattle.hp_model.specs.Processors.{is_possible}
-use Rattle.hp_model.specs.Seats.{is_busy}
-use Rattle.hp_model.specs.Waits.{is_waiting}
 use Rattle.hp_model.specs.Registered as registered_of
 use Rattle.hp_model.specs.Refusals.{can_be_armed}
 use Rattle.hp_model.specs.RefusalsAtOnce.{Check, if_so, is_state}
@@ -54,15 +50,3 @@ HasNamesOf head events table = (s : ℕ) → registered_of.is_named head s event
 -- the states that have callbacks in the table are those that have them after the events
 abbrev pub HasCallbacksOf : Head → List Event → List (Option Step) → Type 0
 HasCallbacksOf head events table = (s : ℕ) → can_be_armed head s events ≡ has_callback_at table s
-
--- a write that nothing refuses but the value and the way to it: nothing of the seat is in flight, the processor is
--- possible, and the write waits for nothing
-pub record CanBeWritten (head : Head) (events : List Event) (seat cpu : ℕ) (op : Op) : Type 0 where
-  pub is_idle : is_busy seat events ≡ false
-  pub possible : is_possible head cpu ≡ true
-  pub waits_not : is_waiting events op ≡ false
-
--- the number of a value that is refused, and else the one by which what it says is refused
-abbrev pub refused_or : Result ℕ ℕ → (of_state : ℕ → Option ℕ) → Option ℕ
-refused_or (Ok state) of_state = of_state state
-refused_or (Err errno) of_state = Some errno

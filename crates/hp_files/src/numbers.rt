@@ -97,11 +97,11 @@ pub fn read_i32(bytes: &[u8]) -> Result<i32, BadNumber>
     number_of(is_negative, digits)
 }
 
-/// Writes the text of a file that holds a number to the front of a buffer: the number and a newline.
-/// It answers how many bytes that is; the bytes behind them stay.
+/// Writes the text of a file that holds a number to the front of a buffer: the number and a
+/// newline. It answers how many bytes that is; the bytes behind them stay.
 ///
-/// There is no condition and no refusal: no number of the type `i32` has more than 12 bytes with its
-/// newline. Takes no memory. The form is the `%d\n` of `target_show` of `kernel/cpu.c`.
+/// There is no condition and no refusal: no number of the type `i32` has more than 12 bytes with
+/// its newline. Takes no memory. The form is the `%d\n` of `target_show` of `kernel/cpu.c`.
 pub fn show_number(number: i32, buf: &mut [u8; 12]) -> usize
     ensures count { result ≡ length (number_line number) }
     ensures shown { buf.new ≡ number_line number ++ drop (length (number_line number)) buf.old }

@@ -1,16 +1,10 @@
 //! What may be written to the `target` and `fail` files.
 
-ghost use Rattle.std.specs.Prelude.{◌≡◌, ℕ, true, false, Some, IfErr, List};
-ghost use Rattle.hp_event.specs.declared.op.Op.TheVariants.{Target, Arm};
-ghost use Rattle.hp_event.specs.declared.head.Head.{Head as AHead};
-ghost use Rattle.hp_event.specs.declared.event.Event.{Event};
-ghost use Rattle.hp_model.specs.Refusals.{refusal, refusals_of_arm, refusals_of_target, refusals_of_way};
-ghost use Rattle.hp_model.specs.RefusalsAtOnce.{first_that_holds, is_state};
-ghost use Rattle.hp_model.specs.Readers.{is_reading};
-ghost use Rattle.hp_model.specs.Settled.{settled};
+ghost use Rattle.std.specs.Prelude.{◌≡◌};
+ghost use Rattle.hp_model.specs.RefusalsAtOnce.{first_that_holds};
 ghost use Rattle.hp_model.specs.Sequence.{target_of};
-ghost use Rattle.hp_model.specs.Shown.{shown as shown_of};
-ghost use Rattle.hp_files.specs.Writes.{unless_refused, refusals_of_target_value, refusals_of_fail_value, refused_or, has_callback_at, HasNamesOf, HasCallbacksOf, CanBeWritten};
+ghost use Rattle.hp_files.specs.Writes.{unless_refused, refusals_of_target_value, refusals_of_fail_value, has_callback_at};
+ghost use Rattle.hp_files.specs.WritesByJournal.{IsTargetByEvents, IsTargetByRefusal, IsFailByEvents, IsFailByRefusal};
 
 use hp_hook::Hook;
 use hp_states::{BRINGUP_CPU, EINVAL, ONLINE, can_stop, is_atomic};
@@ -26,13 +20,8 @@ use hp_table::Table;
 pub fn check_target<H: Hook>(table: &Table<H>, value: i32) -> Result<u32, u32>
     ensures by_table { result
         ≡ unless_refused (first_that_holds (refusals_of_target_value table.now value)) (target_of value) }
-    ensures by_events { (head : AHead) (events : List Event) (cpu now : ℕ) → HasNamesOf head events table.now →
-        is_state value ≡ true →
-        IfErr result (λ errno. first_that_holds (refusals_of_target head events cpu (target_of value) now) ≡ Some errno) }
-    ensures by_refusal { (head : AHead) (events : List Event) (seat cpu : ℕ) → HasNamesOf head events table.now →
-        CanBeWritten head events seat cpu (Target cpu value) → is_reading seat events ≡ false →
-        refusal head events seat (Target cpu value)
-        ≡ refused_or result (λ state. first_that_holds (refusals_of_way head events cpu state (settled cpu events))) }
+    ensures by_events { IsTargetByEvents table.now value result }
+    ensures by_refusal { IsTargetByRefusal table.now value result }
 {
     if value < 0 || value > ONLINE as i32 {
         return Err(EINVAL);
@@ -45,8 +34,8 @@ pub fn check_target<H: Hook>(table: &Table<H>, value: i32) -> Result<u32, u32>
     }
 }
 
-/// The value that a write to the `fail` file of a processor says, which shows this state: -1, or the
-/// state at which its next walk is to fail.
+/// The value that a write to the `fail` file of a processor says, which shows this state: -1, or
+/// the state at which its next walk is to fail.
 ///
 /// - `EINVAL`, but for -1, where the value is no state, where the state is atomic, where it is a
 ///   PREPARE state and the processor stands above those, and where no callback is registered there.
@@ -56,12 +45,8 @@ pub fn check_target<H: Hook>(table: &Table<H>, value: i32) -> Result<u32, u32>
 pub fn check_fail<H: Hook>(table: &Table<H>, value: i32, shown: u32) -> Result<i32, u32>
     ensures by_table { result
         ≡ unless_refused (first_that_holds (refusals_of_fail_value table.now value shown)) value }
-    ensures by_events { (head : AHead) (events : List Event) (cpu : ℕ) → HasCallbacksOf head events table.now →
-        shown ≡ shown_of head cpu events →
-        result ≡ unless_refused (first_that_holds (refusals_of_arm head events cpu value)) value }
-    ensures by_refusal { (head : AHead) (events : List Event) (seat cpu : ℕ) → HasCallbacksOf head events table.now →
-        shown ≡ shown_of head cpu events → CanBeWritten head events seat cpu (Arm cpu value) →
-        result ≡ unless_refused (refusal head events seat (Arm cpu value)) value }
+    ensures by_events { IsFailByEvents table.now value shown result }
+    ensures by_refusal { IsFailByRefusal table.now value shown result }
 {
     if value == -1 {
         return Ok(value);

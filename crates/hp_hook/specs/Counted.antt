@@ -1,5 +1,5 @@
--- What a hook has counted: its rules, how often each was matched, how often it was called and how often its answer was a fault; and what
--- it answers by that, and has counted then. This project's own.
+-- What a hook has counted: its rules, how often each was matched, how often it was called and how often its answer was
+-- a fault; and what it answers by that, and has counted then. This project's own.
 use Rattle.std.specs.Prelude.{ℕ, ◌+◌, ◌≤◌, ◌==◌, if◌then◌else◌, List, [], All}
 use Rattle.hp_states.specs.declared.plan.Rule.{Rule}
 use Rattle.hp_states.specs.Rules.{Site, counted_answer, counts_of, raised}
@@ -9,8 +9,8 @@ pub record PlanCounts : Type 0 where
   pub plan : List Rule
   pub seen : List ℕ
 
--- what is seen of a hook: its plan, how many calls each rule has matched since the plan was set, how many calls were made since, and how
--- many of them were answered by another code than 0
+-- what is seen of a hook: its plan, how many calls each rule has matched since the plan was set, how many calls were
+-- made since, and how many of them were answered by another code than 0
 pub record Counts : Type 0 where
   pub plan : List Rule
   pub seen : List ℕ
@@ -25,8 +25,8 @@ faults_after faults answer = if answer == 0 then faults else faults + 1
 abbrev pub loaded : (plan : List Rule) → Counts
 loaded plan = record { plan = plan; seen = counts_of plan []; made = 0; faults = 0 }
 
--- what a hook that has counted this answers to a call: the code of the first rule that matches it and whose `nth` is absent or is the
--- rule's count with this call, and 0 where there is none
+-- what a hook that has counted this answers to a call: the code of the first rule that matches it and whose `nth` is
+-- absent or is the rule's count with this call, and 0 where there is none
 abbrev pub answer_to : Counts → Site → ℕ
 answer_to counts site = counted_answer counts.plan (raised counts.plan counts.seen site) site
 

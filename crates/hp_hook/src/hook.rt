@@ -13,8 +13,8 @@ use hp_states::{Dir, HookPlan, MAX_EVENTS};
 /// In the machine's terms it stands for the `startup` and `teardown` functions of a `cpuhp_step`
 /// (`core-api/cpu_hotplug.rst`); that it answers by a plan of rules is this project's own.
 pub trait Hook: Drop {
-    /// Its plan, for each rule how many calls it has matched since the plan was set, how many calls were
-    /// made since, and how many of them were answered by another code than 0.
+    /// Its plan, for each rule how many calls it has matched since the plan was set, how many calls
+    /// were made since, and how many of them were answered by another code than 0.
     ghost counts: { Self → Counts };
 
     /// Sets the plan, and begins all counts again at 0.

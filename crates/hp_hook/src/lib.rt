@@ -15,14 +15,12 @@
 //! No call of a hook takes memory.
 #![tactic(auto)]
 
-mod counted_plan;
 mod hook;
 mod rack;
 mod script_hook;
 #[cfg(test)]
 mod tests;
 
-pub use counted_plan::CountedPlan;
 pub use hook::Hook;
 pub use rack::Rack;
-pub use script_hook::ScriptHook;
+pub use script_hook::{CountedPlan, ScriptHook};

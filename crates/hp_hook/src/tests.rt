@@ -4,8 +4,8 @@ use std::alloc::{AllocError, Global};
 use std::sync::Arc;
 use std::sync::atomic::{AtomicU64, Ordering};
 
-/// A hook of the test's own: it answers as a script's hook does, and counts its calls where the test
-/// sees them too.
+/// A hook of the test's own: it answers as a script's hook does, and counts its calls where the
+/// test sees them too.
 #[derive(Drop)]
 struct SharedHook {
     inner: ScriptHook,

@@ -1,6 +1,6 @@
 -- An event of a client's operation that stands is the one that comes next of its seat and that operation.
-use Rattle.std.proofs.Common.{◌≡◌, ℕ, ◌+◌, Bool, true, false, eqb, ◌||◌, is_some, Some, None, List, [], ◌∷◌, inl, inr, refl, sym, ap, ◌∙◌, subst, arith}
-use Rattle.std.proofs.lemmas.Bool.{true≢false, eq-eqb, lt-ltb}
+use Rattle.std.proofs.Common.{◌≡◌, ℕ, Bool, true, false, ◌||◌, Some, List, [], ◌∷◌, inl, inr, refl, sym, ap, ◌∙◌, subst}
+use Rattle.std.proofs.lemmas.Bool.{eq-eqb}
 use Rattle.hp_event.specs.declared.answer.Answer.{Answer}
 use Rattle.hp_event.specs.declared.event.File.{File}
 use Rattle.hp_event.specs.declared.event.File.TheVariants.{State, Target, Fail, States}
@@ -13,8 +13,6 @@ use Rattle.hp_event.specs.declared.event.Event.TheVariants as event
 use Rattle.hp_model.specs.Events.{seat_of, showing, BelongsTo}
 use Rattle.hp_model.specs.FirstEvent.{is_client}
 use Rattle.hp_model.specs.Lawful.{Stands, IsLawful}
-use Rattle.hp_event.specs.Heads.{occurs}
-use Rattle.hp_model.specs.Lists.{among}
 use Rattle.hp_model.specs.MapLock.{Operation, operation, is_map_op}
 use Rattle.hp_model.specs.NextEvent.{next_event}
 use Rattle.hp_model.specs.Pending.{IsInFlight}
@@ -24,15 +22,15 @@ use Rattle.hp_model.specs.StandsOperations.{OpEnds}
 use Rattle.hp_model.specs.StandsRegistrations.{RegEnds}
 use Rattle.hp_model.specs.Subsystems.{names_sub}
 use Rattle.hp_model.specs.UnderWay.{under_way, next_of_registration}
-use Rattle.hp_model.specs.Walks.{walk, walking}
-use Rattle.hp_model.proofs.InFlight.{walking_is}
+use Rattle.hp_model.specs.Walks.{walking}
+use Rattle.hp_model.proofs.InFlight.{none_walking}
 use Rattle.hp_model.proofs.NextGives.{next_exactly}
 use Rattle.hp_model.proofs.OneNext.{owners}
 use Rattle.hp_model.proofs.Operations.{Operations, Entered}
 use Rattle.hp_model.proofs.Owners.{idle_op, idle_reg, not_self}
 use Rattle.hp_model.proofs.RegistrationGives as by_registration
 use Rattle.hp_model.proofs.SomeMoves.{facts, entered_op}
-use Rattle.hp_ledger.proofs.BusyNext.{found}
+use Rattle.hp_machine.proofs.BusyNext.{found}
 use Rattle.hp_law.specs.Asked.{asked_by, IsOfOperation}
 
 -- it comes next of a client's seat and the operation that it says, which speaks of subsystems of the head
@@ -91,17 +89,6 @@ of_holder head es k o x e lawful held by stands s of =
         (record { client = client; same = same; has_sub = names_entered head es o (facts head es lawful).operations held })).1 (stands, s, of takes)
 
 -- of the seat whose registration ends
-self_among : (c : ℕ) (cs : List ℕ) → among c (c ∷ cs) ≡ true
-self_among c cs = let self : eqb c c ≡ true = eq-eqb c c refl in rw self (lt-ltb 0 (1 + occurs c cs) (omega arith))
-
-nothing_walks : (es : List Event) → ((c : ℕ) → walk c es ≡ None) → walking es ≡ []
-nothing_walks es none = go (walking es) refl
-  where
-    go : (cs : List ℕ) → walking es ≡ cs → walking es ≡ []
-    go [] is = is
-    go (c ∷ cs) is =
-        absurd (true≢false (sym (self_among c cs) ∙ ap (among c) (sym is) ∙ walking_is c es ∙ ap is_some (none c)))
-
 registering_alone : (head : Head) (es : List Event) (e : Event) → walking es ≡ [] →
     next_of_registration head es (registration es) ≡ Some e → under_way head es ≡ e ∷ []
 unfolding under_way
@@ -119,7 +106,7 @@ of_registration : (head : Head) (es : List Event) (k : ℕ) (answer : Answer) (x
 of_registration head es k answer x lawful h =
     let r = h.of in
     let kept = (facts head es lawful).kept.registration_kept in
-    let still = nothing_walks es (rw h.in_flight at kept).no_walk in
+    let still = none_walking es (rw h.in_flight at kept).no_walk in
     let next = by_registration.gives_end head es k answer h in (
       subst (λ n. role_of n es ≡ Some Client) h.seat_is ((owners head es lawful).reg_client r h.in_flight),
       found head es k x (event.RegEnd k answer) (registering_busy es k r h.in_flight h.seat_is)

@@ -14,11 +14,11 @@ use Rattle.hp_model.specs.FirstEvent.{is_client}
 use Rattle.hp_model.specs.NextEvent.{next_event, due_entry}
 use Rattle.hp_model.specs.Seats.{role_of}
 use Rattle.hp_model.proofs.DueGives.{due_exactly}
-use Rattle.hp_ledger.specs.declared.next.Next.{Next}
-use Rattle.hp_ledger.specs.declared.next.Next.TheVariants as answer
-use Rattle.hp_ledger.proofs.FullNone.{full_none}
-use Rattle.hp_ledger.specs.Entries.{entry_event}
-use Rattle.hp_ledger.specs.Next.{IsNext}
+use Rattle.hp_machine.specs.declared.next.Next.{Next}
+use Rattle.hp_machine.specs.declared.next.Next.TheVariants as answer
+use Rattle.hp_machine.proofs.FullNone.{full_none}
+use Rattle.hp_account.specs.Entries.{entry_event}
+use Rattle.hp_machine.specs.Next.{IsNext}
 use Rattle.hp_model.specs.Subsystems.{names_sub}
 use Rattle.hp_model.proofs.NextStands.{next_stands}
 use Rattle.hp_law.specs.Asked.{asked_by, IsOfOperation}
@@ -64,7 +64,7 @@ pub none_due : (head : Head) (es : List Event) (k : ℕ) (e : Event) → IsLawfu
 none_due head es k e lawful call by is =
     let x = by_due head es k e None lawful call by is in (λ h. absurd (true≢false (sym h)), λ s. absurd (none_some e (x.1 s)))
 
--- what the ledger says comes next decides
+-- what the machine says comes next decides
 pub comes_event : (head : Head) (es : List Event) (k : ℕ) (op : Op) (e next : Event) (takes : ℕ) (same : Bool) → IsLawful head es →
     IsOfOperation e → k ≡ seat_of e → op ≡ asked_by e → IsNext head es k op (answer.Event next takes) → IsTrue same ↔ (next ≡ e) →
     IsTrue same ↔ Stands head es e

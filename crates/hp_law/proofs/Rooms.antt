@@ -3,8 +3,8 @@ use Rattle.std.proofs.Common.{◌≡◌, ℕ, Bool, true, false, IsTrue, ◌↔�
 use Rattle.std.specs.Bool.{then_some}
 use Rattle.hp_event.specs.declared.head.Head.{Head}
 use Rattle.hp_event.specs.declared.event.Event.{Event}
-use Rattle.hp_ledger.specs.declared.next.Next.TheVariants as answer
-use Rattle.hp_ledger.specs.Next.{IsNext}
+use Rattle.hp_machine.specs.declared.next.Next.TheVariants as answer
+use Rattle.hp_machine.specs.Next.{IsNext}
 use Rattle.hp_model.specs.Lawful.{Stands, IsLawful}
 use Rattle.hp_model.specs.Needs.{need, taken}
 use Rattle.hp_model.specs.Events.{seat_of}
@@ -22,7 +22,7 @@ room_by head es e false n decides takes = record { stands = decides; takes = tt 
 pub no_room : (head : Head) (es : List Event) (e : Event) → IsTrue false ↔ Stands head es e → IsRoomOf head es e None
 no_room head es e decides = record { stands = decides; takes = tt }
 
--- what the ledger says comes next, and its room
+-- what the machine says comes next, and its room
 pub room_next : (head : Head) (es : List Event) (k : ℕ) (op : Op) (e next : Event) (takes : ℕ) (same : Bool) → IsLawful head es →
     IsOfOperation e → k ≡ seat_of e → op ≡ asked_by e → IsNext head es k op (answer.Event next takes) → IsTrue same ↔ (next ≡ e) →
     IsRoomOf head es e (then_some same takes)

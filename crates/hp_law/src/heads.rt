@@ -4,7 +4,7 @@ ghost use Rattle.std.specs.Prelude.{◌≡◌, ◌↔◌, ◌≤◌, IsTrue, All
 ghost use Rattle.hp_model.specs.Heads.{IsRule, IsSub, IsHead};
 
 use hp_event::{Head, Sub};
-use hp_ledger::are_absent;
+use hp_machine::are_absent;
 use hp_states::{
     MAX_CODE, MAX_CPUS, MAX_EVENTS, MAX_INSTANCE, MAX_RULE_CPU, MAX_RULES, MAX_SUBS, Rule, is_name,
 };

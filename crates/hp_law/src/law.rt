@@ -1,22 +1,21 @@
 //! The machine of a journal's checker.
 
 ghost use Rattle.std.specs.Prelude.{◌≡◌, ◌↔◌, ◌++◌, ◌∷◌, [], true, false, IsTrue, IfOk, OnOk, OnErr, length, is_some};
-ghost use Rattle.hp_ledger.specs.TableChanges.{brings_hook};
+ghost use Rattle.hp_account.specs.TableChanges.{brings_hook};
 ghost use Rattle.hp_model.specs.Heads.{IsHead};
 ghost use Rattle.hp_model.specs.How.{answer_at};
 ghost use Rattle.hp_model.specs.Lawful.{Stands};
 ghost use Rattle.hp_model.specs.Needs.{need as room_need, taken};
 ghost use Rattle.hp_model.specs.NextEvent.{due_entry};
-ghost use Rattle.hp_model.specs.FirstEvent.{is_client};
 ghost use Rattle.hp_law.specs.Asked.{IsOfOperation};
 ghost use Rattle.hp_law.specs.RoomOf.{IsRoomOf};
 
 use crate::asked::asked_by;
 use crate::same::same;
-use hp_event::{Event, Head, Journal, Op, Role};
+use hp_account::Entry;
+use hp_event::{Event, Head, Journal, Op};
 use hp_hook::ScriptHook;
-use hp_ledger::{Entry, Next, names_sub};
-use hp_machine::Machine;
+use hp_machine::{Machine, Next, names_sub};
 use hp_states::NoMemory;
 use std::alloc::Global;
 use std::marker::Model;
@@ -189,8 +188,7 @@ impl Law {
         self.machine.sound();
         let seat = event.seat();
         let op = asked_by(event);
-        let role = self.machine.role(seat);
-        if !is_client(role) {
+        if !self.machine.is_client(seat) {
             return None;
         }
         if !names_sub(self.machine.journal().head(), &op) {
@@ -201,13 +199,6 @@ impl Law {
             _ => None,
         }
     }
-}
-
-/// Whether a seat with this role is in as a client.
-fn is_client(role: Option<Role>) -> bool
-    ensures { result ≡ is_client role }
-{
-    matches!(role, Some(Role::Client))
 }
 
 /// The hook that an event brings: that of a setup which begins.

@@ -4,12 +4,12 @@
 //! after those before it: hp_model's definitions `IsHead` and `Stands`. `is_head` decides the first; a
 //! `Law` is started with such a head, says whether one event more can stand, and takes it.
 //!
-//! A `Law` stands on the account that `hp_ledger` keeps, and beside it a table with a hook for each
+//! A `Law` stands on the account that `hp_account` keeps, and beside it a table with a hook for each
 //! registered state, which answers by its subsystem's rules. So each event takes a time that doesn't
 //! grow with the journal. No hook of anybody else's is called.
 //!
 //! Journals that are lawful, and refused with one line changed, are texts in `hp_replay_tests`; heads, full
-//! journals, and what no text can say are tested in `hp_law_tests`.
+//! journals, and what no text can say are tested in `hp_machine_tests`.
 #![tactic(auto)]
 
 mod asked;

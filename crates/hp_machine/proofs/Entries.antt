@@ -11,15 +11,15 @@ use Rattle.hp_model.specs.How.{answer_at as answer_of_plan}
 use Rattle.hp_model.specs.Lawful.{Stands, IsLawful}
 use Rattle.hp_table.specs.Kept.{answer_at}
 use Rattle.hp_table.specs.Step.{Step, step_at, changed_at, called_step}
-use Rattle.hp_ledger.specs.declared.entry.Entry.{Entry}
-use Rattle.hp_ledger.specs.declared.entry.Means.{Means}
-use Rattle.hp_ledger.specs.declared.entry.Means.TheVariants.{Presumed, Empty, Injected, Hook}
-use Rattle.hp_ledger.specs.Entries.{entry_event, entry_made, how_by, how_of_means}
-use Rattle.hp_ledger.specs.Table.{IsTableOf}
-use Rattle.hp_ledger.specs.TableChanges.{table_after}
-use Rattle.hp_ledger.proofs.EventTables.{calls_hook}
-use Rattle.hp_ledger.proofs.HookAnswers.{answers_there}
-use Rattle.hp_ledger.proofs.TableMore.{table_same, answered_called}
+use Rattle.hp_account.specs.declared.under_way.Entry.{Entry}
+use Rattle.hp_account.specs.declared.under_way.Means.{Means}
+use Rattle.hp_account.specs.declared.under_way.Means.TheVariants.{Presumed, Empty, Injected, Hook}
+use Rattle.hp_account.specs.Entries.{entry_event, entry_made, how_by, how_of_means}
+use Rattle.hp_account.specs.Table.{IsTableOf}
+use Rattle.hp_account.specs.TableChanges.{table_after}
+use Rattle.hp_machine.proofs.EventTables.{calls_hook}
+use Rattle.hp_machine.proofs.HookAnswers.{answers_there}
+use Rattle.hp_account.proofs.TableMore.{table_same, answered_called}
 
 -- the state's hook stands there, can be called, and its answer decides
 pub record IsByHook (head : Head) (es : List Event) (places : List (Option Step)) (x : Entry) : Type 0 where

@@ -14,7 +14,7 @@ use Rattle.hp_reg.specs.Known.{IsKnown}
 use Rattle.hp_hook.specs.Counted.{Counts, counted}
 use Rattle.hp_table.specs.Step.{Step, step_at, changed, changed_at, called_step, lent_step, step_with, is_home}
 use Rattle.hp_table.proofs.Places.{at_each, within_places, step_at-set_same, step_at-set_other}
-use Rattle.hp_ledger.specs.Table.{IsTableOf, IsStepOf, HasOf, HasRegistration, registered_by, registered_in_flight, registered_meanwhile}
+use Rattle.hp_account.specs.Table.{IsTableOf, IsStepOf, HasOf, HasRegistration, registered_by, registered_in_flight, registered_meanwhile}
 
 same_in_flight : (op : Op) (step : Step) → registered_in_flight op (Some step) ≡ registered_in_flight op (Some (lent_step step))
 same_in_flight (Setup asked sub form) step = refl

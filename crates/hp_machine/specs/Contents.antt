@@ -5,7 +5,7 @@ use Rattle.hp_states.specs.declared.cpu_set.CpuSet.{CpuSet}
 use Rattle.hp_event.specs.declared.head.Head.{Head}
 use Rattle.hp_event.specs.declared.event.Event.{Event}
 use Rattle.hp_table.specs.Step.{Step}
-use Rattle.hp_ledger.specs.TableChanges.{table_after}
+use Rattle.hp_account.specs.TableChanges.{table_after}
 
 pub record Contents : Type 0 where
   pub head : Head

@@ -1,2 +1,14 @@
+pub mod Next
+pub mod Blocked
+pub mod CanShow
+pub mod First
+pub mod NamedIn
+pub mod Between
+pub mod Room
+pub mod Upmany
+pub mod Machine
+pub mod Leaving
+pub mod Clients
+pub mod Heads
 pub mod Contents
 pub mod Admission

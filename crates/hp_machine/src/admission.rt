@@ -4,6 +4,7 @@ ghost use Rattle.std.specs.Prelude.{◌≡◌, ◌≢◌, ◌↔◌, IsTrue, Non
 ghost use Rattle.hp_event.specs.declared.event.Event.TheVariants.{Admit, Leave};
 ghost use Rattle.hp_machine.specs.Admission.{refusal_of};
 ghost use Rattle.hp_machine.specs.Contents.{with_event};
+ghost use Rattle.hp_machine.specs.Leaving.{can_leave};
 ghost use Rattle.hp_model.specs.Lawful.{Stands};
 ghost use Rattle.hp_model.specs.Seats.{admits};
 
@@ -100,7 +101,17 @@ impl<H: Hook> Machine<H> {
     pub fn can_leave(&self, seat: u32) -> bool
         ensures { IsTrue result ↔ Stands self.now.head self.now.events (Leave seat) }
     {
-        self.ledger.can_leave(&self.table, seat)
+        self.has_nothing_to_do(seat)
+    }
+
+    /// Whether a seat is in, reads nothing, has nothing in flight, and owes no entry. Takes no memory.
+    fn has_nothing_to_do(&self, seat: u32) -> bool
+        ensures { result ≡ can_leave self.now.head self.now.events seat }
+    {
+        self.role(seat).is_some()
+            && !self.is_reading(seat)
+            && !self.is_busy(seat)
+            && self.due(seat).is_none()
     }
 
     /// Lets a seat go, and answers the place of the event.
@@ -111,8 +122,10 @@ impl<H: Hook> Machine<H> {
         ensures place { result ≡ length self.old.events }
         ensures left { self.new ≡ with_event self.old (Leave seat) }
     {
-        let at = self.ledger.journal().len();
-        self.ledger.append(&self.table, &Event::Leave { seat });
+        let at = self.journal.len();
+        self.coming = self
+            .account
+            .append(&mut self.journal, &self.table, &Event::Leave { seat }, 0);
         at
     }
 }

@@ -1,14 +1,14 @@
 //! Hooks that are lent.
 
 ghost use Rattle.std.specs.Prelude.{◌≡◌, ◌↔◌, ◌==◌, ◌||◌, ℕ, true, IfSome, IfNone, IsSome};
-ghost use Rattle.hp_ledger.specs.Entries.{entry_event};
+ghost use Rattle.hp_account.specs.Entries.{entry_event};
 ghost use Rattle.hp_model.specs.Lawful.{Stands};
 ghost use Rattle.hp_states.specs.CpuSets.{has};
 ghost use Rattle.hp_table.specs.Step.{step_at, changed_at, lent_step, is_home, HasCounted};
 
 use crate::machine::Machine;
+use hp_account::Entry;
 use hp_hook::Hook;
-use hp_ledger::Entry;
 
 impl<H: Hook> Machine<H> {
     /// Lends the hook of the state of an entry that is due, if one is registered there and its hook isn't lent;

@@ -8,15 +8,27 @@
 //! memory is wanting; an entry and a leave use room that was promised.
 //!
 //! Contracts see the head, the events, what stands at each state, and the processors for whose entries hooks
-//! are lent (`specs/Contents.antt`). The journal is lawful at any time and the table is the journal's, so
-//! that no call has that as a condition. Only `start`, `make` and `admit` take memory, and no call looks at
-//! the events.
+//! are lent (`specs/Contents.antt`). The journal is lawful at any time, the account is its, and so is the table
+//! (`specs/Machine.antt`), so that no call has that as a condition. What is answered is said by hp_model's
+//! definitions: `specs/Next.antt` of what comes next, `specs/Blocked.antt` of refusals and waits,
+//! `specs/Admission.antt` of who may come in; the other specs are for the machine's own calls. Only `start`,
+//! `make` and `admit` take memory, and no call looks at the events.
 #![tactic(auto)]
 
 mod admission;
+mod due;
+mod files;
+mod heads;
 mod lending;
 mod machine;
 mod making;
+mod next;
+mod refusals;
+mod room;
+mod upmany;
+mod waits;
 
 pub use admission::AdmitError;
+pub use heads::{are_absent, names_sub};
 pub use machine::Machine;
+pub use next::Next;

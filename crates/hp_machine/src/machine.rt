@@ -1,32 +1,28 @@
 //! The machine.
 
-ghost use Rattle.std.specs.Prelude.{◌≡◌, ◌+◌, ◌<◌, ◌≤◌, ◌↔◌, ℕ, [], true, false, None, Some, IfOk, IfSome, IfNone, option_map, length, replicate};
+ghost use Rattle.std.specs.Prelude.{◌≡◌, ◌+◌, ◌<◌, ◌↔◌, ℕ, [], false, None, Some, IfOk, option_map, replicate};
 ghost use Rattle.hp_states.specs.CpuSets.{has};
-ghost use Rattle.hp_states.specs.declared.limits.TheConstants.{MAX_EVENTS, ONLINE};
-ghost use Rattle.hp_event.specs.declared.event.Role.TheVariants.{Client};
+ghost use Rattle.hp_states.specs.declared.limits.TheConstants.{ONLINE};
 ghost use Rattle.hp_event.specs.declared.op.Op.{Op as AnOp};
-ghost use Rattle.hp_ledger.specs.Clients.{clients};
-ghost use Rattle.hp_ledger.specs.Next.{IsNext, IsDue};
-ghost use Rattle.hp_ledger.specs.Table.{IsTableOf};
-ghost use Rattle.hp_ledger.specs.UnderWay.{IsDueOn, NoneDue, IsThreadDue, NoThreadDue, hook_asked};
-ghost use Rattle.hp_model.specs.ApTurn.{IsApTurn};
+ghost use Rattle.hp_account.specs.Table.{IsTableOf};
+ghost use Rattle.hp_machine.specs.Clients.{clients};
+ghost use Rattle.hp_model.specs.FirstEvent.{is_client};
 ghost use Rattle.hp_model.specs.Heads.{IsHead};
-ghost use Rattle.hp_model.specs.Lawful.{IsLawful, Stands};
+ghost use Rattle.hp_model.specs.Lawful.{IsLawful};
 ghost use Rattle.hp_model.specs.Lists.{among};
 ghost use Rattle.hp_model.specs.MapLock.{Operation, operation};
-ghost use Rattle.hp_model.specs.Needs.{need, taken};
 ghost use Rattle.hp_model.specs.Pending.{IsInFlight};
 ghost use Rattle.hp_model.specs.Promised.{promised};
+ghost use Rattle.hp_model.specs.Readers.{is_reading};
 ghost use Rattle.hp_model.specs.Registrations.{Registration, registration};
 ghost use Rattle.hp_model.specs.Seats.{admits, ap_seat, is_busy, role_of};
 ghost use Rattle.hp_model.specs.Settled.{settled};
-ghost use Rattle.hp_model.specs.Subsystems.{names_sub};
 ghost use Rattle.hp_model.specs.Suspend.{disabled, frozen};
 ghost use Rattle.hp_table.specs.Sound.{IsSound};
 
-use hp_event::{Event, Head, Journal, Op, Role};
+use hp_account::{Account, Coming};
+use hp_event::{Head, Journal, Op, Role};
 use hp_hook::Hook;
-use hp_ledger::{Entry, Ledger, Next};
 use hp_states::{CpuSet, NoMemory};
 use hp_table::Table;
 use std::alloc::Global;
@@ -41,25 +37,28 @@ use std::marker::Model;
 /// the journal since the setup that registered it began.
 #[derive(Drop)]
 pub struct Machine<H: Hook> {
-    pub(crate) ledger: Ledger,
+    pub(crate) journal: Journal,
+    pub(crate) account: Account,
+    /// What is under way, found anew at each event.
+    pub(crate) coming: Option<Coming>,
     pub(crate) table: Table<H>,
     pub(crate) lent: CpuSet,
 }
 
 impl<H: Hook> Model for Machine<H> {
-    ghost use Rattle.hp_ledger.specs.Machine.{IsMachine};
+    ghost use Rattle.hp_machine.specs.Machine.{IsMachine};
     ghost use Rattle.hp_machine.specs.Contents.{Contents};
 
     ghost Value = { Contents };
 
     ghost view = { λ m. record {
-      head = m.ledger.head;
-      events = m.ledger.events;
+      head = m.journal.head;
+      events = m.journal.events;
       places = m.table;
       lent = m.lent;
     } };
 
-    ghost invariant = { λ m. IsMachine m.ledger m.table };
+    ghost invariant = { λ m. IsMachine m.journal m.account m.coming m.table };
 }
 
 impl<H: Hook> Machine<H> {
@@ -80,9 +79,11 @@ impl<H: Hook> Machine<H> {
         ensures nothing_lent { IfOk result (λ m. (cpu : ℕ) → has m.lent cpu ≡ false) }
     {
         let table = Table::new(alloc)?;
-        let ledger = Ledger::new(alloc, head)?;
+        let account = Account::new(alloc, &head)?;
         Ok(Machine {
-            ledger,
+            journal: Journal::new(alloc, head),
+            account,
+            coming: None,
             table,
             lent: CpuSet::none(),
         })
@@ -98,7 +99,7 @@ impl<H: Hook> Machine<H> {
         ensures places { IsSound self.now.places }
     {
         // what is so of every machine
-        let _ = &self.ledger;
+        let _ = &self.journal;
         self.table.sound();
     }
 
@@ -107,17 +108,13 @@ impl<H: Hook> Machine<H> {
         ensures head { result.now.head ≡ self.now.head }
         ensures events { result.now.events ≡ self.now.events }
     {
-        // what is so of every machine
-        let _ = &self.table;
-        self.ledger.journal()
+        &self.journal
     }
 
     /// The table of what is registered. Takes no memory.
     pub fn table(&self) -> &Table<H>
         ensures { result.now ≡ self.now.places }
     {
-        // what is so of every machine
-        let _ = &self.ledger;
         &self.table
     }
 
@@ -137,39 +134,53 @@ impl<H: Hook> Machine<H> {
         ensures promised { result.0.promised ≡ promised self.head self.events }
         ensures table { result.1 ≡ self.places }
     {
-        let Machine {
-            ledger,
-            table,
-            lent: _,
-        } = self;
-        (ledger.into_journal(), table)
+        let Machine { journal, table, .. } = self;
+        (journal, table)
     }
 
     /// The role of a seat that is in. Takes no memory.
     pub fn role(&self, seat: u32) -> Option<Role>
         ensures { result ≡ role_of seat self.now.events }
     {
-        // what is so of every machine
-        let _ = &self.table;
-        self.ledger.role(seat)
+        self.account.seats.role(seat)
+    }
+
+    /// Whether a seat is in as a client. Takes no memory. Seats are this project's own.
+    pub fn is_client(&self, seat: u32) -> bool
+        ensures { result ≡ is_client (role_of seat self.now.events) }
+    {
+        matches!(self.role(seat), Some(Role::Client))
     }
 
     /// How many seats were ever admitted, which is the number of the next. Takes no memory.
     pub fn admitted(&self) -> u32
         ensures { result ≡ admits self.now.events }
     {
-        // what is so of every machine
-        let _ = &self.table;
-        self.ledger.admitted()
+        self.account.seats.admitted()
     }
 
     /// The seat of a processor's thread, if it is in. Takes no memory.
     pub fn thread(&self, cpu: u32) -> Option<u32>
         ensures { result ≡ ap_seat cpu self.now.events }
     {
-        // what is so of every machine
-        let _ = &self.table;
-        self.ledger.thread(cpu)
+        self.account.seats.thread(cpu)
+    }
+
+    /// The processor whose thread is in as this seat, if one's is. Takes no memory.
+    pub(crate) fn processor_of(&self, seat: u32) -> Option<u32>
+        ensures { (cpu : ℕ) → (ap_seat cpu self.now.events ≡ Some seat) ↔ (result ≡ Some cpu) }
+    {
+        match self.account.seats.role(seat) {
+            Some(Role::Ap(cpu)) => Some(cpu),
+            _ => None,
+        }
+    }
+
+    /// How many clients are in. Takes no memory, and time for the seats that were admitted.
+    pub fn clients(&self) -> u32
+        ensures { result ≡ clients self.now.events }
+    {
+        self.account.seats.clients()
     }
 
     /// The state where a processor was left by its last walk.
@@ -179,27 +190,48 @@ impl<H: Hook> Machine<H> {
         requires { cpu < self.now.head.possible }
         ensures { result ≡ settled cpu self.now.events }
     {
-        self.ledger.state(cpu)
+        self.account.processors.state(cpu)
     }
 
-    /// The operation of a seat that is in flight, if one is: it holds the map lock, or registers. Takes no
-    /// memory.
+    /// Whether a seat is in a read section. Takes no memory. After `cpus_read_lock` of `kernel/cpu.c`.
+    pub(crate) fn is_reading(&self, seat: u32) -> bool
+        ensures { result ≡ is_reading seat self.now.events }
+    {
+        self.account.locks.reading(seat)
+    }
+
+    /// Whether an operation of a seat is in flight: it holds the map lock or registers.
+    ///
+    /// There is no condition; a number that is no seat has none. Takes no memory. This project's own.
+    pub fn is_busy(&self, seat: u32) -> bool
+        ensures { result ≡ is_busy seat self.now.events }
+    {
+        let locks = &self.account.locks;
+        locks.map_holder() == Some(seat) || locks.registrar() == Some(seat)
+    }
+
+    /// The operation of a seat that is in flight, if one is: it holds the map lock, or registers.
+    ///
+    /// There is no condition; a number that is no seat has none. Takes no memory.
     pub fn op(&self, seat: u32) -> Option<Op>
         ensures { (op : AnOp) → IsInFlight self.now.events (record { seat = seat; op = op }) ↔ (result ≡ Some op) }
     {
-        // what is so of every machine
-        let _ = &self.table;
-        self.ledger.op(seat)
+        match (&self.account.operation, &self.account.registration) {
+            (Some(held), _) if held.seat == seat => Some(held.op),
+            (_, Some(registration)) if registration.seat == seat => Some(registration.reg.op()),
+            _ => None,
+        }
     }
 
-    /// The seat that holds the map lock, if one does. Takes no memory. After `cpu_maps_update_begin` of
-    /// `kernel/cpu.c`.
+    /// The seat that holds the map lock, if one does: its operation is in flight. Takes no memory. After
+    /// `cpu_maps_update_begin` of `kernel/cpu.c`.
     pub fn holder(&self) -> Option<u32>
         ensures { result ≡ option_map (λ (o : Operation). o.seat) (operation self.now.events) }
     {
-        // what is so of every machine
-        let _ = &self.table;
-        self.ledger.holder()
+        match &self.account.operation {
+            Some(held) => Some(held.seat),
+            None => None,
+        }
     }
 
     /// The seat whose registration is in flight, if one is. Takes no memory. After `cpuhp_state_mutex` of
@@ -207,27 +239,17 @@ impl<H: Hook> Machine<H> {
     pub fn registrar(&self) -> Option<u32>
         ensures { result ≡ option_map (λ (r : Registration). r.seat) (registration self.now.events) }
     {
-        // what is so of every machine
-        let _ = &self.table;
-        self.ledger.registrar()
-    }
-
-    /// How many clients are in. Takes no memory, and time for the seats that were admitted.
-    pub fn clients(&self) -> u32
-        ensures { result ≡ clients self.now.events }
-    {
-        // what is so of every machine
-        let _ = &self.table;
-        self.ledger.clients()
+        match &self.account.registration {
+            Some(registration) => Some(registration.seat),
+            None => None,
+        }
     }
 
     /// How often hotplug is disabled. Takes no memory. After `cpu_hotplug_disabled` of `kernel/cpu.c`.
     pub fn disabled(&self) -> u32
         ensures { result ≡ disabled self.now.events }
     {
-        // what is so of every machine
-        let _ = &self.table;
-        self.ledger.disabled()
+        self.account.suspended.disabled()
     }
 
     /// Whether a processor is frozen: the last freeze took it down, and no thaw has ended since.
@@ -237,109 +259,6 @@ impl<H: Hook> Machine<H> {
         requires { cpu < self.now.head.possible }
         ensures { result ≡ among cpu (frozen self.now.events) }
     {
-        self.ledger.is_frozen(cpu)
-    }
-
-    /// How many events more the journal can promise. Takes no memory.
-    pub fn room(&self) -> u32
-        ensures { result + length self.now.events + promised self.now.head self.now.events ≡ MAX_EVENTS }
-    {
-        // what is so of every machine
-        let _ = &self.table;
-        self.ledger.room()
-    }
-
-    /// The room that an event takes which stands: for itself and for what has to follow it.
-    ///
-    /// Takes no memory, and time for the processors or for the states that a walk crosses.
-    pub fn need(&self, event: &Event) -> u32
-        requires { Stands self.now.head self.now.events event.now }
-        ensures { result ≡ taken (need self.now.head self.now.events event.now) }
-    {
-        self.ledger.need(&self.table, event)
-    }
-
-    /// Whether an operation of a seat is in flight. Takes no memory.
-    pub fn is_busy(&self, seat: u32) -> bool
-        ensures { result ≡ is_busy seat self.now.events }
-    {
-        // what is so of every machine
-        let _ = &self.table;
-        self.ledger.is_busy(seat)
-    }
-
-    /// What comes next of a client's seat and its operation: where it has one in flight, of that one,
-    /// whatever `op` is.
-    ///
-    /// The operation speaks of subsystems of the head alone. What is answered is what `Ledger::next` says.
-    /// Takes no memory, and time for the state's instances, the range, the processors or the states that a
-    /// walk crosses, and none for the journal. After the calls of `kernel/cpu.c`; that one event comes
-    /// next, and room, are this project's own.
-    pub fn next(&self, seat: u32, op: &Op) -> Next
-        requires client { role_of seat self.now.events ≡ Some Client }
-        requires subs { names_sub self.now.head op.now ≡ true }
-        ensures { IsNext self.now.head self.now.events seat op.now result }
-    {
-        self.ledger.next(&self.table, seat, op)
-    }
-
-    /// The entry that is due from a seat: what comes next of what is under way, where it is an entry and
-    /// this seat's to make.
-    ///
-    /// There is no condition. Takes no memory, and looks at no event. After `cpuhp_invoke_callback`
-    /// and `cpuhp_invoke_ap_callback` of `kernel/cpu.c`.
-    pub fn due(&self, seat: u32) -> Option<Entry>
-        ensures { IsDue self.now.head self.now.events seat result }
-    {
-        self.ledger.due(&self.table, seat)
-    }
-
-    /// The lowest processor from one on of which an entry is due, and the seat that it is due from, if there is
-    /// one. Of one processor at most one entry is due, and but in an upmany of one alone.
-    ///
-    /// There is no condition. Takes no memory, and time for the processors that walk. After
-    /// `cpuhp_invoke_callback` and `cpuhp_invoke_ap_callback` of `kernel/cpu.c`.
-    pub fn next_due(&self, from: u32) -> Option<(u32, u32)>
-        ensures some { IfSome result (λ due. (from ≤ due.0) × IsDueOn self.now.head self.now.events due.0 due.1
-            × NoneDue self.now.head self.now.events from due.0) }
-        ensures none { IfNone result (NoneDue self.now.head self.now.events from self.now.head.possible) }
-    {
-        self.ledger.next_due(&self.table, from)
-    }
-
-    /// The lowest processor from one on of which an entry is due from its thread, and the thread's seat, if there is
-    /// one.
-    ///
-    /// There is no condition. Takes no memory, and time for the processors whose threads make the next entries.
-    /// After `cpuhp_thread_fun` of `kernel/cpu.c`.
-    pub fn next_thread_due(&self, from: u32) -> Option<(u32, u32)>
-        ensures some { IfSome result (λ due. (from ≤ due.0) × IsThreadDue self.now.head self.now.events due.0 due.1
-            × NoThreadDue self.now.head self.now.events from due.0) }
-        ensures none { IfNone result (NoThreadDue self.now.head self.now.events from self.now.head.possible) }
-    {
-        self.ledger.next_thread_due(&self.table, from)
-    }
-
-    /// The processor whose thread has to make the next entry of the operation of a client's seat that is in
-    /// flight, if one has: then the seat waits for it.
-    ///
-    /// There is no condition. Takes no memory, and looks at no event. After `cpuhp_kick_ap` of
-    /// `kernel/cpu.c`.
-    pub fn ap_turn(&self, seat: u32) -> Option<u32>
-        ensures { (cpu : ℕ) → IsApTurn self.now.head self.now.events seat cpu ↔ (result ≡ Some cpu) }
-    {
-        self.ledger.ap_turn(&self.table, seat)
-    }
-
-    /// The state whose hook the next entry on a processor calls, where a client waits for that processor's thread
-    /// to make it; None where it calls none.
-    ///
-    /// There is no condition. Takes no memory, and looks at no event. After `cpuhp_invoke_ap_callback` of
-    /// `kernel/cpu.c`; that hooks are lent is this project's own.
-    pub fn hook_asked(&self, cpu: u32) -> Option<u32>
-        ensures { (seat : ℕ) (turn : IsApTurn self.now.head self.now.events seat cpu) →
-            result ≡ hook_asked turn.state turn.how }
-    {
-        self.ledger.hook_asked(&self.table, cpu)
+        self.account.suspended.is_frozen(cpu)
     }
 }

@@ -1,27 +1,28 @@
 //! How one event is made.
 
-ghost use Rattle.std.specs.Prelude.{◌≡◌, ◌+◌, ◌<◌, ◌++◌, ◌∷◌, ◌==◌, ◌&&◌, not, ℕ, [], length, true, false, OnOk, OnErr, IfSome, IsSome, is_some};
-ghost use Rattle.hp_ledger.specs.Entries.{entry_event};
-ghost use Rattle.hp_ledger.specs.Table.{IsTableOf};
-ghost use Rattle.hp_ledger.specs.TableChanges.{is_registering, brings_hook, hands_hook, registering_step, table_after};
-ghost use Rattle.hp_ledger.specs.declared.entry.Means.TheVariants.{Hook as ByHook};
+ghost use Rattle.std.specs.Prelude.{◌≡◌, ◌+◌, ◌<◌, ◌≤◌, ◌++◌, ◌∷◌, ◌==◌, ◌&&◌, not, ℕ, [], length, true, false, OnOk, OnErr, IfOk, IfSome, IsSome, is_some};
+ghost use Rattle.hp_account.specs.Accounted.{IsAccounted};
+ghost use Rattle.hp_account.specs.Entries.{entry_event};
+ghost use Rattle.hp_account.specs.Table.{IsTableOf};
+ghost use Rattle.hp_account.specs.TableChanges.{is_registering, brings_hook, hands_hook, registering_step, table_after};
+ghost use Rattle.hp_account.specs.declared.under_way.Means.TheVariants.{Hook as ByHook};
+ghost use Rattle.hp_hook.specs.Counted.{counted};
 ghost use Rattle.hp_machine.specs.Contents.{with_event};
+ghost use Rattle.hp_machine.specs.Machine.{IsMachine};
 ghost use Rattle.hp_model.specs.Events.{is_call};
 ghost use Rattle.hp_model.specs.Lawful.{Stands};
 ghost use Rattle.hp_model.specs.Needs.{need as need_of, taken};
-ghost use Rattle.hp_model.specs.Promised.{promised};
 ghost use Rattle.hp_model.specs.Registrations.{registration};
 ghost use Rattle.hp_states.specs.CpuSets.{has};
 ghost use Rattle.hp_states.specs.Rules.{site_at};
 ghost use Rattle.hp_states.specs.declared.limits.TheConstants.{MAX_EVENTS};
-ghost use Rattle.hp_hook.specs.Counted.{counted};
 ghost use Rattle.hp_table.specs.Kept.{answer_at};
 ghost use Rattle.hp_table.specs.Step.{step_at, is_home, AllHome, HasCounted};
 
 use crate::machine::Machine;
-use hp_event::{Event, JournalError};
+use hp_account::{Account, Coming, Entry, Means, change_table};
+use hp_event::{Event, Journal, JournalError};
 use hp_hook::Hook;
-use hp_ledger::{Entry, Ledger, Means, change_table};
 use hp_states::NoMemory;
 use hp_table::Table;
 
@@ -49,11 +50,21 @@ impl<H: Hook> Machine<H> {
         ensures err { OnErr result ((self.new ≡ self.old) × (hook.new ≡ hook.old)) }
         ensures memory { OnErr result (IsSome (need_of self.old.head self.old.events event.now)) }
     {
-        reserve(&mut self.ledger, need)?;
-        match put(&mut self.ledger, &mut self.table, event, hook) {
-            Ok(()) => Ok(()),
+        reserve(&mut self.journal, need)?;
+        match put(
+            &mut self.journal,
+            &mut self.account,
+            &mut self.table,
+            event,
+            need,
+            hook,
+        ) {
+            Ok(coming) => {
+                self.coming = coming;
+                Ok(())
+            }
             Err(NoMemory) => {
-                self.ledger.release();
+                self.journal.give_back(need);
                 Err(NoMemory)
             }
         }
@@ -71,10 +82,17 @@ impl<H: Hook> Machine<H> {
             Means::Hook => {
                 let state = entry.key.state;
                 let answer = self.table.call(state, entry.cpu, entry.key.inst, entry.dir);
-                self.ledger
-                    .append(&self.table, &entry.event(entry.how(answer)));
+                let event = entry.event(entry.how(answer));
+                self.coming = self
+                    .account
+                    .append(&mut self.journal, &self.table, &event, 0);
             }
-            _ => self.ledger.append(&self.table, &entry.event(entry.how(0))),
+            _ => {
+                let event = entry.event(entry.how(0));
+                self.coming = self
+                    .account
+                    .append(&mut self.journal, &self.table, &event, 0);
+            }
         }
     }
 
@@ -97,8 +115,10 @@ impl<H: Hook> Machine<H> {
     {
         self.lent.take(entry.cpu);
         self.table.restore(entry.key.state, hook);
-        self.ledger
-            .append(&self.table, &entry.event(entry.how(answer)));
+        let event = entry.event(entry.how(answer));
+        self.coming = self
+            .account
+            .append(&mut self.journal, &self.table, &event, 0);
     }
 }
 
@@ -106,17 +126,16 @@ impl<H: Hook> Machine<H> {
 ///
 /// Takes memory where that is some and the journal has not so many spare places; where that is wanting
 /// nothing has changed: `NoMemory`.
-fn reserve(ledger: &mut Ledger, need: u32) -> Result<(), NoMemory>
-    requires fits { MAX_EVENTS
-        < length ledger.old.events + promised ledger.old.head ledger.old.events + ledger.old.reserved + need → ⊥ }
-    ensures ok { OnOk result (ledger.new ≡ record ledger.old { reserved = ledger.old.reserved + need }) }
+fn reserve(journal: &mut Journal, need: u32) -> Result<(), NoMemory>
+    requires fits { length journal.old.events + journal.old.promised + need ≤ MAX_EVENTS }
+    ensures ok { OnOk result (journal.new ≡ record journal.old { promised = journal.old.promised + need }) }
     ensures memory { OnErr result (0 < need) }
-    ensures err { OnErr result (ledger.new ≡ ledger.old) }
+    ensures err { OnErr result (journal.new ≡ journal.old) }
 {
     if need == 0 {
         return Ok(());
     }
-    match ledger.reserve(need) {
+    match journal.reserve(need) {
         Ok(()) => Ok(()),
         Err(JournalError::NoMemory) => Err(NoMemory),
         Err(JournalError::Full) => unreachable!(),
@@ -124,41 +143,46 @@ fn reserve(ledger: &mut Ledger, need: u32) -> Result<(), NoMemory>
 }
 
 /// Changes the table as an event does that stands and is no entry, or takes what the seat needs that it lets
-/// in, and appends it. The room that it takes is reserved.
+/// in, and appends it. The room that it takes is reserved. Answers what is under way then.
 ///
 /// Takes memory where an instance is added or a seat let in; where that is wanting nothing has changed:
 /// `NoMemory`.
 #[inline(always)]
 fn put<H: Hook>(
-    ledger: &mut Ledger,
+    journal: &mut Journal,
+    account: &mut Account,
     table: &mut Table<H>,
     event: &Event,
+    need: u32,
     hook: &mut Option<H>,
-) -> Result<(), NoMemory>
-    requires stands { Stands ledger.old.head ledger.old.events event.now }
+) -> Result<Option<Coming>, NoMemory>
+    requires kept { IsAccounted journal.old need account.old }
+    requires stands { Stands journal.old.head journal.old.events event.now }
     requires no_entry { is_call event.now ≡ false }
-    requires room { ledger.old.reserved ≡ taken (need_of ledger.old.head ledger.old.events event.now) }
-    requires table { IsTableOf ledger.old.head ledger.old.events table.old }
+    requires room { need ≡ taken (need_of journal.old.head journal.old.events event.now) }
+    requires table { IsTableOf journal.old.head journal.old.events table.old }
     requires brings { is_registering event.now ≡ true → is_some hook.old ≡ brings_hook event.now }
     requires home { is_registering event.now ≡ true → AllHome table.old }
-    ensures put { OnOk result (ledger.new
-        ≡ record { head = ledger.old.head; events = ledger.old.events ++ event.now ∷ []; reserved = 0 }) }
-    ensures changed { OnOk result (table.new ≡ table_after ledger.old.head ledger.old.events event.now table.old) }
-    ensures table { OnOk result (IsTableOf ledger.old.head (ledger.old.events ++ event.now ∷ []) table.new) }
+    ensures machine { IfOk result (λ coming. IsMachine journal.new account.new coming table.new) }
+    ensures head { OnOk result (journal.new.head ≡ journal.old.head) }
+    ensures events { OnOk result (journal.new.events ≡ journal.old.events ++ event.now ∷ []) }
+    ensures changed { OnOk result (table.new
+        ≡ table_after journal.old.head journal.old.events event.now table.old) }
     ensures hands { OnOk result (is_registering event.now ≡ true →
-        is_some hook.new ≡ hands_hook ledger.old.events event.now) }
+        is_some hook.new ≡ hands_hook journal.old.events event.now) }
     ensures hook { OnOk result (is_registering event.now ≡ true →
-        IfSome hook.new (λ h. HasCounted (H.counts h) (registering_step (registration ledger.old.events) table.old))) }
+        IfSome hook.new (λ h. HasCounted (H.counts h)
+        (registering_step (registration journal.old.events) table.old))) }
     ensures left { OnOk result (is_registering event.now ≡ false → hook.new ≡ hook.old) }
-    ensures err { OnErr result ((ledger.new ≡ ledger.old) × (table.new ≡ table.old) × (hook.new ≡ hook.old)) }
-    ensures memory { OnErr result (IsSome (need_of ledger.old.head ledger.old.events event.now)) }
+    ensures err { OnErr result ((journal.new ≡ journal.old) × (account.new ≡ account.old)
+        × (table.new ≡ table.old) × (hook.new ≡ hook.old)) }
+    ensures memory { OnErr result (IsSome (need_of journal.old.head journal.old.events event.now)) }
 {
     match *event {
-        Event::Admit { role, .. } => ledger.admit(table, role),
+        Event::Admit { role, .. } => account.admit(journal, table, role),
         _ => {
-            change_table(table, ledger, event, hook)?;
-            ledger.append(table, event);
-            Ok(())
+            change_table(table, journal, account, event, hook)?;
+            Ok(account.append(journal, table, event, need))
         }
     }
 }

@@ -1,5 +1,5 @@
 -- How many operations of an actor are answered is what the journal shows of its seat, and its answers without an event.
-use Rattle.std.proofs.Common.{◌≡◌, ℕ, zero, suc, ◌+◌, ◌-◌, ◌<◌, ◌≤◌, Bool, true, false, cond, ◌&&◌, eqb, ltb, Option, Some, None, List, [], ◌∷◌, ◌++◌, length, get_or, replicate, refl, ap, sym, ◌∙◌, subst, inl, inr, arith}
+use Rattle.std.proofs.Common.{◌≡◌, ℕ, ◌+◌, ◌-◌, ◌<◌, ◌≤◌, Bool, true, false, cond, ◌&&◌, eqb, ltb, Option, Some, None, List, [], ◌∷◌, ◌++◌, length, get_or, refl, ap, sym, ◌∙◌, subst, inl, inr, arith}
 use Rattle.std.specs.Prelude.{count_by}
 use Rattle.std.proofs.lemmas.Bool.{true≢false, false≢true, eqb-true, eq-eqb, and_parts, ltb-false, le-ltb}
 use Rattle.std.proofs.lemmas.Bool.Decides.{nat_tests}
@@ -24,8 +24,8 @@ use Rattle.hp_model.proofs.Roster.{AreAdmits, admissions_are}
 use Rattle.hp_model.proofs.NextGives.{full_only, full_exactly}
 use Rattle.hp_model.proofs.FindsOne.{finds_one}
 use Rattle.hp_model.proofs.AnswerCounts.{counted_other, counted_same}
-use Rattle.hp_model.proofs.Going.{IsGoing, asks_allowed, turn_going, start_going}
-use Rattle.hp_model.proofs.TurnsMake.{no_answer, turn_makes}
+use Rattle.hp_model.proofs.Going.{IsGoing, asks_allowed, turn_going, start_going, no_answer, none_counted}
+use Rattle.hp_model.proofs.TurnsMake.{turn_makes}
 
 count_push : (p : Event → Bool) (xs : List Event) (e : Event) → count_by p (xs ++ e ∷ []) ≡ count_by p xs + cond (p e) 1 0
 count_push p xs e = sum_by_push (λ e. cond (p e) 1 0) xs e
@@ -35,7 +35,7 @@ answered_push : (k : ℕ) (xs : List Event) (e : Event) →
 answered_push k xs e = count_push (λ e. is_answer e && eqb (seat_of e) k) xs e
 
 -- an event more is counted for its actor exactly where it answers
-pub counts_more : (head : Head) (actors : List (List Op)) (at : RunState) (k : ℕ) (e : Event) (without j : ℕ) →
+counts_more : (head : Head) (actors : List (List Op)) (at : RunState) (k : ℕ) (e : Event) (without j : ℕ) →
     IsGoing head actors at → j < length actors →
     get_or at.answers j 0 ≡ answered (length (present head) + j) at.events + without → CanTake head actors at k e →
     get_or (counted (k - length (present head)) (is_answer e) at.answers) j 0
@@ -100,12 +100,7 @@ admits_answer k (Admit seat role ∷ es) h =
     omega (arith, r, c)
 admits_answer k (e ∷ es) h = elim h [ ]
 
-pub none_counted : (n i : ℕ) → ◌≡◌ {A = ℕ} (get_or (replicate n 0) i 0) 0
-none_counted zero i = refl
-none_counted (suc n) zero = refl
-none_counted (suc n) (suc i) = none_counted n i
-
-pub none_answered : (head : Head) (actors : List (List Op)) (k : ℕ) → ◌≡◌ {A = ℕ} (answered k (admissions head actors)) 0
+none_answered : (head : Head) (actors : List (List Op)) (k : ℕ) → ◌≡◌ {A = ℕ} (answered k (admissions head actors)) 0
 none_answered head actors k = admits_answer k (admissions head actors) (admissions_are head actors)
 
 -- a turn that answers an operation of an actor without an event

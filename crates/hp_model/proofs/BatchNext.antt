@@ -24,7 +24,8 @@ use Rattle.hp_model.proofs.WaitLemmas.{later_walk}
 use Rattle.hp_model.proofs.BatchLemmas.{upmany_begins, walking_begun}
 use Rattle.hp_model.proofs.TurnLemmas.{is_turn, turn_own, some_turn}
 use Rattle.hp_model.proofs.NextOfWalk.{EndsNext, EntryNext, walk_next}
-use Rattle.hp_model.proofs.WalkGives.{Given, gives_call, gives_whole, walk_given}
+use Rattle.hp_model.proofs.Errands.{Given}
+use Rattle.hp_model.proofs.WalkGives.{gives_call, gives_whole, walk_given}
 
 -- the next entry of a walk is its thread's
 pub record ThreadNext (head : Head) (xs : List Event) (c : ℕ) (w : Walk) : Type 0 where

@@ -1,6 +1,5 @@
 -- A processor with no walk in flight since the WalkBegin of another is as it was then.
-use Rattle.std.proofs.Common.{◌≡◌, ℕ, Bool, true, false, cond, eqb, Option, Some, None, List, [], ◌∷◌, ◌++◌, refl, sym, ◌∙◌, inl, inr, ◌⊎◌, is_some, append_assoc}
-use Rattle.std.proofs.lemmas.List.{append-nil}
+use Rattle.std.proofs.Common.{◌≡◌, ℕ, Bool, true, false, cond, eqb, Option, Some, None, List, [], ◌∷◌, ◌++◌, refl, sym, ◌∙◌, inl, inr, ◌⊎◌, is_some}
 use Rattle.std.proofs.lemmas.Bool.{true≢false, eqb-true}
 use Rattle.hp_states.specs.declared.dir.Dir.{Dir}
 use Rattle.hp_event.specs.declared.how.How.{How}
@@ -8,17 +7,16 @@ use Rattle.hp_event.specs.declared.answer.Answer.{Answer}
 use Rattle.hp_event.specs.declared.head.Head.{Head}
 use Rattle.hp_event.specs.declared.event.Event.{Event}
 use Rattle.hp_event.specs.declared.event.Event.TheVariants.{WalkBegin, Call, WalkEnd, RegBegin, RegEnd}
-use Rattle.hp_model.specs.Journal.{EachAfter}
 use Rattle.hp_model.specs.InForce.{done_entries}
 use Rattle.hp_model.specs.Walks.{Walk, walk, touched}
 use Rattle.hp_model.specs.Settled.{settled}
 use Rattle.hp_model.specs.StandsCalls.{InWalk, InRegistration}
 use Rattle.hp_model.specs.StandsOperations.{WalkEnds}
-use Rattle.hp_model.specs.Lawful.{Comes, Stands, IsLawful}
+use Rattle.hp_model.specs.Lawful.{Comes, IsLawful}
 use Rattle.hp_model.proofs.Laws.{walk_push, touched_push}
 use Rattle.hp_model.proofs.Kept.{RegistrationKept, Kept, Unmoved}
 use Rattle.hp_model.proofs.WalkSteps.{unmoved_event, begin_unmoved, call_unmoved, end_unmoved}
-use Rattle.hp_model.proofs.Induction.{Held, held_step, held_none}
+use Rattle.hp_model.proofs.Induction.{holds}
 use Rattle.hp_model.proofs.InFlight.{walk_none}
 use Rattle.hp_model.proofs.Passing.{begins_alone}
 
@@ -156,17 +154,10 @@ beside_step head xs e h k b = record {
       (touched_push c o xs e) (b.at c o));
 }
 
-pub beside_from : (head : Head) (before es : List Event) → Held head before → Beside before → EachAfter (Stands head) before es →
-    Beside (before ++ es)
-beside_from head before [] k b h = rw append-nil b
-beside_from head before (e ∷ es) k b h =
-    let r = beside_from head (before ++ e ∷ []) es (held_step head before e h.0.0 k) (beside_step head before e h.0.0 k.kept b) h.1 in
-    rw (append_assoc before (e ∷ []) es) at r
-
 pub none_at_first : (c : ℕ) → walk c [] ≡ None
 unfolding walk
 none_at_first c = refl
 
 pub beside : (head : Head) (events : List Event) → IsLawful head events → Beside events
 beside head events h =
-    beside_from head [] events (held_none head h.0) (record { at = λ c o. rw (none_at_first c) tt }) h.1
+    holds head Beside (record { at = λ c o. rw (none_at_first c) tt }) (λ xs e s k b. beside_step head xs e s.0 k.kept b) events h

@@ -17,7 +17,7 @@ use Rattle.hp_model.specs.MapLock.{Operation, operation}
 use Rattle.hp_model.specs.Own.{operation_entries, own_faults}
 use Rattle.hp_model.specs.Completes.{IsShort, IsAnswerOf, counts_failures, IsCountOf, AreFaultless, Completes}
 use Rattle.hp_model.specs.Refusals.{refusal, Passes}
-use Rattle.hp_model.specs.RegistrationShape.{Registering, made, undone, each, key_of, is_adding, ok_value, IsRegistrationShape, IsRegistrationAnswer}
+use Rattle.hp_model.specs.RegistrationShape.{Registering, made, undone, key_of, is_adding, ok_value, IsRegistrationShape, IsRegistrationAnswer}
 use Rattle.hp_model.specs.Registrations.{Registration, registration, registration_entries}
 use Rattle.hp_model.specs.Seats.{is_busy, holds_map, registers}
 use Rattle.hp_model.specs.Sequence.{ends, next, answers, failures}
@@ -27,16 +27,12 @@ use Rattle.hp_model.specs.Suspend.{is_ok}
 use Rattle.hp_model.specs.Walks.{walk_entries, is_walking}
 use Rattle.hp_model.proofs.Owners.{Owners, idle_op, idle_reg, not_self, same_some, none_some}
 use Rattle.hp_model.proofs.OneNext.{owners}
-use Rattle.hp_model.proofs.OneAnswer.{failing}
+use Rattle.hp_model.proofs.RegistrationCursor.{shape_failing}
 use Rattle.hp_model.proofs.WalkEnd.{fill_faults}
 use Rattle.hp_model.proofs.InFlight.{walk_none}
 use Rattle.hp_model.specs.Faults.{faults}
 use Rattle.hp_model.specs.Crossing.{Slot, Fill}
 use Rattle.hp_model.specs.Processors.{processors}
-use Rattle.hp_states.specs.declared.dir.Dir.{Dir}
-use Rattle.hp_states.specs.declared.place.Place.TheVariants.{Add, Remove}
-use Rattle.hp_states.specs.declared.place.Place.{Place}
-use Rattle.hp_states.specs.declared.dir.Dir.TheVariants.{Up, Down}
 use Rattle.hp_model.proofs.HeadlineProof.{last, lawful_front}
 use Rattle.hp_model.proofs.Faultless.{codes_parts, codes_both, walked_ok, registered_ok, Clean, clean, no_failures, no_states, not_ok, ok_faultless, faultless}
 use Rattle.hp_model.proofs.EndAnswers.{same_end, no_end, count_is, woken_next, ZeroOrWoken, over_is, few, no_failed_walk}
@@ -246,16 +242,6 @@ operation_count : (head : Head) (xs : List Event) (e : Event) (answer : Answer) 
 operation_count head xs e answer o lawful h is held by many =
     end_count head xs o o.seat answer lawful held refl many (answers_operation head xs e answer o h (owners head xs lawful) is held by)
 
-failing_each : (p : Place) (d : Dir) (s i : ℕ) (cs : List ℕ) → failing (each p d s i cs) ≡ []
-failing_each p d s i [] = refl
-failing_each p d s i (c ∷ cs) = failing_each p d s i cs
-
-made_failing : (adding : Bool) (s : ℕ) (key : Option ℕ) (cs : List ℕ) (xs : List Slot) → IsRegistrationShape adding s key cs xs made →
-    failing xs ≡ []
-made_failing adding s None cs xs h = rw h refl
-made_failing true s (Some i) cs xs h = rw h (failing_each Add Up s i cs)
-made_failing false s (Some i) cs xs h = rw h (failing_each Remove Down s i cs)
-
 -- and the other way: a registration that answers Ok has no fault
 made_faultless : (head : Head) (r : Registration) (es : List Event) (answer : Answer) (outcome : Registering) (xs : List Slot) →
     IsRegistrationShape (is_adding r.op) r.state (key_of head r) (processors head r.state r.before) xs outcome → Fill xs es →
@@ -264,7 +250,7 @@ made_faultless head r es answer made xs shape filled is ok =
     let f = fill_faults xs es filled in
     f.1
     ∙ no_states (faults es)
-    (sym f.0 ∙ made_failing (is_adding r.op) r.state (key_of head r) (processors head r.state r.before) xs shape)
+    (sym f.0 ∙ shape_failing (is_adding r.op) r.state (key_of head r) (processors head r.state r.before) xs made shape)
 made_faultless head r es answer undone xs shape filled is ok = absurd (not_ok answer _ is.2 refl ok)
 
 not_holding : (k : ℕ) (o : Option Operation) → ((p : Operation) → o ≡ Some p → p.seat ≡ k → ⊥) → holds_map k o ≡ false

@@ -1,14 +1,14 @@
 -- Going down the tree of a plan by the entries so far: where code stands in a walk. From it follow what
 -- the row of a Call and the row of a WalkEnd need of the shapes.
-use Rattle.std.proofs.Common.{ℕ, Bool, true, false, cond, List, [], ◌∷◌, ◌++◌, refl, sym}
+use Rattle.std.proofs.Common.{ℕ, Bool, true, false, cond, List, [], ◌∷◌, ◌++◌, refl, subst}
 use Rattle.std.proofs.lemmas.List.{append-nil}
 use Rattle.hp_states.specs.declared.dir.Dir.{Dir}
 use Rattle.hp_states.specs.declared.place.Place.{Place}
 use Rattle.hp_states.specs.Sections.{opposite}
 use Rattle.hp_event.specs.declared.event.Event.{Event}
-use Rattle.hp_model.specs.Crossing.{Slot, Fill, Crossing, slots}
+use Rattle.hp_model.specs.Crossing.{Slot, Fits, Fill, Crossing, slots}
 use Rattle.hp_model.specs.WalkShape.{Outcome, IsWalkShape}
-use Rattle.hp_model.specs.StandsCalls.{IsNextInWalk}
+use Rattle.hp_model.specs.StandsCalls.{IsNext, IsNextInWalk}
 pub use Rattle.hp_model.specs.Runs.{Runs, StandsAt}
 use Rattle.hp_model.proofs.NextSlot.{with_fails, Tree, stop, dead, step, Follow, visit_tree, part_tree, back_tree, walk_tree}
 use Rattle.hp_model.proofs.TreeShapes.{tree_shape}
@@ -25,6 +25,15 @@ runs_before dead (e ∷ es) u ys r f = elim r [ ]
 runs_before (step s a b) (e ∷ es) u ys r f =
     let h = runs_before (cond r.0 b a) es u ys r.2 f in
     record { front = with_fails s r.0 ∷ h.front; filled = (r.1, h.filled); follows = (refl, h.follows) }
+
+-- one entry more leads one step further down
+pub runs_more : (t : Tree) (es : List Event) (s : Slot) (a b : Tree) (fails : Bool) (e : Event) → Runs t es (step s a b) →
+    Fits (with_fails s fails) e → Runs t (es ++ e ∷ []) (cond fails b a)
+runs_more t [] s a b fails e r f = rw r (fails, f, refl)
+runs_more stop (x ∷ es) s a b fails e r f = elim r [ ]
+runs_more dead (x ∷ es) s a b fails e r f = elim r [ ]
+runs_more (step z c d) (x ∷ es) s a b fails e r f =
+    (r.0, r.1, runs_more (cond r.0 d c) es s a b fails e r.2 f)
 
 -- a tree that isn't dead
 abbrev pub IsLive : Tree → Type 0
@@ -92,18 +101,45 @@ pub sound_branch : (fails : Bool) (a b : Tree) → Sound a → Sound b → Sound
 sound_branch true a b h k = k
 sound_branch false a b h k = h
 
+-- a slot that comes next in something that follows the tree
+pub record IsNextIn (t : Tree) (es : List Event) (x : Slot) : Type 0 where
+  pub slots : List Slot
+  pub follows : Follow t slots
+  pub is_next : IsNext slots es x
+
+pub next_in : (t : Tree) (es : List Event) (s : Slot) (a b : Tree) (fails : Bool) → Sound t → Runs t es (step s a b) →
+    IsLive (cond fails b a) → IsNextIn t es (with_fails s fails)
+next_in t es s a b fails sound r live =
+    let w = sound_below t es (step s a b) r sound in
+    let e = to_end (cond fails b a) live (sound_branch fails a b w.1 w.2) in
+    let f = runs_before t es (step s a b) (with_fails s fails ∷ e.0) r (refl, e.1) in
+    record {
+      slots = f.front ++ with_fails s fails ∷ e.0;
+      follows = f.follows;
+      is_next = record { front = f.front; rest = e.0; slots_are = refl; filled = f.filled };
+    }
+
+-- the slots that the entries fill which lead to the end
+pub record IsFilled (t : Tree) (es : List Event) : Type 0 where
+  pub slots : List Slot
+  pub follows : Follow t slots
+  pub filled : Fill slots es
+
+pub end_in : (t : Tree) (es : List Event) → Runs t es stop → IsFilled t es
+end_in t es r =
+    let f = runs_before t es stop [] r tt in
+    record { slots = f.front ++ []; follows = f.follows; filled = rw (append-nil f.front) f.filled }
+
 pub next_of : (c : ℕ) (keys : ℕ → List ℕ) (d : Dir) (plan : List ℕ) (es : List Event) (s : Slot) (a b : Tree) (fails : Bool) →
     StandsAt c keys d plan es (step s a b) → IsLive (cond fails b a) → IsNextInWalk c keys d plan es (with_fails s fails)
-next_of c keys d plan es s a b fails h l =
-    let w = sound_below (walk_tree c keys d [] plan) es (step s a b) h.runs (sound_walk c keys d [] plan).1 in
-    let e = to_end (cond fails b a) l (sound_branch fails a b w.1 w.2) in
-    let r = runs_before (walk_tree c keys d [] plan) es (step s a b) (with_fails s fails ∷ e.0) h.runs (refl, e.1) in
-    let g = tree_shape c keys d plan (r.front ++ with_fails s fails ∷ e.0) r.follows in
+next_of c keys d plan es s a b fails h live =
+    let n = next_in (walk_tree c keys d [] plan) es s a b fails (sound_walk c keys d [] plan).1 h.runs live in
+    let g = tree_shape c keys d plan n.slots n.follows in
     record {
       outcome = g.outcome;
       crossings = g.crossings;
       shape = g.shape;
-      is_next = record { front = r.front; rest = e.0; slots_are = sym g.slots_are; filled = r.filled };
+      is_next = subst (λ z. IsNext z es (with_fails s fails)) g.slots_are n.is_next;
     }
 
 -- At the end the entries are those of a whole shape.
@@ -116,11 +152,6 @@ pub record IsEndOf (c : ℕ) (keys : ℕ → List ℕ) (d : Dir) (plan : List �
 pub end_of_walk : (c : ℕ) (keys : ℕ → List ℕ) (d : Dir) (plan : List ℕ) (es : List Event) → StandsAt c keys d plan es stop →
     IsEndOf c keys d plan es
 end_of_walk c keys d plan es h =
-    let r = runs_before (walk_tree c keys d [] plan) es stop [] h.runs tt in
-    let g = tree_shape c keys d plan (r.front ++ []) r.follows in
-    record {
-      outcome = g.outcome;
-      crossings = g.crossings;
-      shape = g.shape;
-      filled = rw (← g.slots_are, append-nil r.front) r.filled;
-    }
+    let f = end_in (walk_tree c keys d [] plan) es h.runs in
+    let g = tree_shape c keys d plan f.slots f.follows in
+    record { outcome = g.outcome; crossings = g.crossings; shape = g.shape; filled = subst (λ z. Fill z es) g.slots_are f.filled }

@@ -21,7 +21,8 @@ use Rattle.hp_model.proofs.InFlight.{walking_is}
 use Rattle.hp_model.proofs.Owners.{same_some, none_some}
 use Rattle.hp_model.proofs.OneNext.{one_next}
 use Rattle.hp_model.proofs.WalkGives as by_walk
-use Rattle.hp_model.proofs.WalkGives.{Given, walk_given}
+use Rattle.hp_model.proofs.Errands.{Given}
+use Rattle.hp_model.proofs.WalkGives.{walk_given}
 use Rattle.hp_model.proofs.RegistrationGives as by_registration
 use Rattle.hp_model.proofs.RegistrationGives.{registration_given}
 use Rattle.hp_model.proofs.Members.{Has, has_left, has_right, has_either, has_map, of_map, of_listed, has_listed, found, not_found}

@@ -1,6 +1,5 @@
 -- What an operation ends with, by the answers of its walks.
-use Rattle.std.proofs.Common.{◌≡◌, ℕ, ℤ, pos, Bool, true, false, not, cond, eqb, Some, None, List, [], ◌∷◌, ◌++◌, length, append_assoc, ◌⊎◌, inl, inr, refl, sym, ap, ◌∙◌}
-use Rattle.std.proofs.lemmas.List.{append-nil}
+use Rattle.std.proofs.Common.{◌≡◌, ℕ, ℤ, pos, Bool, true, false, not, cond, eqb, Some, None, List, [], ◌∷◌, ◌++◌, length, ◌⊎◌, inl, inr, refl, sym, ap, ◌∙◌}
 use Rattle.std.proofs.lemmas.Bool.{true≢false, eq-eqb}
 use Rattle.hp_states.specs.declared.limits.TheConstants.{OFFLINE, ONLINE, EBUSY}
 use Rattle.hp_event.specs.declared.answer.Answer.{Answer}
@@ -11,8 +10,7 @@ use Rattle.hp_event.specs.declared.op.Op.TheVariants as op
 use Rattle.hp_event.specs.declared.head.Head.{Head}
 use Rattle.hp_event.specs.declared.event.Event.{Event}
 use Rattle.hp_event.specs.declared.event.Event.TheVariants.{Enter, WalkBegin, WalkEnd, OpEnd}
-use Rattle.hp_model.specs.Journal.{EachAfter}
-use Rattle.hp_model.specs.Lawful.{Comes, Stands, IsLawful}
+use Rattle.hp_model.specs.Lawful.{Comes, IsLawful}
 use Rattle.hp_model.specs.MapLock.{Operation, operation}
 use Rattle.hp_model.specs.Completes.{IsWoken, counts_failures}
 use Rattle.hp_model.specs.Sequence.{Next, walks, ends, next, answers, failures, single_next, first_next, boot_next, freeze_next, batch_next, to_boot, to_freeze, to_thaw, target_of}
@@ -23,8 +21,9 @@ use Rattle.hp_model.specs.Settled.{settled}
 use Rattle.hp_model.specs.Suspend.{is_ok, wakeup_pending}
 use Rattle.hp_model.specs.Walks.{Walk, walk, is_walking}
 use Rattle.hp_model.proofs.Laws.{walk_push, answers_push, operation_push}
-use Rattle.hp_model.proofs.Owners.{Owners, owners_none, owners_step, enters_at_rest, same_some, none_some}
+use Rattle.hp_model.proofs.Owners.{Owners, enters_at_rest, same_some, none_some}
 use Rattle.hp_model.proofs.Faultless.{some_item, AreZero, no_failures}
+use Rattle.hp_model.proofs.Induction.{holds}
 
 pub same_end : (a b : Answer) → ends a ≡ ends b → a ≡ b
 same_end a b h = cc
@@ -178,15 +177,9 @@ few_step head xs e h own i o held few =
       most = rw (answers_push xs e) k.most;
     }
 
-pub few_from : (head : Head) (before es : List Event) → Owners before → Few before → EachAfter (Stands head) before es → Few (before ++ es)
-few_from head before [] own i h = rw append-nil i
-few_from head before (e ∷ es) own i h =
-    let r = few_from head (before ++ e ∷ []) es (owners_step head before e h.0.0 own) (few_step head before e h.0.0 own i) h.1 in
-    rw (append_assoc before (e ∷ []) es) at r
-
 pub few : (head : Head) (xs : List Event) → IsLawful head xs → Few xs
 unfolding operation
-few head xs h = few_from head [] xs owners_none (λ o held k. absurd (none_some o held)) h.1
+few head xs h = holds head Few (λ o held k. absurd (none_some o held)) (λ xs e s k i. few_step head xs e s.0 k.owners i) xs h
 
 pub one_ok : (a answer : Answer) → a ≡ answer → is_ok answer ≡ true → failures (a ∷ []) ≡ []
 one_ok a answer e ok = go (is_ok a) (ap is_ok e ∙ ok)

@@ -12,7 +12,7 @@ use Rattle.hp_event.specs.declared.event.Role.{Role}
 use Rattle.hp_event.specs.declared.event.Role.TheVariants.{Client, Ap}
 use Rattle.hp_event.specs.declared.head.Head.{Head}
 use Rattle.hp_event.specs.declared.event.Event.{Event}
-use Rattle.hp_event.specs.declared.event.Event.TheVariants.{Admit, Leave, Enter, Refused, WalkBegin, Call, WalkEnd, OpEnd, RegBegin, RegEnd, ReadLock, ReadUnlock, Armed, Shown, Wakeup}
+use Rattle.hp_event.specs.declared.event.Event.TheVariants.{Admit, Leave, Enter, WalkBegin, Call, WalkEnd, OpEnd, RegBegin, RegEnd, Armed}
 use Rattle.hp_model.specs.Armed.{armed}
 use Rattle.hp_model.specs.Calls.{sites, sites_step}
 use Rattle.hp_model.specs.Caller.{is_made_by_ap, caller}
@@ -39,8 +39,8 @@ use Rattle.hp_model.proofs.InFlight.{walk_none}
 use Rattle.hp_model.proofs.Induction.{kept}
 use Rattle.hp_model.proofs.Kept.{WalkKept, RegistrationKept}
 use Rattle.hp_model.proofs.Laws.{walk_push, walk_entries_push, registration_push, registration_entries_push, registered_push, sites_push, ap_push, armed_push, operation_push}
-use Rattle.hp_model.proofs.OneEntry.{one_entry}
-use Rattle.hp_model.proofs.OneNext.{owners, walk_ended}
+use Rattle.hp_model.proofs.OneEntry.{one_entry, walk_ended}
+use Rattle.hp_model.proofs.OneNext.{owners}
 use Rattle.hp_model.proofs.OneRegistration.{one_registration_entry, registration_ended}
 use Rattle.hp_model.proofs.Owners.{Owners, none_some, enters_at_rest, over_at_rest}
 use Rattle.hp_model.proofs.BatchLemmas.{begins_still}
@@ -390,27 +390,6 @@ calls_stay head xs seat cpu state inst dir how (Admit k role) lawful calls h oth
 calls_stay head xs seat cpu state inst dir how (Leave k) lawful calls h other calm lone =
     quietly head xs seat cpu state inst dir how (Leave k) (owners head xs lawful) h other
     (same_by head seat cpu state xs (Leave k) refl refl refl refl refl (leaves_on xs cpu seat k other)) refl (armed_push cpu xs (Leave k)) calls
-calls_stay head xs seat cpu state inst dir how (Enter k op) lawful calls h other calm lone =
-    quietly head xs seat cpu state inst dir how (Enter k op) (owners head xs lawful) h other
-    (same_by head seat cpu state xs (Enter k op) refl refl refl refl refl (λ a. a)) refl (armed_push cpu xs (Enter k op)) calls
-calls_stay head xs seat cpu state inst dir how (Refused k errno op) lawful calls h other calm lone =
-    quietly head xs seat cpu state inst dir how (Refused k errno op) (owners head xs lawful) h other
-    (same_by head seat cpu state xs (Refused k errno op) refl refl refl refl refl (λ a. a)) refl (armed_push cpu xs (Refused k errno op)) calls
-calls_stay head xs seat cpu state inst dir how (OpEnd k answer) lawful calls h other calm lone =
-    quietly head xs seat cpu state inst dir how (OpEnd k answer) (owners head xs lawful) h other
-    (same_by head seat cpu state xs (OpEnd k answer) refl refl refl refl refl (λ a. a)) refl (armed_push cpu xs (OpEnd k answer)) calls
-calls_stay head xs seat cpu state inst dir how (ReadLock k) lawful calls h other calm lone =
-    quietly head xs seat cpu state inst dir how (ReadLock k) (owners head xs lawful) h other
-    (same_by head seat cpu state xs (ReadLock k) refl refl refl refl refl (λ a. a)) refl (armed_push cpu xs (ReadLock k)) calls
-calls_stay head xs seat cpu state inst dir how (ReadUnlock k) lawful calls h other calm lone =
-    quietly head xs seat cpu state inst dir how (ReadUnlock k) (owners head xs lawful) h other
-    (same_by head seat cpu state xs (ReadUnlock k) refl refl refl refl refl (λ a. a)) refl (armed_push cpu xs (ReadUnlock k)) calls
-calls_stay head xs seat cpu state inst dir how (Shown k file c value) lawful calls h other calm lone =
-    quietly head xs seat cpu state inst dir how (Shown k file c value) (owners head xs lawful) h other
-    (same_by head seat cpu state xs (Shown k file c value) refl refl refl refl refl (λ a. a)) refl (armed_push cpu xs (Shown k file c value)) calls
-calls_stay head xs seat cpu state inst dir how (Wakeup k) lawful calls h other calm lone =
-    quietly head xs seat cpu state inst dir how (Wakeup k) (owners head xs lawful) h other
-    (same_by head seat cpu state xs (Wakeup k) refl refl refl refl refl (λ a. a)) refl (armed_push cpu xs (Wakeup k)) calls
 calls_stay head xs seat cpu state inst dir how (Armed k c value) lawful calls h other calm lone =
     goes_on head xs (Armed k c value) seat cpu state inst dir how (owners head xs lawful) h other
     (same_by head seat cpu state xs (Armed k c value) refl refl refl refl refl (λ a. a))
@@ -426,6 +405,9 @@ calls_stay head xs seat cpu state inst dir how (RegBegin k s op) lawful calls h 
     absurd (no_registration_begins head xs seat cpu state inst dir how k s op calls h)
 calls_stay head xs seat cpu state inst dir how (RegEnd k answer) lawful calls h other calm lone =
     absurd (no_registration_ends head xs seat cpu state inst dir how k answer lawful calls h)
+calls_stay head xs seat cpu state inst dir how e lawful calls h other calm lone =
+    quietly head xs seat cpu state inst dir how e (owners head xs lawful) h other
+    (same_by head seat cpu state xs e refl refl refl refl refl (λ a. a)) refl (armed_push cpu xs e) calls
 
 -- what is due stays due
 pub due_stays : (head : Head) (xs : List Event) (seat : ℕ) (c e : Event) → IsLawful head xs → due_entry head xs seat ≡ Some c →

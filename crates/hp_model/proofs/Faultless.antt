@@ -1,7 +1,6 @@
 -- While the walks since the last Enter have no fault among their entries, each of them that ended answered Ok(0) and none in flight has a
 -- fault; and the other way.
-use Rattle.std.proofs.Common.{◌≡◌, ℕ, pos, Bool, true, false, not, cond, eqb, is_some, Option, Some, None, List, [], ◌∷◌, ◌++◌, map, append_assoc, refl, sym, ap, ◌∙◌}
-use Rattle.std.proofs.lemmas.List.{append-nil}
+use Rattle.std.proofs.Common.{◌≡◌, ℕ, pos, Bool, true, false, not, cond, eqb, is_some, Option, Some, None, List, [], ◌∷◌, ◌++◌, map, refl, sym, ap, ◌∙◌}
 use Rattle.std.proofs.lemmas.List.Elements.{filter_map-append, filter-append}
 use Rattle.std.proofs.lemmas.Bool.{true≢false, eqb-true, eq-eqb}
 use Rattle.hp_event.specs.declared.answer.Answer.{Answer}
@@ -9,9 +8,8 @@ use Rattle.hp_event.specs.declared.answer.Answer.TheVariants.{Ok}
 use Rattle.hp_event.specs.declared.head.Head.{Head}
 use Rattle.hp_event.specs.declared.event.Event.{Event}
 use Rattle.hp_event.specs.declared.event.Event.TheVariants.{Enter, WalkBegin, Call, WalkEnd}
-use Rattle.hp_model.specs.Journal.{EachAfter}
 use Rattle.hp_model.specs.Entries.{code_of, codes_of_faults}
-use Rattle.hp_model.specs.Lawful.{Comes, Stands, IsLawful}
+use Rattle.hp_model.specs.Lawful.{Comes, IsLawful}
 use Rattle.hp_model.specs.Own.{operation_entries_step, operation_entries}
 use Rattle.hp_model.specs.Completes.{AreFaultless}
 use Rattle.hp_model.specs.RegistrationShape.{Registering, made, undone, IsRegistrationAnswer}
@@ -20,14 +18,15 @@ use Rattle.hp_model.specs.Suspend.{is_ok}
 use Rattle.hp_model.specs.WalkShape.{Outcome, went, returned, stopped, IsWalkShape, IsAnswer}
 use Rattle.hp_model.specs.Walks.{Walk, walk, walk_entries}
 use Rattle.hp_model.proofs.Laws.{over_from_push, walk_push, walk_entries_push, answers_push}
-use Rattle.hp_model.proofs.Owners.{Owners, owners_none, owners_step, enters_at_rest, none_some}
-use Rattle.hp_model.proofs.OneAnswer.{failing, failing-crossed}
+use Rattle.hp_model.proofs.Owners.{Owners, enters_at_rest, none_some}
+use Rattle.hp_model.proofs.Failing.{failing, failing-crossed}
 use Rattle.hp_model.proofs.WalkEnd.{fill_faults}
 use Rattle.hp_model.proofs.BatchLemmas.{begins_still}
 use Rattle.hp_model.specs.Faults.{Faulty, faults}
 use Rattle.hp_model.specs.Crossing.{Crossing, Fill, slots}
 use Rattle.hp_states.specs.declared.dir.Dir.{Dir}
 use Rattle.hp_states.specs.declared.place.Place.TheVariants.{Forward}
+use Rattle.hp_model.proofs.Induction.{holds}
 
 pub operation_entries_push : (xs : List Event) (e : Event) →
     operation_entries (xs ++ e ∷ []) ≡ operation_entries_step (operation_entries xs) xs e
@@ -147,17 +146,11 @@ clean_step head xs e h own i none =
       walked = rw (answers_push xs e) c.walked;
     }
 
-pub clean_from : (head : Head) (before es : List Event) → Owners before → CleanIf before → EachAfter (Stands head) before es →
-    CleanIf (before ++ es)
-clean_from head before [] own i h = rw append-nil i
-clean_from head before (e ∷ es) own i h =
-    let r = clean_from head (before ++ e ∷ []) es (owners_step head before e h.0.0 own) (clean_step head before e h.0.0 own i) h.1 in
-    rw (append_assoc before (e ∷ []) es) at r
-
 pub clean : (head : Head) (xs : List Event) → IsLawful head xs → CleanIf xs
 unfolding walk answers
 clean head xs h =
-    clean_from head [] xs owners_none (λ none. record { walking = λ c w q. absurd (none_some w q); walked = tt }) h.1
+    holds head CleanIf (λ none. record { walking = λ c w q. absurd (none_some w q); walked = tt })
+    (λ xs e s k i. clean_step head xs e s.0 k.owners i) xs h
 
 pub no_failures : (xs : List Answer) → AreZero xs → failures xs ≡ []
 no_failures [] h = refl
@@ -269,14 +262,6 @@ faultless_step head xs e h own i f =
       in_flight = λ d w q. rw (walk_entries_push d xs e) at (f.in_flight d w (walk_push d xs e ∙ q));
     }))
 
-pub faultless_from : (head : Head) (before es : List Event) → Owners before → IfFaultless before → EachAfter (Stands head) before es →
-    IfFaultless (before ++ es)
-faultless_from head before [] own i h = rw append-nil i
-faultless_from head before (e ∷ es) own i h =
-    let r = faultless_from head (before ++ e ∷ []) es (owners_step head before e h.0.0 own) (faultless_step head before e h.0.0 own i)
-    h.1 in
-    rw (append_assoc before (e ∷ []) es) at r
-
 pub faultless : (head : Head) (xs : List Event) → IsLawful head xs → IfFaultless xs
 unfolding operation_entries
-faultless head xs h = faultless_from head [] xs owners_none (λ f. refl) h.1
+faultless head xs h = holds head IfFaultless (λ f. refl) (λ xs e s k i. faultless_step head xs e s.0 k.owners i) xs h

@@ -7,7 +7,7 @@ use Rattle.hp_event.specs.declared.how.How.{How}
 use Rattle.hp_event.specs.declared.event.Role.TheVariants.{Client}
 use Rattle.hp_event.specs.declared.head.Head.{Head}
 use Rattle.hp_event.specs.declared.event.Event.{Event}
-use Rattle.hp_event.specs.declared.event.Event.TheVariants.{Enter, Refused, WalkBegin, Call, WalkEnd, OpEnd, RegBegin, RegEnd, ReadLock, ReadUnlock, Armed, Shown, Wakeup}
+use Rattle.hp_event.specs.declared.event.Event.TheVariants.{Admit, Leave, WalkBegin, Call, WalkEnd, OpEnd, RegEnd}
 use Rattle.hp_model.specs.Events.{seat_of, BelongsTo}
 use Rattle.hp_model.specs.Lists.{is_empty, occurs}
 use Rattle.hp_model.specs.Walks.{Walk, walk, is_walking}
@@ -29,9 +29,8 @@ use Rattle.hp_model.specs.ApTurn.{IsEntryOf, IsApTurn}
 use Rattle.hp_model.specs.Turns.{FindsOne}
 use Rattle.hp_model.proofs.InFlight.{walk_none}
 use Rattle.hp_model.proofs.Kept.{WalkKept}
-use Rattle.hp_model.proofs.OneEntry.{one_walk_entry}
+use Rattle.hp_model.proofs.OneEntry.{one_walk_entry, walk_ended}
 use Rattle.hp_model.proofs.OneRegistration.{same_registration_entry, registration_ended}
-use Rattle.hp_model.proofs.OneNext.{walk_ended}
 use Rattle.hp_model.proofs.Owners.{Owners, none_some, alone_at}
 use Rattle.hp_model.proofs.BatchLemmas.{next_to_begin}
 use Rattle.hp_model.proofs.TurnLemmas.{turn_is, held_up_parts}
@@ -144,15 +143,9 @@ thread_still head xs k cpu op (Call seat c state inst dir how) f client t by h b
     go (inr v) (inr e) =
         let s = (same_registration_entry head xs c cpu state t.state inst t.inst dir t.dir how t.how v.entry e.0).1 in
         no_thread (thread_makes c state t.state how t.how seat v.entry.of.seat xs s.state_same s.how_same t.by_thread v.caller_is)
-thread_still head xs k cpu op (Enter seat asked) f client t by h b = thread_busy head xs k cpu f.owners t (rw by at h.free)
-thread_still head xs k cpu op (Refused seat errno asked) f client t by h b = thread_busy head xs k cpu f.owners t (rw by at h.free)
-thread_still head xs k cpu op (RegBegin seat state asked) f client t by h b = thread_busy head xs k cpu f.owners t (rw by at h.free)
-thread_still head xs k cpu op (ReadLock seat) f client t by h b = thread_busy head xs k cpu f.owners t (rw by at h.free)
-thread_still head xs k cpu op (ReadUnlock seat) f client t by h b = thread_busy head xs k cpu f.owners t (rw by at h.free)
-thread_still head xs k cpu op (Armed seat c value) f client t by h b = thread_busy head xs k cpu f.owners t (rw by at h.free)
-thread_still head xs k cpu op (Shown seat file c value) f client t by h b = thread_busy head xs k cpu f.owners t (rw by at h.free)
-thread_still head xs k cpu op (Wakeup seat) f client t by h b = thread_busy head xs k cpu f.owners t (rw by at h.free)
-thread_still head xs k cpu op e f client t by h b = b
+thread_still head xs k cpu op (Admit seat role) f client t by h b = b
+thread_still head xs k cpu op (Leave seat) f client t by h b = b
+thread_still head xs k cpu op e f client t by h b = thread_busy head xs k cpu f.owners t (rw by at h.free)
 
 -- nor does it wait for anything else
 thread_waits : (head : Head) (xs : List Event) (k cpu : ℕ) (op : Op) (w : Wait) → Facts head xs → role_of k xs ≡ Some Client →

@@ -4,7 +4,7 @@ use Rattle.std.proofs.lemmas.Bool.{true≢false, false≢true}
 use Rattle.hp_event.specs.declared.op.Op.{Op}
 use Rattle.hp_event.specs.declared.head.Head.{Head}
 use Rattle.hp_event.specs.declared.event.Event.{Event}
-use Rattle.hp_event.specs.declared.event.Event.TheVariants.{Admit, Leave, Enter, Refused, WalkBegin, Call, WalkEnd, OpEnd, RegBegin, RegEnd, ReadLock, ReadUnlock, Armed, Shown, Wakeup}
+use Rattle.hp_event.specs.declared.event.Event.TheVariants.{Admit, Leave, Enter, WalkBegin, Call, WalkEnd, OpEnd, RegBegin, RegEnd}
 use Rattle.hp_model.specs.Events.{seat_of, is_answer}
 use Rattle.hp_model.specs.MapLock.{Operation, operation, operation_step}
 use Rattle.hp_model.specs.Registrations.{Registration, registration, registration_step}
@@ -95,14 +95,9 @@ flight_step head xs p (RegEnd seat answer) o h (inl q) =
       before = inl (q.0, at, q.2, q.3);
       unanswered = λ yes s. o.apart q.0 h.of at h.in_flight (q.2 ∙ (sym s ∙ sym h.seat_is));
     })
-flight_step head xs p (Refused seat errno op) o h q = by_free xs p (Refused seat errno op) refl refl h.free q
-flight_step head xs p (ReadLock seat) o h q = by_free xs p (ReadLock seat) refl refl h.free q
-flight_step head xs p (ReadUnlock seat) o h q = by_free xs p (ReadUnlock seat) refl refl h.free q
-flight_step head xs p (Armed seat cpu value) o h q = by_free xs p (Armed seat cpu value) refl refl h.free q
-flight_step head xs p (Shown seat file cpu value) o h q = by_free xs p (Shown seat file cpu value) refl refl h.free q
-flight_step head xs p (Wakeup seat) o h q = by_free xs p (Wakeup seat) refl refl h.free q
 flight_step head xs p (Admit seat role) o h q = by_none xs p (Admit seat role) refl refl refl q
 flight_step head xs p (Leave seat) o h q = by_none xs p (Leave seat) refl refl refl q
 flight_step head xs p (WalkBegin seat cpu from to) o h q = by_none xs p (WalkBegin seat cpu from to) refl refl refl q
 flight_step head xs p (Call seat cpu state inst dir how) o h q = by_none xs p (Call seat cpu state inst dir how) refl refl refl q
 flight_step head xs p (WalkEnd seat cpu answer) o h q = by_none xs p (WalkEnd seat cpu answer) refl refl refl q
+flight_step head xs p e o h q = by_free xs p e refl refl h.free q

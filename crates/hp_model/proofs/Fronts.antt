@@ -6,7 +6,7 @@ use Rattle.hp_event.specs.declared.head.Head.{Head}
 use Rattle.hp_event.specs.declared.how.How.{How}
 use Rattle.hp_event.specs.declared.event.Role.TheVariants.{Client, Ap}
 use Rattle.hp_event.specs.declared.event.Event.{Event}
-use Rattle.hp_event.specs.declared.event.Event.TheVariants.{Admit, Leave, Enter, Refused, WalkBegin, Call, WalkEnd, OpEnd, RegBegin, RegEnd, ReadLock, ReadUnlock, Armed, Shown, Wakeup}
+use Rattle.hp_event.specs.declared.event.Event.TheVariants.{Admit, Leave, WalkBegin, Call, WalkEnd, OpEnd, RegEnd}
 use Rattle.hp_model.specs.Journal.{EachAfter}
 use Rattle.hp_model.specs.Events.{seat_of}
 use Rattle.hp_model.specs.Seats.{admits, ap_seat}
@@ -38,9 +38,6 @@ caller_below xs c state client seat how o h = go (is_made_by_ap state how)
 event_below : (head : Head) (xs : List Event) (e : Event) → Comes head xs e → Owners xs → seat_of e < admits (xs ++ e ∷ [])
 event_below head xs (Admit seat role) h o = let s = h.seat_is in let a = admits_push xs (Admit seat role) in omega arith
 event_below head xs (Leave seat) h o = rw (admits_push xs (Leave seat)) (o.seats_below seat h.is_in.0 h.is_in.1)
-event_below head xs (Enter seat op) h o = rw (admits_push xs (Enter seat op)) (o.seats_below seat Client h.free.client)
-event_below head xs (Refused seat errno op) h o =
-    rw (admits_push xs (Refused seat errno op)) (o.seats_below seat Client h.free.client)
 event_below head xs (WalkBegin seat cpu from to) h o =
     let b = o.seats_below h.of.seat Client (o.op_client h.of h.held) in
     let s = h.seat_is in
@@ -68,17 +65,11 @@ event_below head xs (OpEnd seat answer) h o = rw (admits_push xs (OpEnd seat ans
         let w = c.begins in
         let b = o.seats_below w.of.seat Client (o.op_client w.of w.held) in
         let s = w.seat_is in omega arith
-event_below head xs (RegBegin seat state op) h o = rw (admits_push xs (RegBegin seat state op)) (o.seats_below seat Client h.free.client)
 event_below head xs (RegEnd seat answer) h o =
     let b = o.seats_below h.of.seat Client (o.reg_client h.of h.in_flight) in
     let s = h.seat_is in
     let a = admits_push xs (RegEnd seat answer) in omega arith
-event_below head xs (ReadLock seat) h o = rw (admits_push xs (ReadLock seat)) (o.seats_below seat Client h.free.client)
-event_below head xs (ReadUnlock seat) h o = rw (admits_push xs (ReadUnlock seat)) (o.seats_below seat Client h.free.client)
-event_below head xs (Armed seat cpu value) h o = rw (admits_push xs (Armed seat cpu value)) (o.seats_below seat Client h.free.client)
-event_below head xs (Shown seat file cpu value) h o =
-    rw (admits_push xs (Shown seat file cpu value)) (o.seats_below seat Client h.free.client)
-event_below head xs (Wakeup seat) h o = rw (admits_push xs (Wakeup seat)) (o.seats_below seat Client h.free.client)
+event_below head xs e h o = rw (admits_push xs e) (o.seats_below (seat_of e) Client h.free.client)
 
 -- one event more admits no fewer
 more_by_one : (xs : List Event) (e : Event) → admits xs ≤ admits (xs ++ e ∷ [])

@@ -72,6 +72,10 @@ asks_allowed head actors xs ns k i op s g e h =
     }
 
 -- after an entry of a thread
+pub no_answer : (e : Event) → is_call e ≡ true → is_answer e ≡ false
+no_answer (Call seat cpu state inst dir how) q = refl
+no_answer e q = absurd (false≢true q)
+
 pub going_entry : (head : Head) (actors : List (List Op)) (xs : List Event) (ns : List ℕ) (e : Event) → Going head actors xs ns →
     Stands head xs e → is_call e ≡ true → Going head actors (xs ++ e ∷ []) ns
 going_entry head actors xs ns e g h c = record {
@@ -84,10 +88,6 @@ going_entry head actors xs ns e g h c = record {
   readers = λ k r. g.readers k (reads_unless xs k e (no_answer e c) r);
 }
   where
-    no_answer : (e : Event) → is_call e ≡ true → is_answer e ≡ false
-    no_answer (Call seat cpu state inst dir how) q = refl
-    no_answer e q = absurd (false≢true q)
-
     asked : (i : ℕ) (op : Op) → Begins (record { seat = length (present head) + i; op = op }) e
         ⊎ Goes xs (record { seat = length (present head) + i; op = op }) e → unanswered actors ns i ≡ Some op
     asked i op (inl (enters q)) = absurd (false≢true (sym (ap is_call q) ∙ c))
@@ -213,7 +213,7 @@ going_full head actors xs ns k i op g u s full = record {
         ap is_locked (done_more actors i op ns u long)
         ∙ (is_locked_push (done_ops actors ns i) op
         ∙ locked_by op (is_locked (done_ops actors ns i)) true
-        (λ t. full_unlocks head xs k (subst (λ z. IsFull head xs k z) t full) (subst (λ z. is_reading z xs ≡ true) (sym s) r))
+        (λ t. full_unlocks head xs k (owners head xs g.lawful) (subst (λ z. IsFull head xs k z) t full) (subst (λ z. is_reading z xs ≡ true) (sym s) r))
         (λ t. g.reads i r))
 
     reads : (j : ℕ) (m : Bool) → eqb j i ≡ m → is_reading (P + j) xs ≡ true → is_locked (done_ops actors (counted i true ns) j) ≡ true
@@ -275,6 +275,11 @@ turns_going head actors [] at s g = g
 turns_going head actors (k ∷ ks) at s g = turns_going head actors ks (turn head actors at k) s (turn_going head actors at k s g)
 
 -- and the start has it
+pub none_counted : (n i : ℕ) → ◌≡◌ {A = ℕ} (get_or (replicate n 0) i 0) 0
+none_counted zero i = refl
+none_counted (suc n) zero = refl
+none_counted (suc n) (suc i) = none_counted n i
+
 pub start_going : (head : Head) (actors : List (List Op)) → IsScript head actors → IsGoing head actors (start head actors)
 start_going head actors s = record {
   lawful = admissions_lawful head actors s.head_is s.few_seats;
@@ -286,11 +291,6 @@ start_going head actors s = record {
   readers = λ k r. absurd (false≢true (sym (reading_first head actors k) ∙ r));
 }
   where
-    none_counted : (n i : ℕ) → ◌≡◌ {A = ℕ} (get_or (replicate n 0) i 0) 0
-    none_counted zero i = refl
-    none_counted (suc n) zero = refl
-    none_counted (suc n) (suc i) = none_counted n i
-
     still : (p : Pending) → IsInFlight (admissions head actors) p → ⊥
     still p (inl o) = none_some o.0 (sym (operation_first head actors) ∙ o.1)
     still p (inr r) = none_some r.0 (sym (registration_first head actors) ∙ r.1)

@@ -37,6 +37,7 @@ use Rattle.hp_model.proofs.Beside.{Still, BesideBy, Beside, beside}
 use Rattle.hp_model.proofs.ReadersKept.{readers}
 use Rattle.hp_model.proofs.Once.{once}
 use Rattle.hp_model.proofs.ShownLemmas.{reading_shown}
+use Rattle.hp_model.proofs.Owners.{same_some}
 
 pub agree_from : (b : Bool) (s a n u d : ℕ) → leb s a ≡ b → u ≡ d + cond b n 0 → (d < u) ↔ ((s ≤ a) × (0 < n))
 agree_from true s a n u d f e = let le = leb-true s a f in (λ h. (le, omega arith), λ h. let p = h.1 in omega arith)
@@ -215,9 +216,6 @@ registration_undone head before seat code r k whole = record {
 pub last : (head : Head) (before : List Event) (e : Event) → IsLawful head (before ++ e ∷ []) →
     IsLawful head before × Comes head before e
 last head before e h = let r = EachAfter_push (Stands head) [] before e h.1 in ((h.0, r.0), r.1.0)
-
-pub same_some : {A : Type 0} (a b : A) → Some a ≡ Some b → a ≡ b
-same_some a b e = cc
 
 pub walk_fault_last : (head : Head) (before : List Event) (seat c code : ℕ) (w : Walk) →
     IsLawful head (before ++ WalkEnd seat c (Fault code) ∷ []) → walk c before ≡ Some w →

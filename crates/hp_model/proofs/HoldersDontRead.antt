@@ -1,21 +1,20 @@
 -- Who holds the map lock isn't in a read section.
-use Rattle.std.proofs.Common.{◌≡◌, ℕ, Bool, true, false, cond, eqb, is_some, Option, Some, None, List, [], ◌∷◌, ◌++◌, refl, sym, append_assoc}
-use Rattle.std.proofs.lemmas.List.{append-nil}
+use Rattle.std.proofs.Common.{◌≡◌, ℕ, Bool, true, false, cond, eqb, is_some, Option, Some, None, List, [], ◌∷◌, ◌++◌, refl, sym}
 use Rattle.std.proofs.lemmas.Bool.{true≢false}
 use Rattle.hp_event.specs.declared.op.Op.{Op}
 use Rattle.hp_event.specs.declared.op.Op.TheVariants.{Target, Boot, Disable, Enable, Freeze, Thaw}
 use Rattle.hp_event.specs.declared.head.Head.{Head}
 use Rattle.hp_event.specs.declared.event.Event.{Event}
 use Rattle.hp_event.specs.declared.event.Event.TheVariants.{Enter, OpEnd, ReadLock, ReadUnlock}
-use Rattle.hp_model.specs.Journal.{EachAfter}
 use Rattle.hp_model.specs.MapLock.{Operation, operation, is_map_op}
 use Rattle.hp_model.specs.Readers.{reading_since, is_reading}
 use Rattle.hp_model.specs.RefusalsAtOnce.{refusals_at_once, first_that_holds}
 use Rattle.hp_model.specs.StandsOperations.{Enters}
-use Rattle.hp_model.specs.Lawful.{Comes, Stands, IsLawful}
+use Rattle.hp_model.specs.Lawful.{Comes, IsLawful}
 use Rattle.hp_model.proofs.Laws.{operation_push, reading_since_push}
 use Rattle.hp_model.proofs.Passing.{none_holds, passed}
 use Rattle.hp_model.proofs.Owners.{same_some, none_some, idle_op, flip}
+use Rattle.hp_model.proofs.Induction.{holds}
 
 pub record HoldersDontRead (xs : List Event) : Type 0 where
   pub at : (o : Operation) → operation xs ≡ Some o → is_reading o.seat xs ≡ false
@@ -64,16 +63,9 @@ holders_step head xs (ReadUnlock seat) h d = record {
 holders_step head xs e h d =
     record { at = λ a q. rw (reading_since_push a.seat xs e) (d.at a (rw (operation_push xs e) at q)) }
 
-holders_from : (head : Head) (before es : List Event) → HoldersDontRead before → EachAfter (Stands head) before es →
-    HoldersDontRead (before ++ es)
-holders_from head before [] d h = rw append-nil d
-holders_from head before (e ∷ es) d h =
-    let r = holders_from head (before ++ e ∷ []) es (holders_step head before e h.0.0 d) h.1 in
-    rw (append_assoc before (e ∷ []) es) at r
-
 holders_none : HoldersDontRead []
 unfolding operation
 holders_none = record { at = λ a q. absurd (none_some a q) }
 
 pub holders : (head : Head) (xs : List Event) → IsLawful head xs → HoldersDontRead xs
-holders head xs h = holders_from head [] xs holders_none h.1
+holders head xs h = holds head HoldersDontRead holders_none (λ xs e s k d. holders_step head xs e s.0 d) xs h

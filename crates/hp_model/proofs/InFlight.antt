@@ -1,5 +1,5 @@
 -- What the rows' tests say of walks, readers and registrations: none is in flight.
-use Rattle.std.proofs.Common.{◌≡◌, ℕ, ◌+◌, Bool, true, false, cond, not, eqb, ltb, is_some, Option, Some, None, List, [], ◌∷◌, ◌++◌, refl, sym, ◌∙◌, arith}
+use Rattle.std.proofs.Common.{◌≡◌, ℕ, ◌+◌, Bool, true, false, cond, not, eqb, ltb, is_some, Option, Some, None, List, [], ◌∷◌, ◌++◌, refl, ap, sym, ◌∙◌, arith}
 use Rattle.std.proofs.lemmas.Bool.{true≢false}
 use Rattle.std.proofs.lemmas.Bool.Decides.{nat_tests}
 use Rattle.hp_event.specs.declared.event.Event.{Event}
@@ -9,7 +9,7 @@ use Rattle.hp_model.specs.Lists.{occurs, among, without, is_empty}
 use Rattle.hp_model.specs.Walks.{Walk, walk, walk_step, walking, walking_step, is_walking}
 use Rattle.hp_model.specs.Readers.{reading_since, reading_since_step, readers, readers_step, is_read}
 use Rattle.hp_model.proofs.Counts.{occurs-append}
-use Rattle.hp_model.proofs.ListLemmas.{occurs-without}
+use Rattle.hp_model.proofs.ListLemmas.{occurs-without, none_among}
 
 pub none_of : {A : Type 0} (o : Option A) → is_some o ≡ false → o ≡ None
 none_of None h = refl
@@ -32,11 +32,11 @@ among-in c k ws = rw (occurs-append c (without k ws) (k ∷ []), occurs-without 
 pub among-out : (c k : ℕ) (ws : List ℕ) → among c (without k ws) ≡ cond (eqb k c) false (among c ws)
 among-out c k ws = rw (occurs-without k c ws) (among_none (occurs c ws) c k)
 
-some_in : {A : Type 0} (b : Bool) (x : A) (o : Option A) → cond b true (is_some o) ≡ is_some (cond b (Some x) o)
+pub some_in : {A : Type 0} (b : Bool) (x : A) (o : Option A) → cond b true (is_some o) ≡ is_some (cond b (Some x) o)
 some_in true x o = refl
 some_in false x o = refl
 
-none_in : {A : Type 0} (b : Bool) (o : Option A) → cond b false (is_some o) ≡ is_some (cond b None o)
+pub none_in : {A : Type 0} (b : Bool) (o : Option A) → cond b false (is_some o) ≡ is_some (cond b None o)
 none_in true o = refl
 none_in false o = refl
 
@@ -62,6 +62,10 @@ walking_is c xs = walking_from c [] xs [] None refl
 pub walk_none : (xs : List Event) → is_walking xs ≡ false → (c : ℕ) → walk c xs ≡ None
 walk_none xs h c =
     none_of (walk c xs) (sym (walking_is c xs) ∙ (rw (empty_of (walking xs) h) refl))
+
+-- and the other way round: where no processor has one none walks
+pub none_walking : (xs : List Event) → ((c : ℕ) → walk c xs ≡ None) → walking xs ≡ []
+none_walking xs h = none_among (walking xs) (λ c. walking_is c xs ∙ ap is_some (h c))
 
 reader_one : (k : ℕ) (before : List Event) (e : Event) (ws : List ℕ) (o : Option (List Event)) → among k ws ≡ is_some o →
     among k (readers_step ws before e) ≡ is_some (reading_since_step k o before e)

@@ -1,6 +1,5 @@
 -- Every lawful journal keeps what Kept says.
-use Rattle.std.proofs.Common.{◌≡◌, ℕ, Bool, true, false, cond, eqb, leb, List, [], ◌∷◌, ◌++◌, refl, sym, ◌∙◌, arith, inl, inr, ◌⊎◌, append_assoc}
-use Rattle.std.proofs.lemmas.List.{append-nil}
+use Rattle.std.proofs.Common.{◌≡◌, ℕ, Bool, true, false, cond, eqb, leb, List, [], ◌∷◌, ◌++◌, refl, sym, ◌∙◌, arith, inl, inr, ◌⊎◌}
 use Rattle.std.proofs.lemmas.Bool.{true≢false, eqb-true}
 use Rattle.hp_states.specs.declared.dir.Dir.TheVariants.{Up, Down}
 use Rattle.hp_event.specs.declared.head.Head.{Head}
@@ -24,6 +23,7 @@ use Rattle.hp_model.proofs.Owners.{Owners, owners_none, owners_step}
 use Rattle.hp_model.proofs.BatchLemmas.{begins_still}
 use Rattle.hp_model.proofs.WalkSteps.{quiet_event, begin_step, call_step, end_step}
 use Rattle.hp_model.proofs.RegistrationSteps.{registration_begin_step, registration_call_step, registration_end_step}
+use Rattle.hp_model.proofs.Laws.{EachAfter_keeps}
 
 -- nothing has happened
 pub balanced_none : (head : Head) (c : ℕ) → Balanced head c []
@@ -97,10 +97,18 @@ held_step head xs e h k = record {
 
 pub held_from : (head : Head) (before es : List Event) → Held head before → EachAfter (Stands head) before es →
     Held head (before ++ es)
-held_from head before [] k h = rw append-nil k
-held_from head before (e ∷ es) k h =
-    let r = held_from head (before ++ e ∷ []) es (held_step head before e h.0.0 k) h.1 in
-    rw (append_assoc before (e ∷ []) es) at r
+held_from head before es k h = EachAfter_keeps (Stands head) (Held head) (λ xs e s h. held_step head xs e s.0 h) before es k h
+
+pub held : (head : Head) (events : List Event) → IsLawful head events → Held head events
+held head events h = held_from head [] events (held_none head h.0) h.1
 
 pub kept : (head : Head) (events : List Event) → IsLawful head events → Kept head events
-kept head events h = (held_from head [] events (held_none head h.0) h.1).kept
+kept head events h = (held head events h).kept
+
+-- what holds at first, and what each event keeps that stands beside them
+pub holds : (head : Head) (Holds : List Event → Type 0) → Holds [] →
+    ((xs : List Event) (e : Event) → Stands head xs e → Held head xs → Holds xs → Holds (xs ++ e ∷ [])) → (events : List Event) →
+    IsLawful head events → Holds events
+holds head Holds first keeps events h =
+    (EachAfter_keeps (Stands head) (λ xs. Held head xs × Holds xs) (λ xs e s k. (held_step head xs e s.0 k.0, keeps xs e s k.0 k.1)) []
+    events (held_none head h.0, first) h.1).1

@@ -1,8 +1,11 @@
 -- One event more: what each notion is after the events and one more.
-use Rattle.std.proofs.Common.{◌≡◌, ℕ, false, cond, eqb, None, List, [], ◌∷◌, ◌++◌, refl, ap, ◌∙◌, append_assoc}
-use Rattle.std.proofs.lemmas.List.{append-nil}
+use Rattle.std.proofs.Common.{◌≡◌, ℕ, ◌+◌, ◌≤◌, Bool, true, false, ◌&&◌, cond, eqb, None, List, [], ◌∷◌, ◌++◌, length, refl, ap, ◌∙◌, append_assoc, arith}
+use Rattle.std.proofs.lemmas.List.{append-nil, length_push}
+use Rattle.hp_states.specs.Rules.{Site}
+use Rattle.hp_event.specs.declared.op.Op.TheVariants.{Setup}
 use Rattle.hp_event.specs.declared.head.Head.{Head}
 use Rattle.hp_event.specs.declared.event.Event.{Event}
+use Rattle.hp_event.specs.declared.event.Event.TheVariants.{Call, RegBegin}
 use Rattle.hp_model.specs.Journal.{over_from, EachAfter}
 use Rattle.hp_model.specs.Walks.{walk_step, walk, entries_step, walk_entries, touched_step, touched, walking, walking_step}
 use Rattle.hp_model.specs.Registrations.{registration_step, registration, registration_entries_step, registration_entries}
@@ -10,10 +13,11 @@ use Rattle.hp_model.specs.Registered.{registered_step, registered}
 use Rattle.hp_model.specs.Readers.{reading_since_step, reading_since, readers, readers_step}
 use Rattle.hp_model.specs.MapLock.{operation_step, operation}
 use Rattle.hp_model.specs.Armed.{armed_step, armed}
-use Rattle.hp_model.specs.Calls.{sites_step, sites}
+use Rattle.hp_model.specs.Calls.{is_called, sites_step, sites}
 use Rattle.hp_model.specs.Sequence.{begun_step, begun, answers_step, answers}
 use Rattle.hp_model.specs.Suspend.{frozen_step, frozen, disabled_step, disabled, wakeup_step, wakeup_pending}
 use Rattle.hp_model.specs.Settled.{settled_step, settled}
+use Rattle.hp_model.specs.Summary.{faults_step, hook_faults}
 use Rattle.hp_model.specs.Seats.{admits, admits_step, role_of, role_step, ap_seat, ap_step, seats, seats_step}
 
 pub over_from_push : {S : Type 0} (step : S → List Event → Event → S) (value : S) (before xs : List Event) (e : Event) →
@@ -84,6 +88,15 @@ EachAfter_more Rule before [] e h r = (rw append-nil at r, tt)
 EachAfter_more Rule before (x ∷ xs) e h r =
     (h.0, EachAfter_more Rule (before ++ x ∷ []) xs e h.1 (rw (append_assoc before (x ∷ []) xs) r))
 
+-- what each event by the rule keeps
+pub EachAfter_keeps : (Rule : List Event → Event → Type 0) (Holds : List Event → Type 0) →
+    ((xs : List Event) (e : Event) → Rule xs e → Holds xs → Holds (xs ++ e ∷ [])) → (before xs : List Event) → Holds before →
+    EachAfter Rule before xs → Holds (before ++ xs)
+EachAfter_keeps Rule Holds keeps before [] k h = rw append-nil k
+EachAfter_keeps Rule Holds keeps before (x ∷ xs) k h =
+    let r = EachAfter_keeps Rule Holds keeps (before ++ x ∷ []) xs (keeps before x h.0 k) h.1 in
+    rw (append_assoc before (x ∷ []) xs) at r
+
 pub EachAfter_front : (Rule : List Event → Event → Type 0) (before xs ys : List Event) →
     EachAfter Rule before (xs ++ ys) → EachAfter Rule before xs
 EachAfter_front Rule before [] ys h = tt
@@ -136,3 +149,30 @@ begun_push xs e = over_from_push begun_step [] [] xs e
 pub answers_push : (xs : List Event) (e : Event) → answers (xs ++ e ∷ []) ≡ answers_step (answers xs) xs e
 unfolding answers
 answers_push xs e = over_from_push answers_step [] [] xs e
+
+pub hook_faults_push : (s : ℕ) (xs : List Event) (e : Event) → hook_faults s (xs ++ e ∷ []) ≡ faults_step s (hook_faults s xs) xs e
+unfolding hook_faults
+hook_faults_push s xs e = over_from_push (faults_step s) 0 [] xs e
+
+-- no hook was called more often than there are events
+sites_grow : (s : ℕ) (found : List Site) (xs : List Event) (e : Event) → length (sites_step s found xs e) ≤ length found + 1
+sites_grow s found xs (RegBegin seat state (Setup asked sub form)) = grind arith
+sites_grow s found xs (Call seat cpu state inst dir how) = go (eqb state s && is_called how)
+  where
+    go : (b : Bool) → length (cond b (found ++ record { cpu = cpu; inst = inst; dir = dir } ∷ []) found) ≤ length found + 1
+    go true = rw length_push (omega arith)
+    go false = omega arith
+sites_grow s found xs (RegBegin seat state op) = omega arith
+sites_grow s found xs e = omega arith
+
+sites_from : (s : ℕ) (found : List Site) (before es : List Event) →
+    length (over_from (sites_step s) found before es) ≤ length found + length es
+sites_from s found before [] = omega arith
+sites_from s found before (e ∷ es) =
+    let h = sites_from s (sites_step s found before e) (before ++ e ∷ []) es in
+    let g = sites_grow s found before e in
+    omega arith
+
+pub sites_few : (s : ℕ) (xs : List Event) → length (sites s xs) ≤ length xs
+unfolding sites
+sites_few s xs = omega (arith, sites_from s [] [] xs)

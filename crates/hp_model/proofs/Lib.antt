@@ -30,6 +30,7 @@ pub mod Remains
 pub mod Members
 pub mod WalkGives
 pub mod RegistrationGives
+pub mod EntryProcessors
 pub mod KeyLaw
 mod Example
 mod FullExample
@@ -48,14 +49,16 @@ pub mod SeatLemmas
 pub mod PromisedParts
 pub mod PromisedBegins
 pub mod Promises
-pub mod OneAnswer
+pub mod Failing
 pub mod WalkEnd
 pub mod PlanLemmas
 pub mod PlanBounds
 pub mod NextRegistration
 pub mod OneEntry
+pub mod Errands
 pub mod OneRegistration
 pub mod RegistrationCursor
+pub mod RegistrationEnd
 pub mod TreeSteps
 pub mod HowLemmas
 pub mod NextOfWalk
@@ -72,8 +75,6 @@ pub mod OneNext
 pub mod OneFate
 pub mod Slow
 pub mod RunLemmas
-pub mod Rounds
-pub mod OneActor
 pub mod DueGives
 pub mod NextStands
 pub mod NextGives
@@ -96,8 +97,6 @@ pub mod DrawLemmas
 pub mod MovesOn
 pub mod RoundsEnd
 pub mod OverStays
-pub mod RoundsMakeRun
-pub mod ClientKept
 pub mod Fronts
 pub mod QueueMoves
 pub mod SeatNext

@@ -106,3 +106,40 @@ among_more c xs ys h =
 pub among_last : (c : ℕ) (xs : List ℕ) → among c (xs ++ c ∷ []) ≡ true
 among_last c xs =
     let o = once_in c [] in let a = occurs-append c xs (c ∷ []) in is_among c (xs ++ c ∷ []) (omega arith)
+
+-- a list that nothing is among
+pub none_among : (xs : List ℕ) → ((c : ℕ) → among c xs ≡ false) → xs ≡ []
+none_among [] h = refl
+none_among (x ∷ xs) h = absurd (true≢false (sym (is_among x (x ∷ xs) (once_in x xs)) ∙ h x))
+
+-- a filter of a filter
+pub filter_both : (p q : ℕ → Bool) (xs : List ℕ) → filter p (filter q xs) ≡ filter (λ x. p x && q x) xs
+filter_both p q [] = refl
+filter_both p q (x ∷ xs) = go (p x) (q x) refl refl (filter_both p q xs)
+  where
+    go : (a b : Bool) → p x ≡ a → q x ≡ b → filter p (filter q xs) ≡ filter (λ x. p x && q x) xs →
+        filter p (cond b (x ∷ filter q xs) (filter q xs))
+        ≡ cond (a && b) (x ∷ filter (λ x. p x && q x) xs) (filter (λ x. p x && q x) xs)
+    go true true e f h = rw (e, h) refl
+    go true false e f h = h
+    go false true e f h = rw e h
+    go false false e f h = h
+
+-- the numbers from one on, from its end and from its front
+unfoldable pub from : (a n : ℕ) → List ℕ
+from a zero = []
+from a (suc n) = a ∷ from (suc a) n
+
+pub from_more : (a n : ℕ) → from a (suc n) ≡ from a n ++ (a + n) ∷ []
+unfolding from
+from_more a zero = let e : a ≡ a + 0 = omega arith in ap (λ (k : ℕ). k ∷ []) e
+from_more a (suc n) =
+    let e : suc a + n ≡ a + suc n = omega arith in
+    ap (λ xs. a ∷ xs) (from_more (suc a) n ∙ ap (λ (k : ℕ). from (suc a) n ++ k ∷ []) e)
+
+pub numbers_from : (n : ℕ) → numbers n ≡ from 0 n
+unfolding from
+numbers_from zero = refl
+numbers_from (suc n) =
+    let e : 0 + n ≡ n = omega arith in
+    ap (λ xs. xs ++ n ∷ []) (numbers_from n) ∙ sym (from_more 0 n ∙ ap (λ (k : ℕ). from 0 n ++ k ∷ []) e)

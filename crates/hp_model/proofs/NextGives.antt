@@ -5,11 +5,12 @@ use Rattle.std.proofs.lemmas.Bool.{true≢false, false≢true, eq-eqb, and_parts
 use Rattle.hp_event.specs.declared.op.Op.{Op}
 use Rattle.hp_event.specs.declared.head.Head.{Head}
 use Rattle.hp_event.specs.declared.event.Event.{Event}
-use Rattle.hp_event.specs.declared.event.Event.TheVariants.{Refused, Call, WalkEnd, RegEnd}
+use Rattle.hp_event.specs.declared.event.Event.TheVariants.{Refused, Call, WalkEnd}
 use Rattle.hp_model.specs.Events.{seat_of, BelongsTo}
 use Rattle.hp_model.specs.Walks.{Walk, walk}
 use Rattle.hp_model.specs.MapLock.{operation}
 use Rattle.hp_model.specs.Seats.{is_busy, IsFree}
+use Rattle.hp_model.specs.BatchTurn.{has_turn}
 use Rattle.hp_model.specs.Settled.{settled}
 use Rattle.hp_model.specs.Sequence.{Next, walks, ends, nothing, next}
 use Rattle.hp_model.specs.Waits.{Wait, wait_to_walk, wait_to_begin}
@@ -27,10 +28,10 @@ use Rattle.hp_model.specs.NextEvent.{walk_begin, event_of_holder, next_of_holder
 use Rattle.hp_model.proofs.Owners.{Owners, none_some}
 use Rattle.hp_model.proofs.OneNext.{one_next, owners}
 use Rattle.hp_model.proofs.OneFate.{waits_still, not_true}
-use Rattle.hp_model.proofs.Stages.{Between, WalkEvent, RegistrationEvent, Stage, stage_of, event_next}
+use Rattle.hp_model.proofs.Stages.{Between, WalkEvent, Stage, stage_of, event_next}
 use Rattle.hp_model.proofs.FirstEvents.{begins}
 use Rattle.hp_model.proofs.WalkGives as by_walk
-use Rattle.hp_model.proofs.WalkGives.{Given, walk_given}
+use Rattle.hp_model.proofs.WalkGives.{walk_given}
 use Rattle.hp_model.proofs.RegistrationGives as by_registration
 use Rattle.hp_model.proofs.RegistrationGives.{registration_given}
 use Rattle.hp_model.proofs.Members.{Has, not_found}
@@ -76,19 +77,13 @@ first_gives head xs p e lawful a free h s b =
 -- an event of the walk or the registration of a busy seat is under way
 walk_event_under : (head : Head) (xs : List Event) (k c : ℕ) (w : Walk) (e : Event) → walk c xs ≡ Some w → WalkEvent head xs k c e →
     Has (under_way head xs) e
-walk_event_under head xs k c w (Call seat cpu state inst dir how) at h =
-    rw (h.0, h.1) (walk_under head xs c w _ at h.2.turn (by_walk.gives_entry head xs k c state inst dir how h.2))
-walk_event_under head xs k c w (WalkEnd seat cpu answer) at h =
-    rw (h.0, h.1) (walk_under head xs c w _ at h.2.turn (by_walk.gives_end head xs k c answer h.2))
-walk_event_under head xs k c w e at h = elim h [ ]
-
-registration_event_under : (head : Head) (xs : List Event) (k : ℕ) (e : Event) → RegistrationEvent head xs k e →
-    Has (under_way head xs) e
-registration_event_under head xs k (Call seat cpu state inst dir how) h =
-    rw h.0 (registration_under head xs _ (by_registration.gives_entry head xs k cpu state inst dir how h.1))
-registration_event_under head xs k (RegEnd seat answer) h =
-    rw h.0 (registration_under head xs _ (by_registration.gives_end head xs k answer h.1))
-registration_event_under head xs k e h = elim h [ ]
+walk_event_under head xs k c w e at h =
+    walk_under head xs c w e at (turn e h) (by_walk.gives head xs k c e h)
+  where
+    turn : (e : Event) → WalkEvent head xs k c e → has_turn head xs (seat_of e) c ≡ true
+    turn (Call seat cpu state inst dir how) h = rw h.0 h.2.turn
+    turn (WalkEnd seat cpu answer) h = rw h.0 h.2.turn
+    turn e h = elim h [ ]
 
 -- what the holder of the map lock does is given
 holder_gives : (head : Head) (xs : List Event) (p : Pending) (e : Event) → IsLawful head xs → IsAllowed head xs p →
@@ -132,7 +127,7 @@ next_none head xs p e lawful a h s b n = go (is_busy p.seat xs) refl n
         not_found (λ e. eqb (seat_of e) p.seat) (under_way head xs) e f
         (walk_event_under head xs p.seat t.cpu t.of e t.in_flight t.event_is) (eq-eqb (seat_of e) p.seat s)
     staged busy f g (inr (inr (inr t))) =
-        not_found (λ e. eqb (seat_of e) p.seat) (under_way head xs) e f (registration_event_under head xs p.seat e t.event_is)
+        not_found (λ e. eqb (seat_of e) p.seat) (under_way head xs) e f (registration_under head xs e (by_registration.gives head xs p.seat e t.event_is))
         (eq-eqb (seat_of e) p.seat s)
 
     go : (busy : Bool) → is_busy p.seat xs ≡ busy →

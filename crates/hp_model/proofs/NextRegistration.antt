@@ -1,13 +1,11 @@
--- After some entries of a registration the next slot is determined, but for whether it fails.
-use Rattle.std.proofs.Common.{◌≡◌, ℕ, Bool, true, false, Option, Some, None, List, [], ◌∷◌, ◌++◌, refl, append_assoc}
+-- All shapes of a registration are ways through one tree.
+use Rattle.std.proofs.Common.{ℕ, Bool, true, false, Option, Some, None, List, [], ◌∷◌, ◌++◌, refl, append_assoc}
 use Rattle.std.proofs.lemmas.List.{append-nil}
 use Rattle.hp_states.specs.declared.dir.Dir.TheVariants.{Up, Down}
 use Rattle.hp_states.specs.declared.place.Place.{Place}
-use Rattle.hp_event.specs.declared.event.Event.{Event}
 use Rattle.hp_model.specs.Crossing.{Slot}
 use Rattle.hp_model.specs.RegistrationShape.{each, Registering, made, undone, IsRegistrationShape}
-use Rattle.hp_model.specs.StandsCalls.{IsNext}
-use Rattle.hp_model.proofs.NextSlot.{with_fails, Follow, next_same}
+use Rattle.hp_model.proofs.NextSlot.{Follow}
 pub use Rattle.hp_model.specs.Trees.{down_tree, add_tree, registration_tree}
 
 pub down_follows : (p : Place) (s i : ℕ) (cs : List ℕ) → Follow (down_tree p s i cs) (each p Down s i cs)
@@ -36,11 +34,3 @@ registration_follows true s (Some i) cs xs undone h =
     rw (h.cpus_are, h.slots_are) (undone_follows s i [] h.before h.cpu h.after)
 registration_follows false s (Some i) cs xs made h = rw h (down_follows Place.Remove s i cs)
 registration_follows false s (Some i) cs xs undone h = elim h [ ]
-
-pub next_registration_same : (adding : Bool) (s : ℕ) (key : Option ℕ) (cs : List ℕ) (xs ys : List Slot) (o p : Registering)
-    (es : List Event) (x y : Slot) → IsRegistrationShape adding s key cs xs o → IsRegistrationShape adding s key cs ys p →
-    IsNext xs es x → IsNext ys es y → with_fails x false ≡ with_fails y false
-next_registration_same adding s key cs xs ys o p es x y h k u v =
-    let hx = rw u.slots_are at (registration_follows adding s key cs xs o h) in
-    let hy = rw v.slots_are at (registration_follows adding s key cs ys p k) in
-    next_same (registration_tree adding s key cs) u.front v.front x y u.rest v.rest es hx hy u.filled v.filled

@@ -1,18 +1,13 @@
--- After some entries of a walk the next slot is determined, but for whether it fails: all shapes of one
--- plan are ways through one tree, which branches at a fault alone.
-use Rattle.std.proofs.Common.{◌≡◌, ℕ, Bool, true, false, cond, not, List, [], ◌∷◌, ◌++◌, reverse, refl, ap, sym, ◌∙◌, append_assoc}
+-- All shapes of one plan are ways through one tree, which branches at a fault alone.
+use Rattle.std.proofs.Common.{◌≡◌, ℕ, Bool, true, false, cond, List, [], ◌∷◌, ◌++◌, reverse, refl, ap, sym, ◌∙◌, append_assoc}
 use Rattle.std.proofs.lemmas.List.{append-nil, reverse-append}
-use Rattle.std.proofs.lemmas.Bool.{true≢false, false≢true}
 use Rattle.hp_states.specs.declared.dir.Dir.{Dir}
 use Rattle.hp_states.specs.declared.place.Place.{Place}
 use Rattle.hp_states.specs.declared.place.Place.TheVariants.{Forward, Back, Part}
 use Rattle.hp_states.specs.Sections.{opposite}
-use Rattle.hp_event.specs.declared.event.Event.{Event}
-use Rattle.hp_event.specs.declared.event.Event.TheVariants.{Call}
-use Rattle.hp_model.specs.Crossing.{Slot, Fits, Fill, visit, Crossing, done, failed, slots_of, slots}
+use Rattle.hp_model.specs.Crossing.{Slot, visit, Crossing, done, failed, slots_of, slots}
 use Rattle.hp_model.specs.Lists.{is_empty}
 use Rattle.hp_model.specs.WalkShape.{Outcome, went, returned, stopped, crossed, IsWalkShape}
-use Rattle.hp_model.specs.StandsCalls.{IsNext}
 pub use Rattle.hp_model.specs.Trees.{Tree, stop, dead, step, visit_tree, part_tree, back_tree, walk_tree}
 pub use Rattle.hp_model.specs.Runs.{with_fails}
 
@@ -188,62 +183,3 @@ shape_follows c keys d plan xs (stopped at) h =
     rw (h.plan_is, h.crossings_are)
     (stuck_follows c keys d h.before h.stuck_state h.between h.state h.after h.earlier h.inst h.later h.stuck_earlier
     h.stuck_inst h.stuck_later h.keys_are h.stuck_keys_are)
-
--- what follows one tree has the same next slot
-pub not_same : (a b : Bool) → not a ≡ not b → a ≡ b
-not_same true true h = refl
-not_same true false h = absurd (false≢true h)
-not_same false true h = absurd (true≢false h)
-not_same false false h = refl
-
-pub fails_same : (x y : Slot) (e : Event) → Fits x e → Fits y e → x.fails ≡ y.fails
-fails_same x y (Call seat cpu state inst dir how) h k = not_same x.fails y.fails (sym h.4 ∙ k.4)
-fails_same x y e h k = elim h [ ]
-
-pub first_same : (t : Tree) (x y : Slot) (r q : List Slot) → Follow t (x ∷ r) → Follow t (y ∷ q) →
-    with_fails x false ≡ with_fails y false
-first_same stop x y r q h k = elim h [ ]
-first_same dead x y r q h k = elim h [ ]
-first_same (step s a b) x y r q h k =
-    ap (λ z. with_fails z false) h.0 ∙ sym (ap (λ z. with_fails z false) k.0)
-
--- both go on below the same branch
-pub below_same : (t : Tree) (x y : Slot) (r q : List Slot) → x.fails ≡ y.fails → Follow t (x ∷ r) → Follow t (y ∷ q) →
-    (u : Tree) × Follow u r × Follow u q
-below_same stop x y r q e h k = elim h [ ]
-below_same dead x y r q e h k = elim h [ ]
-below_same (step s a b) x y r q e h k = (cond x.fails b a, h.1, rw e k.1)
-
-pub next_same : (t : Tree) (f g : List Slot) (x y : Slot) (r q : List Slot) (es : List Event) →
-    Follow t (f ++ x ∷ r) → Follow t (g ++ y ∷ q) → Fill f es → Fill g es → with_fails x false ≡ with_fails y false
-next_same t [] [] x y r q [] h k u v = first_same t x y r q h k
-next_same t (z ∷ f) g x y r q [] h k u v = elim u [ ]
-next_same t [] (z ∷ g) x y r q [] h k u v = elim v [ ]
-next_same t [] g x y r q (e ∷ es) h k u v = elim u [ ]
-next_same t (w ∷ f) [] x y r q (e ∷ es) h k u v = elim v [ ]
-next_same t (w ∷ f) (z ∷ g) x y r q (e ∷ es) h k u v =
-    let b = below_same t w z (f ++ x ∷ r) (g ++ y ∷ q) (fails_same w z e u.0 v.0) h k in
-    next_same b.0 f g x y r q es b.1 b.2 u.1 v.1
-
--- After some entries of a walk the next slot is the same in every shape, but for whether it fails.
-pub next_slot_same : (c : ℕ) (keys : ℕ → List ℕ) (d : Dir) (plan : List ℕ) (xs ys : List Crossing) (o p : Outcome)
-    (es : List Event) (x y : Slot) → IsWalkShape keys d plan xs o → IsWalkShape keys d plan ys p →
-    IsNext (slots c keys xs) es x → IsNext (slots c keys ys) es y → with_fails x false ≡ with_fails y false
-next_slot_same c keys d plan xs ys o p es x y h k u v =
-    let hx = rw u.slots_are at (shape_follows c keys d plan xs o h) in
-    let hy = rw v.slots_are at (shape_follows c keys d plan ys p k) in
-    next_same (walk_tree c keys d [] plan) u.front v.front x y u.rest v.rest es hx hy u.filled v.filled
-
--- a walk that can end can't go on
-pub ended_same : (t : Tree) (xs g : List Slot) (y : Slot) (q : List Slot) (es : List Event) →
-    Follow t xs → Follow t (g ++ y ∷ q) → Fill xs es → Fill g es → ⊥
-ended_same stop [] [] y q [] h k u v = k
-ended_same dead [] [] y q [] h k u v = h
-ended_same (step s a b) [] [] y q [] h k u v = h
-ended_same t (x ∷ xs) g y q [] h k u v = elim u [ ]
-ended_same t [] (z ∷ g) y q [] h k u v = elim v [ ]
-ended_same t [] g y q (e ∷ es) h k u v = elim u [ ]
-ended_same t (x ∷ xs) [] y q (e ∷ es) h k u v = elim v [ ]
-ended_same t (x ∷ xs) (z ∷ g) y q (e ∷ es) h k u v =
-    let b = below_same t x z xs (g ++ y ∷ q) (fails_same x z e u.0 v.0) h k in
-    ended_same b.0 xs g y q es b.1 b.2 u.1 v.1

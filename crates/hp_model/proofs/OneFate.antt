@@ -1,14 +1,13 @@
 -- An operation that waits has no event that can come next, and one whose event stands isn't answered LogFull.
-use Rattle.std.proofs.Common.{◌≡◌, ℕ, Bool, true, false, not, ◌&&◌, cond, eqb, is_some, Option, Some, None, List, refl, ap, sym, ◌∙◌, subst, inl, inr, ◌⊎◌}
+use Rattle.std.proofs.Common.{◌≡◌, ℕ, Bool, true, false, not, ◌&&◌, cond, eqb, is_some, Option, Some, None, List, refl, ap, sym, ◌∙◌, inl, inr, ◌⊎◌}
 use Rattle.std.proofs.lemmas.Bool.{true≢false, false≢true, eqb-true, and_parts}
 use Rattle.hp_event.specs.declared.op.Op.{Op}
-use Rattle.hp_event.specs.declared.answer.Answer.{Answer}
 use Rattle.hp_event.specs.declared.how.How.{How}
 use Rattle.hp_states.specs.declared.dir.Dir.{Dir}
 use Rattle.hp_event.specs.declared.event.Role.TheVariants.{Client}
 use Rattle.hp_event.specs.declared.head.Head.{Head}
 use Rattle.hp_event.specs.declared.event.Event.{Event}
-use Rattle.hp_event.specs.declared.event.Event.TheVariants.{Enter, Refused, WalkBegin, Call, WalkEnd, OpEnd, RegBegin, RegEnd, ReadLock, ReadUnlock, Armed, Shown, Wakeup}
+use Rattle.hp_event.specs.declared.event.Event.TheVariants.{Admit, Leave, WalkBegin, Call, WalkEnd, OpEnd, RegEnd}
 use Rattle.hp_model.specs.Events.{seat_of, BelongsTo}
 use Rattle.hp_model.specs.Walks.{Walk, walk, is_walking}
 use Rattle.hp_model.specs.Registrations.{Registration, registration}
@@ -28,13 +27,9 @@ use Rattle.hp_model.proofs.InFlight.{walk_none}
 use Rattle.hp_model.proofs.WaitLemmas.{later_walk}
 use Rattle.hp_model.proofs.BatchLemmas.{walking_begun}
 use Rattle.hp_model.proofs.Owners.{Owners, alone_at, same_some, none_some, idle_op, idle_reg, not_self}
-use Rattle.hp_model.proofs.Stages.{first_event, entered, shown_first, called_by, ap_no_client}
+use Rattle.hp_model.proofs.Stages.{IsFirst, first_is, called_by, ap_no_client}
 use Rattle.hp_model.proofs.OneNext.{owners}
-
--- the event is a free seat's first: its refusal, or its begin where it passes
-pub record IsFirst (head : Head) (xs : List Event) (k : ℕ) (op : Op) (e : Event) : Type 0 where
-  pub event_is : e ≡ first_event head xs k op
-  pub passes : Passes head xs k op ⊎ ((errno : ℕ) × (refusal head xs k op ≡ Some errno))
+use Rattle.hp_model.proofs.Operations.{not_walk}
 
 -- who has an operation in flight isn't free
 pub not_holder : (xs : List Event) (k : ℕ) (o : Operation) → IsFree xs k → operation xs ≡ Some o → o.seat ≡ k → ⊥
@@ -61,30 +56,6 @@ no_entry head xs k c state inst dir how o f (inr r) = go (called_by (is_made_by_
 
 pub first_only : (head : Head) (xs : List Event) (op : Op) (e : Event) → Owners xs → IsFree xs (seat_of e) → BelongsTo op e →
     Comes head xs e → IsFirst head xs (seat_of e) op e
-first_only head xs op (Enter seat asked) o f b h =
-    subst (λ z. IsFirst head xs seat z (Enter seat asked)) b
-    (record { event_is = entered head xs seat asked h; passes = inl h.passes })
-first_only head xs op (Refused seat errno asked) o f b h =
-    subst (λ z. IsFirst head xs seat z (Refused seat errno asked)) b
-    (record { event_is = rw h.refused refl; passes = inr (errno, h.refused) })
-first_only head xs op (RegBegin seat state asked) o f b h =
-    subst (λ z. IsFirst head xs seat z (RegBegin seat state asked)) b
-    (record { event_is = rw (h.passes.not_refused, h.state_is) refl; passes = inl h.passes })
-first_only head xs op (ReadLock seat) o f b h =
-    subst (λ z. IsFirst head xs seat z (ReadLock seat)) (sym b)
-    (record { event_is = rw h.passes.not_refused refl; passes = inl h.passes })
-first_only head xs op (ReadUnlock seat) o f b h =
-    subst (λ z. IsFirst head xs seat z (ReadUnlock seat)) (sym b)
-    (record { event_is = rw h.passes.not_refused refl; passes = inl h.passes })
-first_only head xs op (Armed seat cpu value) o f b h =
-    subst (λ z. IsFirst head xs seat z (Armed seat cpu value)) (sym b)
-    (record { event_is = rw h.passes.not_refused refl; passes = inl h.passes })
-first_only head xs op (Shown seat file cpu value) o f b h =
-    subst (λ z. IsFirst head xs seat z (Shown seat file cpu value)) (sym b)
-    (record { event_is = shown_first head xs seat file cpu value h; passes = inl h.passes })
-first_only head xs op (Wakeup seat) o f b h =
-    subst (λ z. IsFirst head xs seat z (Wakeup seat)) (sym b)
-    (record { event_is = rw h.passes.not_refused refl; passes = inl h.passes })
 first_only head xs op (WalkBegin seat cpu from to) o f b h = absurd (not_holder xs seat h.of f h.held h.seat_is)
 first_only head xs op (OpEnd seat answer) o f b h = absurd (go h)
   where
@@ -94,7 +65,9 @@ first_only head xs op (OpEnd seat answer) o f b h = absurd (go h)
 first_only head xs op (WalkEnd seat cpu answer) o f b h = absurd (not_walker xs seat cpu h.of o f h.in_flight h.seat_is)
 first_only head xs op (RegEnd seat answer) o f b h = absurd (not_registrar xs seat h.of f h.in_flight h.seat_is)
 first_only head xs op (Call seat cpu state inst dir how) o f b h = absurd (no_entry head xs seat cpu state inst dir how o f h)
-first_only head xs op e o f b h = elim b [ ]
+first_only head xs op (Admit seat role) o f b h = elim b [ ]
+first_only head xs op (Leave seat) o f b h = elim b [ ]
+first_only head xs op e o f b h = first_is head xs op e b h refl
 
 -- an operation whose event stands isn't answered LogFull
 pub stands_not_full : (head : Head) (xs : List Event) (k : ℕ) (op : Op) (e : Event) → IsLawful head xs → Stands head xs e →
@@ -164,9 +137,6 @@ waits_at_rest head xs k c v o w at = go (is_upmany w.of.op) refl
     go true u = true≢false (sym w.waits ∙ ap is_some (later_walk xs (walking_begun xs w.of c v o w.held u at)))
     go false u = none_some v (sym (walk_none xs (alone_at (is_upmany w.of.op) (is_walking xs) w.between u) c) ∙ at)
 
-not_end : (answer : Answer) (c to : ℕ) → ends answer ≡ walks c to → ⊥
-not_end answer c to h = cc
-
 holder_still : (head : Head) (xs : List Event) (k : ℕ) (op : Op) (e : Event) → Owners xs → HolderWaits head xs k →
     role_of k xs ≡ Some Client → is_busy k xs ≡ true → seat_of e ≡ k → Comes head xs e → BelongsTo op e → ⊥
 holder_still head xs k op (WalkBegin seat cpu from to) o w client busy by h b = no_walk_begins head xs seat cpu from to h w.waits
@@ -175,7 +145,7 @@ holder_still head xs k op (OpEnd seat answer) o w client busy by h b = go h
     go : IsOver head xs seat answer ⊎ IsCut head xs seat answer → ⊥
     go (inl v) =
         let same : v.of ≡ w.of = same_some v.of w.of (sym v.held ∙ w.held) in
-        not_end answer w.cpu w.to (sym (rw same at v.gives) ∙ w.gives)
+        not_walk answer w.cpu w.to (sym (rw same at v.gives) ∙ w.gives)
     go (inr c) = no_walk_begins head xs seat c.cpu c.from c.to c.begins w.waits
 holder_still head xs k op (WalkEnd seat cpu answer) o w client busy by h b =
     waits_at_rest head xs k cpu h.of o w h.in_flight
@@ -190,15 +160,9 @@ holder_still head xs k op (Call seat cpu state inst dir how) o w client busy by 
         maker : (r.entry.of.seat ≡ seat) ⊎ (ap_seat cpu xs ≡ Some seat) → ⊥
         maker (inl s) = o.apart w.of r.entry.of w.held r.entry.in_flight (w.seat_is ∙ sym (s ∙ by))
         maker (inr a) = ap_no_client xs cpu seat o a (rw by client)
-holder_still head xs k op (Enter seat asked) o w client busy by h b = true≢false (sym busy ∙ (rw by at h.free.idle))
-holder_still head xs k op (Refused seat errno asked) o w client busy by h b = true≢false (sym busy ∙ (rw by at h.free.idle))
-holder_still head xs k op (RegBegin seat state asked) o w client busy by h b = true≢false (sym busy ∙ (rw by at h.free.idle))
-holder_still head xs k op (ReadLock seat) o w client busy by h b = true≢false (sym busy ∙ (rw by at h.free.idle))
-holder_still head xs k op (ReadUnlock seat) o w client busy by h b = true≢false (sym busy ∙ (rw by at h.free.idle))
-holder_still head xs k op (Armed seat cpu value) o w client busy by h b = true≢false (sym busy ∙ (rw by at h.free.idle))
-holder_still head xs k op (Shown seat file cpu value) o w client busy by h b = true≢false (sym busy ∙ (rw by at h.free.idle))
-holder_still head xs k op (Wakeup seat) o w client busy by h b = true≢false (sym busy ∙ (rw by at h.free.idle))
-holder_still head xs k op e o w client busy by h b = b
+holder_still head xs k op (Admit seat role) o w client busy by h b = b
+holder_still head xs k op (Leave seat) o w client busy by h b = b
+holder_still head xs k op e o w client busy by h b = true≢false (sym busy ∙ (rw by at h.free.idle))
 
 -- an operation that isn't refused and waits has no event that can come next
 pub waits_still : (head : Head) (xs : List Event) (k : ℕ) (op : Op) (w : Wait) (e : Event) → IsLawful head xs →

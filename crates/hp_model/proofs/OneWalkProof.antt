@@ -1,24 +1,23 @@
 -- While a processor walks, no other one has walked since its walk began, in a lawful journal and but in an upmany.
-use Rattle.std.proofs.Common.{◌≡◌, ℕ, Bool, true, false, cond, eqb, is_some, Some, None, List, [], ◌∷◌, ◌++◌, append_assoc, refl, ap, sym, ◌∙◌, inl, inr, ◌⊎◌, subst}
-use Rattle.std.proofs.lemmas.List.{append-nil}
+use Rattle.std.proofs.Common.{◌≡◌, ℕ, Bool, true, false, cond, eqb, is_some, Some, None, List, [], ◌∷◌, ◌++◌, refl, ap, sym, ◌∙◌, inl, inr, ◌⊎◌, subst}
 use Rattle.std.proofs.lemmas.Bool.{eqb-true}
 use Rattle.hp_event.specs.declared.head.Head.{Head}
 use Rattle.hp_event.specs.declared.event.Event.{Event}
 use Rattle.hp_event.specs.declared.event.Event.TheVariants.{Enter, WalkBegin, WalkEnd, OpEnd}
-use Rattle.hp_model.specs.Journal.{EachAfter}
 use Rattle.hp_model.specs.Walks.{Walk, walk, is_walking, touched}
-use Rattle.hp_model.specs.Lawful.{Comes, Stands, IsLawful}
+use Rattle.hp_model.specs.Lawful.{Comes, IsLawful}
 use Rattle.hp_model.specs.Headline.{Unchanged}
 use Rattle.hp_model.specs.OneWalk.{IsOnlyWalk, LeavesOthers, WalksAlone}
 use Rattle.hp_model.proofs.Laws.{walk_push, operation_push, touched_push}
 use Rattle.hp_model.proofs.InFlight.{walk_none}
-use Rattle.hp_model.proofs.Owners.{Owners, owners_none, owners_step, alone_at, enters_at_rest, over_at_rest, same_some, none_some}
+use Rattle.hp_model.proofs.Owners.{Owners, alone_at, enters_at_rest, over_at_rest, same_some, none_some}
 use Rattle.hp_model.proofs.OneNext.{owners}
 use Rattle.hp_model.proofs.Beside.{beside}
 use Rattle.hp_model.proofs.HeadlineProof.{lawful_front, others_unchanged}
 use Rattle.hp_model.specs.MapLock.{operation}
 use Rattle.hp_model.specs.Suspend.{held_by}
 use Rattle.hp_model.specs.Batch.{is_upmany}
+use Rattle.hp_model.proofs.Induction.{holds}
 
 abbrev Untouched : List Event → Type 0
 Untouched xs =
@@ -59,16 +58,10 @@ untouched_step head xs (WalkEnd seat cpu answer) h own u =
 untouched_step head xs e h own u =
     λ c o w q m other. touched_push c o xs e ∙ u c o w (rw (walk_push c xs e) at q) (rw (operation_push xs e) at m) other
 
-untouched_from : (head : Head) (before es : List Event) → Owners before → Untouched before → EachAfter (Stands head) before es →
-    Untouched (before ++ es)
-untouched_from head before [] own u h = rw append-nil u
-untouched_from head before (e ∷ es) own u h =
-    let r = untouched_from head (before ++ e ∷ []) es (owners_step head before e h.0.0 own) (untouched_step head before e h.0.0 own u) h.1 in
-    rw (append_assoc before (e ∷ []) es) at r
-
 untouched : (head : Head) (xs : List Event) → IsLawful head xs → Untouched xs
 unfolding walk
-untouched head xs h = untouched_from head [] xs owners_none (λ c o w q m other. absurd (none_some w q)) h.1
+untouched head xs h =
+    holds head Untouched (λ c o w q m other. absurd (none_some w q)) (λ xs e s k u. untouched_step head xs e s.0 k.owners u) xs h
 
 -- the walks in flight are of one seat
 pub one_seats : (head : Head) (events : List Event) → IsLawful head events → (c d : ℕ) (w v : Walk) → walk c events ≡ Some w →

@@ -28,6 +28,7 @@ use Rattle.hp_model.proofs.ListLemmas.{filtered_out}
 use Rattle.hp_model.proofs.Laws.{operation_push, frozen_push}
 use Rattle.hp_model.proofs.Kept.{WalkKept, Kept}
 use Rattle.hp_model.proofs.Passing.{none_holds, passed}
+pub use Rattle.hp_model.proofs.Passing.{there}
 
 pub record Entered (head : Head) (o : Operation) : Type 0 where
   pub enters : Enters head o.before o.seat o.op
@@ -126,10 +127,6 @@ batch_walk (c ∷ cs) walking answer cpu to h =
     let P : ℕ → Type 0 = λ z. 0 < occurs z (c ∷ cs) in subst P (same_cpu c 200 cpu to h) (once_in c cs)
 batch_walk [] true answer cpu to h = absurd (not_nothing cpu to h)
 batch_walk [] false answer cpu to h = absurd (not_walk answer cpu to h)
-
-pub there : (b : Bool) → not b ≡ false → b ≡ true
-there true h = refl
-there false h = absurd (true≢false h)
 
 listed_there : (a b : Bool) → a ≡ true → (a && not b) ≡ false → b ≡ true
 listed_there true b h k = there b k

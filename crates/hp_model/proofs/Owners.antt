@@ -144,16 +144,15 @@ ap_role_step head xs (Leave seat) h o =
 ap_role_step head xs e h o =
     λ c k q. rw (role_push k xs e) (o.ap_role c k (rw (ap_push c xs e) at q))
 
+-- a client that isn't idle stays in
+client_stays : (head : Head) (xs : List Event) (e : Event) (k : ℕ) → Comes head xs e → Owners xs → role_of k xs ≡ Some Client →
+    ((seat : ℕ) → is_busy seat xs ≡ false → eqb k seat ≡ false) → role_of k (xs ++ e ∷ []) ≡ Some Client
+client_stays head xs (Admit seat role) k h o r apart = admitted head xs seat role h k Client (o.seats_below k Client r) r
+client_stays head xs (Leave seat) k h o r apart = left xs seat k Client (flip k seat (apart seat h.idle)) r
+client_stays head xs e k h o r apart = role_push k xs e ∙ r
+
 op_client_step : (head : Head) (xs : List Event) (e : Event) → Comes head xs e → Owners xs →
     (a : Operation) → operation (xs ++ e ∷ []) ≡ Some a → role_of a.seat (xs ++ e ∷ []) ≡ Some Client
-op_client_step head xs (Admit seat role) h o =
-    λ a q.
-    let r = o.op_client a (rw (operation_push xs (Admit seat role)) at q) in
-    admitted head xs seat role h a.seat Client (o.seats_below a.seat Client r) r
-op_client_step head xs (Leave seat) h o =
-    λ a q.
-    let q1 = rw (operation_push xs (Leave seat)) at q in
-    left xs seat a.seat Client (flip a.seat seat (idle_op xs seat a h.idle q1)) (o.op_client a q1)
 op_client_step head xs (Enter seat op) h o =
     λ a q.
     let n : Operation = record { seat = seat; op = op; before = xs } in
@@ -162,18 +161,11 @@ op_client_step head xs (Enter seat op) h o =
 op_client_step head xs (OpEnd seat answer) h o =
     λ a q. absurd (none_some a (rw (operation_push xs (OpEnd seat answer)) at q))
 op_client_step head xs e h o =
-    λ a q. rw (role_push a.seat xs e) (o.op_client a (rw (operation_push xs e) at q))
+    λ a q.
+    let q1 = rw (operation_push xs e) at q in client_stays head xs e a.seat h o (o.op_client a q1) (λ k i. idle_op xs k a i q1)
 
 reg_client_step : (head : Head) (xs : List Event) (e : Event) → Comes head xs e → Owners xs →
     (r : Registration) → registration (xs ++ e ∷ []) ≡ Some r → role_of r.seat (xs ++ e ∷ []) ≡ Some Client
-reg_client_step head xs (Admit seat role) h o =
-    λ a q.
-    let r = o.reg_client a (rw (registration_push xs (Admit seat role)) at q) in
-    admitted head xs seat role h a.seat Client (o.seats_below a.seat Client r) r
-reg_client_step head xs (Leave seat) h o =
-    λ a q.
-    let q1 = rw (registration_push xs (Leave seat)) at q in
-    left xs seat a.seat Client (flip a.seat seat (idle_reg xs seat a h.idle q1)) (o.reg_client a q1)
 reg_client_step head xs (RegBegin seat state op) h o =
     λ a q.
     let n : Registration = record { seat = seat; state = state; op = op; before = xs } in
@@ -182,7 +174,8 @@ reg_client_step head xs (RegBegin seat state op) h o =
 reg_client_step head xs (RegEnd seat answer) h o =
     λ a q. absurd (none_some a (rw (registration_push xs (RegEnd seat answer)) at q))
 reg_client_step head xs e h o =
-    λ a q. rw (role_push a.seat xs e) (o.reg_client a (rw (registration_push xs e) at q))
+    λ a q.
+    let q1 = rw (registration_push xs e) at q in client_stays head xs e a.seat h o (o.reg_client a q1) (λ k i. idle_reg xs k a i q1)
 
 apart_step : (head : Head) (xs : List Event) (e : Event) → Comes head xs e → Owners xs →
     (a : Operation) (r : Registration) → operation (xs ++ e ∷ []) ≡ Some a → registration (xs ++ e ∷ []) ≡ Some r →

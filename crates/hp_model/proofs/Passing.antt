@@ -20,7 +20,7 @@ use Rattle.hp_model.proofs.WaitLemmas.{is_writing, register_waits}
 use Rattle.hp_model.specs.RefusalsAtOnce.{Check, first_that_holds, refusals_at_once}
 use Rattle.hp_model.specs.Refusals.{refusals_after_waits, refusal, is_multi_state}
 use Rattle.hp_model.proofs.CanBegin.{CanBegin}
-use Rattle.hp_model.proofs.InFlight.{none_of}
+use Rattle.hp_model.proofs.InFlight.{none_of, empty_of}
 
 -- refusals that aren't given
 abbrev pub NoneHolds : List Check → Type 0
@@ -99,24 +99,20 @@ setup_unnamed head xs s state false r p = let e : s ≡ state = same r in rw (�
     same : Some s ≡ Some state → s ≡ state
     same e = cc
 
-none_at : (n : ℕ) → ltb 0 n ≡ false → n ≡ 0
+pub none_at : (n : ℕ) → ltb 0 n ≡ false → n ≡ 0
 none_at n h = grind (arith, nat_tests)
 
 some_at : (n : ℕ) → not (ltb 0 n) ≡ false → 0 < n
 some_at n h = grind (arith, nat_tests)
 
-there : (b : Bool) → not b ≡ false → b ≡ true
+pub there : (b : Bool) → not b ≡ false → b ≡ true
 there true h = refl
 there false h = absurd (true≢false h)
-
-no_list : (xs : List ℕ) → not (is_empty xs) ≡ false → xs ≡ []
-no_list [] h = refl
-no_list (x ∷ xs) h = absurd (true≢false h)
 
 can_remove : (found : Option Registered) → is_none found ≡ false → not (is_empty (instances found)) ≡ false →
     (r : Registered) × (found ≡ Some r) × (r.multi ≡ true → r.insts ≡ [])
 can_remove None h k = absurd (true≢false h)
-can_remove (Some r) h k = (r, refl, λ m. no_list r.insts k)
+can_remove (Some r) h k = (r, refl, λ m. empty_of r.insts k)
 
 can_add : (i : ℕ) (found : Option Registered) → not (is_multi_state found) ≡ false → among i (instances found) ≡ false →
     (r : Registered) × (found ≡ Some r) × (r.multi ≡ true) × (occurs i r.insts ≡ 0)

@@ -1,5 +1,5 @@
 -- What is promised after one event more: less by one, but for what the event takes.
-use Rattle.std.proofs.Common.{◌≡◌, ℕ, ◌+◌, ◌-◌, ◌≤◌, Bool, true, false, not, eqb, Option, Some, None, List, [], ◌∷◌, ◌++◌, refl, sym, ◌∙◌, arith, inl, inr, ◌⊎◌, length-append}
+use Rattle.std.proofs.Common.{◌≡◌, ℕ, ◌+◌, ◌-◌, ◌≤◌, Bool, true, false, eqb, Option, Some, None, List, [], ◌∷◌, ◌++◌, refl, sym, ◌∙◌, arith, inl, inr, ◌⊎◌, length-append}
 use Rattle.std.proofs.lemmas.Bool.{eq-eqb, true≢false}
 use Rattle.hp_event.specs.declared.answer.Answer.{Answer}
 use Rattle.hp_event.specs.declared.op.Op.{Op}
@@ -9,7 +9,7 @@ use Rattle.hp_event.specs.declared.event.Role.{Role}
 use Rattle.hp_states.specs.declared.dir.Dir.{Dir}
 use Rattle.hp_event.specs.declared.head.Head.{Head}
 use Rattle.hp_event.specs.declared.event.Event.{Event}
-use Rattle.hp_event.specs.declared.event.Event.TheVariants.{Admit, Leave, Enter, Refused, WalkBegin, Call, WalkEnd, OpEnd, RegBegin, RegEnd, ReadLock, ReadUnlock, Armed, Shown, Wakeup}
+use Rattle.hp_event.specs.declared.event.Event.TheVariants.{Admit, Leave, Enter, WalkBegin, Call, WalkEnd, OpEnd, RegBegin, RegEnd, ReadLock, ReadUnlock}
 use Rattle.hp_model.specs.Lists.{without, among}
 use Rattle.hp_model.specs.Walks.{Walk, walk, walk_entries}
 use Rattle.hp_model.specs.Registrations.{Registration, registration, registration_step, registration_entries, registration_entries_step}
@@ -25,7 +25,7 @@ use Rattle.hp_model.specs.StandsOperations.{IsOver, IsCut}
 use Rattle.hp_model.specs.StandsCalls.{InWalk, InRegistration}
 use Rattle.hp_model.specs.Lawful.{Comes}
 use Rattle.hp_model.proofs.Laws.{walk_push, walk_entries_push, begun_push, operation_push}
-use Rattle.hp_model.proofs.Passing.{none_holds, passed, begins_alone}
+use Rattle.hp_model.proofs.Passing.{none_holds, passed, begins_alone, there}
 use Rattle.hp_model.proofs.InFlight.{none_of}
 use Rattle.hp_model.proofs.Owners.{Owners, map_free}
 use Rattle.hp_model.proofs.BatchLemmas.{upmany_over, begins_still}
@@ -180,10 +180,6 @@ locks_no_reader head xs seat h =
 unlocks_reader : (head : Head) (xs : List Event) (seat : ℕ) → ReadUnlocks head xs seat → is_reading seat xs ≡ true
 unlocks_reader head xs seat h =
     there (is_reading seat xs) (none_holds (refusals_at_once head xs seat Unlock) (passed head xs seat Unlock h.free.idle refl h.passes.not_refused).0).0
-  where
-    there : (b : Bool) → not b ≡ false → b ≡ true
-    there true h = refl
-    there false h = absurd (true≢false h)
 
 uses_read_lock : (head : Head) (xs : List Event) (seat : ℕ) → ReadLocks head xs seat → Uses head xs (ReadLock seat)
 uses_read_lock head xs seat h =
@@ -227,11 +223,6 @@ uses head xs (Admit seat role) h w o k = uses_admit head xs seat role (new_seat 
 uses head xs (Leave seat) h w o k = uses_leave head xs seat h
 uses head xs (Enter seat op) h w o k =
     uses_enter head xs seat op (map_free xs op h.takes_map h.passes.not_waiting)
-uses head xs (Refused seat errno op) h w o k =
-    uses_quiet head xs (Refused seat errno op) refl refl
-    (quiet_promise head xs (Refused seat errno op) refl refl refl
-    (walks_quiet head xs (Refused seat errno op) (λ c v. refl) (λ c es. refl)
-    (λ c. come_quiet head xs (Refused seat errno op) refl refl (λ s. refl) c refl)) refl refl)
 uses head xs (WalkBegin seat cpu from to) h w o k =
     uses_walk_begin head xs seat cpu from to h w (walk_present head xs seat cpu from to h o k)
     (begins_still head xs seat cpu from to w h)
@@ -278,18 +269,7 @@ uses head xs (RegEnd seat answer) h w o k =
     no_batch true e = let at = h.in_flight in absurd (true≢false (rw at at (w.batch_alone e).1))
 uses head xs (ReadLock seat) h w o k = uses_read_lock head xs seat h
 uses head xs (ReadUnlock seat) h w o k = uses_read_unlock head xs seat h
-uses head xs (Armed seat cpu value) h w o k =
-    uses_quiet head xs (Armed seat cpu value) refl refl
-    (quiet_promise head xs (Armed seat cpu value) refl refl refl
-    (walks_quiet head xs (Armed seat cpu value) (λ c v. refl) (λ c es. refl)
-    (λ c. come_quiet head xs (Armed seat cpu value) refl refl (λ s. refl) c refl)) refl refl)
-uses head xs (Shown seat file cpu value) h w o k =
-    uses_quiet head xs (Shown seat file cpu value) refl refl
-    (quiet_promise head xs (Shown seat file cpu value) refl refl refl
-    (walks_quiet head xs (Shown seat file cpu value) (λ c v. refl) (λ c es. refl)
-    (λ c. come_quiet head xs (Shown seat file cpu value) refl refl (λ s. refl) c refl)) refl refl)
-uses head xs (Wakeup seat) h w o k =
-    uses_quiet head xs (Wakeup seat) refl refl
-    (quiet_promise head xs (Wakeup seat) refl refl refl
-    (walks_quiet head xs (Wakeup seat) (λ c v. refl) (λ c es. refl)
-    (λ c. come_quiet head xs (Wakeup seat) refl refl (λ s. refl) c refl)) refl refl)
+uses head xs e h w o k =
+    uses_quiet head xs e refl refl
+    (quiet_promise head xs e refl refl refl
+    (walks_quiet head xs e (λ c v. refl) (λ c es. refl) (λ c. come_quiet head xs e refl refl (λ s. refl) c refl)) refl refl)

@@ -1,20 +1,19 @@
 -- While a seat reads, no walk is in flight and no settled state changes.
-use Rattle.std.proofs.Common.{◌≡◌, ℕ, Bool, true, false, cond, eqb, Option, Some, None, List, [], ◌∷◌, ◌++◌, refl, sym, ◌∙◌, append_assoc}
+use Rattle.std.proofs.Common.{◌≡◌, ℕ, Bool, true, false, cond, eqb, Option, Some, None, List, [], ◌∷◌, ◌++◌, refl, sym, ◌∙◌}
 use Rattle.std.proofs.lemmas.Bool.{or_parts}
-use Rattle.std.proofs.lemmas.List.{append-nil}
 use Rattle.hp_event.specs.declared.head.Head.{Head}
 use Rattle.hp_event.specs.declared.event.Event.{Event}
 use Rattle.hp_event.specs.declared.event.Event.TheVariants.{WalkBegin, WalkEnd, ReadLock, ReadUnlock}
-use Rattle.hp_model.specs.Journal.{EachAfter}
 use Rattle.hp_model.specs.Walks.{Walk, walk, is_walking}
 use Rattle.hp_model.specs.Batch.{is_batch_begun}
 use Rattle.hp_model.specs.Readers.{reading_since}
 use Rattle.hp_model.specs.Settled.{settled}
-use Rattle.hp_model.specs.Lawful.{Comes, Stands, IsLawful}
+use Rattle.hp_model.specs.Lawful.{Comes, IsLawful}
 use Rattle.hp_model.proofs.Laws.{walk_push, settled_push, reading_since_push}
 use Rattle.hp_model.proofs.InFlight.{walk_none, reader_none}
 use Rattle.hp_model.proofs.WaitLemmas.{writer_waits, walks_alone}
-use Rattle.hp_model.proofs.Owners.{Owners, owners_none, owners_step}
+use Rattle.hp_model.proofs.Owners.{Owners}
+use Rattle.hp_model.proofs.Induction.{holds}
 
 abbrev pub ReaderBy : List Event → Option (List Event) → Type 0
 ReaderBy events None = Unit {0}
@@ -70,16 +69,10 @@ readers_step head xs e h o r = record {
       (readers_on xs (xs ++ e ∷ []) (reading_since k xs) (λ c. walk_push c xs e) (λ c. settled_push c xs e) (r.at k));
 }
 
-pub readers_from : (head : Head) (before es : List Event) → Owners before → Readers before → EachAfter (Stands head) before es →
-    Readers (before ++ es)
-readers_from head before [] o r h = rw append-nil r
-readers_from head before (e ∷ es) o r h =
-    let q = readers_from head (before ++ e ∷ []) es (owners_step head before e h.0.0 o) (readers_step head before e h.0.0 o r) h.1 in
-    rw (append_assoc before (e ∷ []) es) at q
-
 pub none_reads_at_first : (k : ℕ) → reading_since k [] ≡ None
 unfolding reading_since
 none_reads_at_first k = refl
 
 pub readers : (head : Head) (events : List Event) → IsLawful head events → Readers events
-readers head events h = readers_from head [] events owners_none (record { at = λ k. rw (none_reads_at_first k) tt }) h.1
+readers head events h =
+    holds head Readers (record { at = λ k. rw (none_reads_at_first k) tt }) (λ xs e s k r. readers_step head xs e s.0 k.owners r) events h

@@ -1,24 +1,22 @@
 -- How code that makes a registration's entries one at a time is tied to the shapes: whatever follows the tree of a
 -- registration is a shape of it, each way down leads to the end, and entries that lead to a step or to the end of
 -- the tree are those of a shape.
-use Rattle.std.proofs.Common.{◌≡◌, ℕ, Bool, true, false, cond, not, Option, Some, None, List, [], ◌∷◌, ◌++◌, refl, ap, ◌∙◌, inl, inr, ◌⊎◌, append_assoc}
+use Rattle.std.proofs.Common.{◌≡◌, ℕ, Bool, true, false, cond, Option, Some, None, List, [], ◌∷◌, ◌++◌, ◌≤◌, length, map, refl, ap, ◌∙◌, inl, inr, ◌⊎◌, append_assoc, arith}
 use Rattle.std.proofs.lemmas.List.{append-nil}
-use Rattle.std.proofs.lemmas.Bool.{true≢false, false≢true}
+use Rattle.hp_states.specs.declared.dir.Dir.{Dir}
 use Rattle.hp_states.specs.declared.dir.Dir.TheVariants.{Up, Down}
 use Rattle.hp_states.specs.declared.place.Place.{Place}
-use Rattle.hp_event.specs.declared.how.How.{How}
-use Rattle.hp_event.specs.declared.how.How.TheVariants.{RanOk, RanFault, Injected, Empty, Presumed, Overruled}
 use Rattle.hp_event.specs.declared.event.Event.{Event}
-use Rattle.hp_event.specs.declared.event.Event.TheVariants.{Call}
-use Rattle.hp_model.specs.Entries.{is_done, codes_of_faults}
-use Rattle.hp_model.specs.Crossing.{Slot, Fits, Fill}
+use Rattle.hp_model.specs.Entries.{codes_of_faults}
+use Rattle.hp_model.specs.Faults.{Faulty, faults}
+use Rattle.hp_model.specs.Crossing.{Slot, Fill}
 use Rattle.hp_model.specs.RegistrationShape.{each, Registering, made, undone, IsRegistrationShape}
 use Rattle.hp_model.specs.StandsCalls.{IsNext}
 use Rattle.hp_model.proofs.NextSlot.{with_fails, Tree, stop, dead, step, Follow}
 use Rattle.hp_model.proofs.NextRegistration.{down_tree, add_tree, registration_tree}
-use Rattle.hp_model.proofs.Cursor.{Runs, IsLive, Sound, sound_below, sound_branch, to_end, runs_before}
-use Rattle.hp_model.proofs.OneAnswer.{failing}
-use Rattle.hp_model.proofs.OneRegistration.{outcome_of, shape_outcome}
+use Rattle.hp_model.proofs.Cursor.{Runs, IsLive, Sound, next_in, end_in}
+use Rattle.hp_model.proofs.Failing.{failing, failing-append}
+use Rattle.hp_model.proofs.WalkEnd.{fill_faults}
 use Rattle.hp_model.proofs.TreeShapes.{stop_none}
 
 -- what follows the tree of a registration is a shape of it
@@ -109,15 +107,6 @@ sound_registration adding s None cs = tt
 sound_registration true s (Some i) cs = (sound_add s i [] cs).1
 sound_registration false s (Some i) cs = (sound_down Place.Remove s i cs).1
 
--- one entry more leads one step further down
-pub runs_more : (t : Tree) (es : List Event) (s : Slot) (a b : Tree) (fails : Bool) (e : Event) → Runs t es (step s a b) →
-    Fits (with_fails s fails) e → Runs t (es ++ e ∷ []) (cond fails b a)
-runs_more t [] s a b fails e r f = rw r (fails, f, refl)
-runs_more stop (x ∷ es) s a b fails e r f = elim r [ ]
-runs_more dead (x ∷ es) s a b fails e r f = elim r [ ]
-runs_more (step z c d) (x ∷ es) s a b fails e r f =
-    (r.0, r.1, runs_more (cond r.0 d c) es s a b fails e r.2 f)
-
 -- a slot that comes after exactly these entries in some registration of that key on those processors
 pub record IsNextSlot (adding : Bool) (s : ℕ) (key : Option ℕ) (cs : List ℕ) (es : List Event) (slot : Slot) : Type 0 where
   pub outcome : Registering
@@ -130,42 +119,56 @@ pub next_slot_of : (adding : Bool) (s : ℕ) (key : Option ℕ) (cs : List ℕ) 
     Runs (registration_tree adding s key cs) es (step slot a b) → IsLive (cond fails b a) →
     IsNextSlot adding s key cs es (with_fails slot fails)
 next_slot_of adding s key cs es slot a b fails r live =
-    let t = registration_tree adding s key cs in
-    let sound = sound_below t es (step slot a b) r (sound_registration adding s key cs) in
-    let e = to_end (cond fails b a) live (sound_branch fails a b sound.1 sound.2) in
-    let w = runs_before t es (step slot a b) (with_fails slot fails ∷ e.0) r (refl, e.1) in
-    let g = registration_shape adding s key cs (w.front ++ with_fails slot fails ∷ e.0) w.follows in
-    record {
-      outcome = g.outcome;
-      slots = w.front ++ with_fails slot fails ∷ e.0;
-      shape = g.shape;
-      is_next = record { front = w.front; rest = e.0; slots_are = refl; filled = w.filled };
-    }
+    let n = next_in (registration_tree adding s key cs) es slot a b fails (sound_registration adding s key cs) r live in
+    let g = registration_shape adding s key cs n.slots n.follows in
+    record { outcome = g.outcome; slots = n.slots; shape = g.shape; is_next = n.is_next }
 
--- the entries have as many faults as the slots that they fill, so a registration was made where there is none
-pub filled_outcome : (xs : List Slot) (es : List Event) → Fill xs es → outcome_of (failing xs) ≡ outcome_of (codes_of_faults es)
-filled_outcome [] [] h = refl
-filled_outcome [] (e ∷ es) h = elim h [ ]
-filled_outcome (x ∷ xs) [] h = elim h [ ]
-filled_outcome (x ∷ xs) (Call seat cpu state inst dir how ∷ es) h = go how x.fails h.0.4 (filled_outcome xs es h.1)
+-- the states that fail, in a registration that ends so
+pub failing-each : (p : Place) (d : Dir) (s i : ℕ) (cs : List ℕ) → failing (each p d s i cs) ≡ []
+failing-each p d s i [] = refl
+failing-each p d s i (c ∷ cs) = failing-each p d s i cs
+
+abbrev pub IsFailing : Registering → (state : ℕ) → List ℕ → Type 0
+IsFailing made s fs = fs ≡ []
+IsFailing undone s fs = fs ≡ s ∷ []
+
+pub shape_failing : (adding : Bool) (s : ℕ) (key : Option ℕ) (cs : List ℕ) (xs : List Slot) (o : Registering) →
+    IsRegistrationShape adding s key cs xs o → IsFailing o s (failing xs)
+shape_failing adding s None cs xs made h = rw h refl
+shape_failing adding s None cs xs undone h = elim h [ ]
+shape_failing true s (Some i) cs xs made h = rw h (failing-each Place.Add Up s i cs)
+shape_failing true s (Some i) cs xs undone h =
+    let x : Slot = record { cpu = h.cpu; state = s; inst = i; dir = Up; place = Place.Add; first = false; fails = true } in
+    rw (
+      h.slots_are,
+      failing-append (each Place.Add Up s i h.before) (x ∷ each Place.Undo Down s i h.before),
+      failing-each Place.Add Up s i h.before,
+      failing-each Place.Undo Down s i h.before,
+    )
+    refl
+shape_failing false s (Some i) cs xs made h = rw h (failing-each Place.Remove Down s i cs)
+shape_failing false s (Some i) cs xs undone h = elim h [ ]
+
+-- so they tell how it ends, and are at most one
+abbrev pub outcome_of : List ℕ → Registering
+outcome_of [] = made
+outcome_of (s ∷ ss) = undone
+
+pub shape_outcome : (adding : Bool) (s : ℕ) (key : Option ℕ) (cs : List ℕ) (xs : List Slot) (o : Registering) →
+    IsRegistrationShape adding s key cs xs o → (o ≡ outcome_of (failing xs)) × (length (failing xs) ≤ 1)
+shape_outcome adding s key cs xs o h = go o (failing xs) (shape_failing adding s key cs xs o h)
   where
-    ok : (b : Bool) → true ≡ not b → b ≡ false
-    ok true h = absurd (true≢false h)
-    ok false h = refl
+    go : (o : Registering) (fs : List ℕ) → IsFailing o s fs → (o ≡ outcome_of fs) × (length fs ≤ 1)
+    go made fs h = rw h (refl, omega arith)
+    go undone fs h = rw h (refl, omega arith)
 
-    bad : (b : Bool) → false ≡ not b → b ≡ true
-    bad true h = refl
-    bad false h = absurd (false≢true h)
-
-    go : (how : How) (b : Bool) → is_done how ≡ not b → outcome_of (failing xs) ≡ outcome_of (codes_of_faults es) →
-        outcome_of (cond b (x.state ∷ failing xs) (failing xs)) ≡ outcome_of (codes_of_faults (Call seat cpu state inst dir how ∷ es))
-    go RanOk b e r = rw (ok b e) r
-    go (RanFault code) b e r = rw (bad b e) refl
-    go Injected b e r = rw (bad b e) refl
-    go Empty b e r = rw (ok b e) r
-    go Presumed b e r = rw (ok b e) r
-    go (Overruled code) b e r = rw (ok b e) r
-filled_outcome (x ∷ xs) (e ∷ es) h = elim h.0 [ ]
+-- a registration was made where none of its entries is a fault
+filled_outcome : (xs : List Slot) (es : List Event) → Fill xs es → outcome_of (failing xs) ≡ outcome_of (codes_of_faults es)
+filled_outcome xs es h = let f = fill_faults xs es h in rw (f.0, f.1) (go (faults es))
+  where
+    go : (fs : List Faulty) → outcome_of (map (λ f. f.state) fs) ≡ outcome_of (map (λ f. f.code) fs)
+    go [] = refl
+    go (f ∷ fs) = refl
 
 -- at the end of the tree the entries are the whole of a registration, which was made where none of them is a fault
 pub record IsEnded (adding : Bool) (s : ℕ) (key : Option ℕ) (cs : List ℕ) (es : List Event) : Type 0 where
@@ -178,14 +181,12 @@ pub record IsEnded (adding : Bool) (s : ℕ) (key : Option ℕ) (cs : List ℕ) 
 pub end_of_registration : (adding : Bool) (s : ℕ) (key : Option ℕ) (cs : List ℕ) (es : List Event) →
     Runs (registration_tree adding s key cs) es stop → IsEnded adding s key cs es
 end_of_registration adding s key cs es r =
-    let w = runs_before (registration_tree adding s key cs) es stop [] r tt in
-    let xs = w.front ++ [] in
-    let filled : Fill xs es = rw (append-nil w.front) w.filled in
-    let g = registration_shape adding s key cs xs w.follows in
+    let f = end_in (registration_tree adding s key cs) es r in
+    let g = registration_shape adding s key cs f.slots f.follows in
     record {
       outcome = g.outcome;
-      slots = xs;
+      slots = f.slots;
       shape = g.shape;
-      filled = filled;
-      outcome_is = shape_outcome adding s key cs xs g.outcome g.shape ∙ filled_outcome xs es filled;
+      filled = f.filled;
+      outcome_is = (shape_outcome adding s key cs f.slots g.outcome g.shape).0 ∙ filled_outcome f.slots es f.filled;
     }

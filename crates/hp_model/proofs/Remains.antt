@@ -6,7 +6,7 @@ use Rattle.hp_states.specs.declared.dir.Dir.TheVariants.{Up, Down}
 use Rattle.hp_states.specs.Rules.{same_dir}
 use Rattle.hp_event.specs.declared.event.Event.{Event}
 use Rattle.hp_event.specs.declared.event.Event.TheVariants.{Call}
-use Rattle.hp_model.specs.Crossing.{Slot, Fits, Fill}
+use Rattle.hp_model.specs.Crossing.{Slot, Fits, Fill, Begin}
 use Rattle.hp_model.specs.Trees.{Tree, stop, dead, step}
 use Rattle.hp_model.specs.Remaining.{is_for, is_done_call, remaining}
 use Rattle.hp_model.proofs.NextSlot.{with_fails, Follow}
@@ -108,3 +108,21 @@ stop_at stop (w ∷ xs) es h f = elim h [ ]
 stop_at (step s a b) (w ∷ xs) [] h f = elim f [ ]
 stop_at (step s a b) (w ∷ xs) (e ∷ es) h f =
     (w.fails, fits_as s w e h.0 f.0, stop_at (cond w.fails b a) xs es h.1 f.1)
+
+-- entries that begin what follows a tree lead to its end or to a step
+pub data IsAt (t : Tree) (es : List Event) : Type 0 where
+  at_end : Runs t es stop → IsAt t es
+  at_step : (s : Slot) (a b : Tree) → Runs t es (step s a b) → IsAt t es
+
+pub at_tree : (t : Tree) (xs : List Slot) (es : List Event) → Follow t xs → Begin xs es → IsAt t es
+at_tree stop xs [] f b = at_end refl
+at_tree dead xs [] f b = elim f [ ]
+at_tree (step s a c) xs [] f b = at_step s a c refl
+at_tree t [] (e ∷ es) f b = elim b [ ]
+at_tree stop (x ∷ xs) (e ∷ es) f b = elim f [ ]
+at_tree dead (x ∷ xs) (e ∷ es) f b = elim f [ ]
+at_tree (step s a c) (x ∷ xs) (e ∷ es) f b = go (at_tree (cond x.fails c a) xs es f.1 b.1)
+  where
+    go : IsAt (cond x.fails c a) es → IsAt (step s a c) (e ∷ es)
+    go (at_end r) = at_end (x.fails, fits_as s x e f.0 b.0, r)
+    go (at_step z u v r) = at_step z u v (x.fails, fits_as s x e f.0 b.0, r)

@@ -1,20 +1,17 @@
 -- What is promised always fits: a lawful journal is at most as long as the limit allows, with all that is promised.
-use Rattle.std.proofs.Common.{◌≡◌, ℕ, ◌+◌, ◌≤◌, true, Option, Some, None, List, [], ◌∷◌, ◌++◌, length, arith, append_assoc, length-append}
-use Rattle.std.proofs.lemmas.List.{append-nil}
+use Rattle.std.proofs.Common.{◌≡◌, ℕ, ◌+◌, ◌≤◌, true, Option, Some, None, List, [], ◌∷◌, ◌++◌, length, arith, length-append}
 use Rattle.std.proofs.lemmas.Bool.{leb-true}
 use Rattle.hp_states.specs.declared.limits.TheConstants.{MAX_EVENTS}
 use Rattle.hp_event.specs.declared.head.Head.{Head}
 use Rattle.hp_event.specs.declared.event.Event.{Event}
-use Rattle.hp_model.specs.Journal.{EachAfter}
 use Rattle.hp_model.specs.Needs.{need, taken}
 use Rattle.hp_model.specs.Promised.{promised, given_back}
 use Rattle.hp_model.specs.Room.{is_room}
 use Rattle.hp_model.specs.Lawful.{Comes, Stands, IsLawful}
-use Rattle.hp_model.proofs.Induction.{Held, held_none, held_step, held_from}
+use Rattle.hp_model.proofs.Induction.{Held, held, holds}
 use Rattle.hp_model.proofs.HeadlineProof.{lawful_more}
 use Rattle.hp_model.proofs.Promises.{uses, promised_none}
-use Rattle.hp_model.proofs.Owners.{Owners, owners_none, owners_step}
-use Rattle.hp_model.proofs.OneNext.{owners}
+use Rattle.hp_model.proofs.Owners.{Owners}
 
 abbrev pub Fits : Head → List Event → Type 0
 Fits head xs = length xs + promised head xs ≤ MAX_EVENTS
@@ -31,17 +28,9 @@ fits_step head xs e h o k f = go (need head xs e) h.1 (uses head xs e h.0 o k.op
         let b = leb-true (length xs + promised head xs + n) MAX_EVENTS r in
         omega arith
 
-fits_from : (head : Head) (before es : List Event) → Owners before → Held head before → Fits head before → EachAfter (Stands head) before es →
-    Fits head (before ++ es)
-fits_from head before [] o k f h = rw append-nil f
-fits_from head before (e ∷ es) o k f h =
-    let r = fits_from head (before ++ e ∷ []) es (owners_step head before e h.0.0 o) (held_step head before e h.0.0 k)
-    (fits_step head before e h.0 o k f) h.1 in
-    rw (append_assoc before (e ∷ []) es) at r
-
 pub promises_fit : (head : Head) (xs : List Event) → IsLawful head xs → length xs + promised head xs ≤ MAX_EVENTS
 promises_fit head xs h =
-    let none = promised_none head in fits_from head [] xs owners_none (held_none head h.0) (omega arith) h.1
+    let none = promised_none head in holds head (Fits head) (omega arith) (λ xs e s k f. fits_step head xs e s k.owners k f) xs h
 
 pub event_fits : (head : Head) (xs : List Event) (e : Event) → IsLawful head xs → Stands head xs e → length xs + 1 ≤ MAX_EVENTS
 event_fits head xs e h s =
@@ -52,8 +41,7 @@ event_fits head xs e h s =
 pub promises_after : (head : Head) (xs : List Event) (e : Event) → IsLawful head xs → Comes head xs e →
     promised head (xs ++ e ∷ []) + 1 + given_back head xs e ≡ promised head xs + taken (need head xs e)
 promises_after head xs e h c =
-    let k = held_from head [] xs (held_none head h.0) h.1 in
-    uses head xs e c (owners head xs h) k.operations k.kept
+    let k = held head xs h in uses head xs e c k.owners k.operations k.kept
 
 pub event_promised : (head : Head) (xs : List Event) (e : Event) → IsLawful head xs → Comes head xs e → need head xs e ≡ None →
     1 ≤ promised head xs

@@ -20,7 +20,6 @@ use Rattle.hp_model.specs.Readers.{reading_since_step, reading_since, is_reading
 use Rattle.hp_model.specs.Seats.{role_step, role_of, ap_step, ap_seat}
 use Rattle.hp_model.specs.Admissions.{ap_admits, client_admits, admissions}
 use Rattle.hp_model.proofs.Laws.{role_push, ap_push}
-use Rattle.hp_model.proofs.ClientKept.{no_client}
 use Rattle.hp_model.proofs.ListLemmas.{occurs-filter, occurs-numbers}
 use Rattle.hp_model.proofs.Owners.{same_some, none_some}
 
@@ -37,6 +36,21 @@ over_from_append step value before [] ys = rw append-nil refl
 over_from_append step value before (x ∷ xs) ys =
     over_from_append step (step value before x) (before ++ x ∷ []) xs ys
     ∙ ap (λ z. over_from step (over_from step (step value before x) (before ++ x ∷ []) xs) z ys) (append_assoc before (x ∷ []) xs)
+
+-- the admissions of the processors' seats bring in no client
+ap_from : (s k : ℕ) (cpus : List ℕ) (before : List Event) (found : Option Role) → (found ≡ Some Client → ⊥) →
+    over_from (role_step s) found before (ap_admits k cpus) ≡ Some Client → ⊥
+ap_from s k [] before found h = h
+ap_from s k (c ∷ cs) before found h =
+    ap_from s (k + 1) cs (before ++ Admit k (Ap c) ∷ []) (cond (eqb k s) (Some (Ap c)) found) (go (eqb k s))
+  where
+    go : (b : Bool) → cond b (Some (Ap c)) found ≡ Some Client → ⊥
+    go true e = cc
+    go false e = h e
+
+no_client : (s k : ℕ) (cpus : List ℕ) → role_of s (ap_admits k cpus) ≡ Some Client → ⊥
+unfolding role_of
+no_client s k cpus = ap_from s k cpus [] None (λ e. cc)
 
 -- the clients
 other_seat : (s k : ℕ) → k < s → eqb s k ≡ false

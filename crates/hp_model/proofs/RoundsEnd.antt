@@ -19,10 +19,10 @@ use Rattle.hp_model.specs.ScriptRun.{start, is_over, after_round, after_rounds, 
 use Rattle.hp_model.specs.Distance.{distance}
 use Rattle.hp_model.specs.TurnMakes.{task, CanTake, LacksRoom, Stays, TurnMakes}
 use Rattle.hp_model.proofs.RoomKept.{promises_fit}
-use Rattle.hp_model.proofs.Rounds.{has_turn}
+use Rattle.hp_model.proofs.ListLemmas.{occurs-numbers}
 use Rattle.hp_model.proofs.AnswerCounts.{nth_of}
-use Rattle.hp_model.proofs.Going.{Going, IsGoing, turn_going, turns_going, start_going}
-use Rattle.hp_model.proofs.TurnsMake.{no_answer, turn_makes}
+use Rattle.hp_model.proofs.Going.{Going, IsGoing, turn_going, turns_going, start_going, no_answer}
+use Rattle.hp_model.proofs.TurnsMake.{turn_makes}
 use Rattle.hp_model.proofs.MovesOn.{moves}
 
 -- what an answer adds
@@ -149,11 +149,17 @@ turns_go head actors (j ∷ js) at k s g i d =
     go (inr h) far r =
         subst (λ z. distance at < distance (after_turns head actors z js)) (sym h.2) (r (still (eqb j k) refl h i))
 
+in_numbers : (k n : ℕ) → k < n → 0 < occurs k (numbers n)
+in_numbers k n h = rw (occurs-numbers k n) (go n h)
+  where
+    go : (n : ℕ) → k < n → 0 < cond (ltb k n) 1 0
+    go n h = grind (arith, nat_tests)
+
 pub round_goes : (head : Head) (actors : List (List Op)) (at : RunState) → IsScript head actors → IsGoing head actors at →
     is_over actors at ≡ false → distance at < distance (after_round head actors at)
 round_goes head actors at s g over =
     let m = moves head actors at s g over in
-    turns_go head actors (numbers (length (present head) + length actors)) at m.seat s g (has_turn m.seat m.seat _ m.is_seat refl) m.does
+    turns_go head actors (numbers (length (present head) + length actors)) at m.seat s g (in_numbers m.seat _ m.is_seat) m.does
 
 pub turns_go_on : (head : Head) (actors : List (List Op)) (seats : List ℕ) → IsScript head actors →
     is_over actors (after_turns head actors (start head actors) seats) ≡ false →

@@ -1,7 +1,7 @@
--- A run is a lawful journal, where its head is one that a machine can be started with and its seats aren't too many.
-use Rattle.std.proofs.Common.{◌≡◌, ℕ, zero, suc, ◌+◌, ◌<◌, ◌≤◌, Bool, true, false, cond, eqb, ltb, Some, None, List, [], ◌∷◌, ◌++◌, ◌*◌, length, refl, sym, ◌∙◌, append_assoc, inl, inr, arith, length-append}
+-- The admissions of a script are a lawful journal, where its head is one that a machine can be started with and its seats aren't too many.
+use Rattle.std.proofs.Common.{◌≡◌, ℕ, ◌+◌, ◌<◌, ◌≤◌, Bool, true, false, cond, eqb, ltb, Some, None, List, [], ◌∷◌, ◌++◌, ◌*◌, length, refl, sym, ◌∙◌, append_assoc, arith, length-append}
 use Rattle.std.proofs.lemmas.List.{append-nil}
-use Rattle.std.proofs.lemmas.Bool.{eq-eqb, le-leb}
+use Rattle.std.proofs.lemmas.Bool.{le-leb}
 use Rattle.hp_states.specs.declared.limits.TheConstants.{MAX_SEATS, MAX_EVENTS}
 use Rattle.hp_event.specs.declared.op.Op.{Op}
 use Rattle.hp_event.specs.declared.event.Role.{Role}
@@ -18,13 +18,11 @@ use Rattle.hp_model.specs.Promised.{promised}
 use Rattle.hp_model.specs.Room.{has_room}
 use Rattle.hp_model.specs.Lawful.{Stands, IsLawful}
 use Rattle.hp_model.specs.Admissions.{ap_admits, client_admits, admissions}
-use Rattle.hp_model.specs.RunByRounds.{Turn, Turns, Rounds, IsRunByRounds}
 use Rattle.hp_model.proofs.Laws.{admits_push, ap_push}
 use Rattle.hp_model.proofs.Promises.{admit_at_most, promised_none}
-use Rattle.hp_model.proofs.ListLemmas.{occurs-filter, occurs-numbers}
-use Rattle.hp_model.proofs.HeadlineProof.{lawful_more}
+use Rattle.hp_model.proofs.ListLemmas.{occurs-filter, occurs-numbers, once_in}
 
-pub EachAfter-append : (Rule : List Event → Event → Type 0) (before xs ys : List Event) → EachAfter Rule before xs →
+EachAfter-append : (Rule : List Event → Event → Type 0) (before xs ys : List Event) → EachAfter Rule before xs →
     EachAfter Rule (before ++ xs) ys → EachAfter Rule before (xs ++ ys)
 EachAfter-append Rule before [] ys h k = rw append-nil at k
 EachAfter-append Rule before (x ∷ xs) ys h k =
@@ -35,9 +33,6 @@ record CanBeAdmitted (head : Head) (before : List Event) (cpus : List ℕ) : Typ
   there : (c : ℕ) → 0 < occurs c cpus → is_present head c ≡ true
   free : (c : ℕ) → 0 < occurs c cpus → ap_seat c before ≡ None
   once : (c : ℕ) → occurs c cpus ≤ 1
-
-first_in : (c : ℕ) (cs : List ℕ) → 0 < occurs c (c ∷ cs)
-first_in c cs = let e : eqb c c ≡ true = eq-eqb c c refl in rw e (omega arith)
 
 admitted_one : (head : Head) (before : List Event) (k c : ℕ) (cs : List ℕ) → CanBeAdmitted head before (c ∷ cs) →
     CanBeAdmitted head (before ++ Admit k (Ap c) ∷ []) cs
@@ -77,7 +72,7 @@ aps_stand head before k (c ∷ cs) e few room h =
           record {
             seat_is = sym e;
             below = omega arith;
-            can_sit = (h.there c (first_in c cs), h.free c (first_in c cs));
+            can_sit = (h.there c (once_in c cs), h.free c (once_in c cs));
           },
           one.0,
         ),
@@ -134,25 +129,3 @@ admissions_lawful head actors h few =
       EachAfter-append (Stands head) [] (ap_admits 0 (present head)) (client_admits (length (present head)) actors) a.0
           (clients_stand head (ap_admits 0 (present head)) (length (present head)) actors n few (omega (arith, a.2))),
     )
-
-turn_lawful : (head : Head) (actors : List (List Op)) (k : ℕ) (before after : List Event) → IsLawful head before →
-    Turn head actors k before after → IsLawful head after
-turn_lawful head actors k before after h (inl t) = rw t.2 (lawful_more head before t.0 h t.1.stands)
-turn_lawful head actors k before after h (inr t) = rw t.1 h
-
-turns_lawful : (head : Head) (actors : List (List Op)) (ks : List ℕ) (before after : List Event) → IsLawful head before →
-    Turns head actors ks before after → IsLawful head after
-turns_lawful head actors [] before after h t = rw t h
-turns_lawful head actors (k ∷ ks) before after h t =
-    turns_lawful head actors ks t.0 after (turn_lawful head actors k before t.0 h t.1) t.2
-
-rounds_lawful : (head : Head) (actors : List (List Op)) (n : ℕ) (before after : List Event) → IsLawful head before →
-    Rounds head actors n before after → IsLawful head after
-rounds_lawful head actors zero before after h r = rw r h
-rounds_lawful head actors (suc n) before after h r =
-    rounds_lawful head actors n r.0 after (turns_lawful head actors _ before r.0 h r.2) r.3
-
-pub run_lawful : (head : Head) (actors : List (List Op)) (events : List Event) → IsHead head →
-    length (present head) + length actors ≤ MAX_SEATS → IsRunByRounds head actors events → IsLawful head events
-run_lawful head actors events h few r =
-    rounds_lawful head actors r.rounds (admissions head actors) events (admissions_lawful head actors h few) r.played

@@ -77,7 +77,7 @@ rounds_lawful head actors schedule (suc n) h =
     turns_lawful head actors (numbers (length (present head) + length actors)) (after_rounds head actors schedule n)
     (rounds_lawful head actors schedule n h)
 
-pub script_run_lawful : (head : Head) (actors : List (List Op)) (schedule : List ℕ) (events : List Event) → IsHead head →
+pub run_lawful : (head : Head) (actors : List (List Op)) (schedule : List ℕ) (events : List Event) → IsHead head →
     length (present head) + length actors ≤ MAX_SEATS → IsRun head actors schedule events → IsLawful head events
-script_run_lawful head actors schedule events h few r =
+run_lawful head actors schedule events h few r =
     rw r.events_are (rounds_lawful head actors schedule r.rounds (admissions_lawful head actors h few))

@@ -1,5 +1,5 @@
 -- The seats that are in are those with a role, and a reader is among the readers.
-use Rattle.std.proofs.Common.{◌≡◌, ℕ, ◌+◌, ◌<◌, ◌≤◌, Bool, true, false, cond, eqb, ltb, arith, is_some, Option, Some, None, List, [], ◌∷◌, ◌++◌, refl, ◌∙◌}
+use Rattle.std.proofs.Common.{◌≡◌, ℕ, ◌+◌, ◌<◌, ◌≤◌, Bool, true, false, cond, eqb, arith, is_some, Option, Some, None, List, [], ◌∷◌, ◌++◌, refl, ◌∙◌}
 use Rattle.std.proofs.lemmas.Bool.{ltb-true}
 use Rattle.std.proofs.lemmas.Bool.Decides.{nat_tests}
 use Rattle.hp_event.specs.declared.event.Role.{Role}
@@ -11,15 +11,8 @@ use Rattle.hp_model.specs.Readers.{readers, readers_step, is_reading}
 use Rattle.hp_model.specs.Seats.{seats, seats_step, role_of, role_step}
 use Rattle.hp_model.proofs.Counts.{occurs-append}
 use Rattle.hp_model.proofs.ListLemmas.{occurs-without}
-use Rattle.hp_model.proofs.InFlight.{among-in, among-out, readers_are}
-
-some_in : {A : Type 0} (b : Bool) (x : A) (o : Option A) → cond b true (is_some o) ≡ is_some (cond b (Some x) o)
-some_in true x o = refl
-some_in false x o = refl
-
-none_in : {A : Type 0} (b : Bool) (o : Option A) → cond b false (is_some o) ≡ is_some (cond b None o)
-none_in true o = refl
-none_in false o = refl
+use Rattle.hp_model.proofs.InFlight.{among-in, among-out, readers_are, some_in, none_in}
+use Rattle.hp_model.proofs.Passing.{none_at}
 
 -- a number put in or taken out leaves each once at most
 put_once : (k seat : ℕ) (ks : List ℕ) → occurs k ks ≤ 1 → occurs k (without seat ks ++ seat ∷ []) ≤ 1
@@ -35,9 +28,6 @@ out_once k seat ks h = rw (occurs-without seat k ks) (few (eqb k seat) (occurs k
     few : (b : Bool) (n : ℕ) → n ≤ 1 → cond b 0 n ≤ 1
     few true n h = omega arith
     few false n h = h
-
-none_at : (n : ℕ) → ltb 0 n ≡ false → n ≡ 0
-none_at n h = grind (arith, nat_tests)
 
 seat_one : (k : ℕ) (before : List Event) (e : Event) (ks : List ℕ) (o : Option Role) → among k ks ≡ is_some o →
     among k (seats_step ks before e) ≡ is_some (role_step k o before e)

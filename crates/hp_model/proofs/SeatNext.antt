@@ -33,7 +33,8 @@ use Rattle.hp_model.proofs.Passing.{find_holds}
 use Rattle.hp_model.proofs.SomeMoves.{facts, entered_op}
 use Rattle.hp_model.proofs.Stages.{called_by, ap_no_client}
 use Rattle.hp_model.proofs.TurnLemmas.{OwnEvent, is_turn, turn_is, turn_own, thread_turn, held_up_is}
-use Rattle.hp_model.proofs.WalkGives.{Given, gives_entry, walk_given}
+use Rattle.hp_model.proofs.Errands.{Given}
+use Rattle.hp_model.proofs.WalkGives.{gives_entry, walk_given}
 use Rattle.hp_model.proofs.OneNext.{owners}
 use Rattle.hp_model.proofs.Induction.{kept}
 

@@ -10,7 +10,7 @@ use Rattle.hp_event.specs.declared.answer.Answer.{Answer}
 use Rattle.hp_event.specs.declared.answer.Answer.TheVariants.{Ok, LogFull}
 use Rattle.hp_event.specs.declared.head.Head.{Head}
 use Rattle.hp_event.specs.declared.event.Event.{Event}
-use Rattle.hp_event.specs.declared.event.Event.TheVariants.{WalkBegin, Call, WalkEnd, OpEnd}
+use Rattle.hp_event.specs.declared.event.Event.TheVariants.{WalkBegin, Call, OpEnd}
 use Rattle.hp_model.specs.Lists.{among}
 use Rattle.hp_model.specs.Events.{seat_of, is_registration_op, BelongsTo}
 use Rattle.hp_model.specs.Walks.{Walk, walk, walking, is_walking}
@@ -18,8 +18,7 @@ use Rattle.hp_model.specs.Registrations.{Registration, registration}
 use Rattle.hp_model.specs.Registered.{Registered}
 use Rattle.hp_model.specs.MapLock.{Operation, operation, is_map_op}
 use Rattle.hp_model.specs.Readers.{readers, is_reading, is_read}
-use Rattle.hp_model.specs.Seats.{ap_seat, holds_map, IsFree}
-use Rattle.hp_model.specs.Caller.{is_made_by_ap, caller}
+use Rattle.hp_model.specs.Seats.{holds_map, IsFree}
 use Rattle.hp_model.specs.Batch.{is_upmany, batch, unbegun, is_batch_begun}
 use Rattle.hp_model.specs.BatchTurn.{has_turn}
 use Rattle.hp_model.specs.Sequence as seq
@@ -30,7 +29,7 @@ use Rattle.hp_model.specs.Processors.{online}
 use Rattle.hp_model.specs.Needs.{need}
 use Rattle.hp_model.specs.Room.{has_room}
 use Rattle.hp_model.specs.StandsOperations.{WalkBegins}
-use Rattle.hp_model.specs.Lawful.{Comes, IsLawful}
+use Rattle.hp_model.specs.Lawful.{IsLawful}
 use Rattle.hp_model.specs.Pending.{Pending, IsAllowed}
 use Rattle.hp_model.specs.Moves.{ArePending, IsOfPending, IsOfThread, CanMove}
 use Rattle.hp_model.proofs.CanBegin.{CanBegin}
@@ -38,15 +37,17 @@ use Rattle.hp_model.proofs.InFlight.{walking_is, readers_are, reader_none}
 use Rattle.hp_model.proofs.WaitLemmas.{is_writing, first_among, can_walk}
 use Rattle.hp_model.proofs.Kept.{Kept, WalkKept, RegistrationKept}
 use Rattle.hp_model.proofs.Operations.{Operations, Entered}
-use Rattle.hp_model.proofs.Induction.{held_none, held_from}
+use Rattle.hp_model.proofs.Induction.{held}
 use Rattle.hp_model.proofs.Owners.{Owners}
 use Rattle.hp_model.proofs.OneNext.{owners}
 use Rattle.hp_model.proofs.HoldersDontRead.{HoldersDontRead, holders}
-use Rattle.hp_model.proofs.NextOfWalk.{EndsNext, EntryNext, ends_with, called_by, walk_next}
+use Rattle.hp_model.proofs.NextOfWalk.{walk_goes}
 use Rattle.hp_model.proofs.BatchLemmas.{between_rest}
 use Rattle.hp_model.proofs.TurnLemmas.{thread_turn, single_turn}
 use Rattle.hp_model.proofs.BatchNext.{ThreadNext, BatchNext, begins, makes, threads, batch_next}
-use Rattle.hp_model.proofs.NextOfRegistration.{registration_comes}
+use Rattle.hp_model.proofs.NextOfRegistration.{registration_goes}
+use Rattle.hp_model.proofs.WalkGives.{walk_given}
+use Rattle.hp_model.proofs.RegistrationGives.{registration_given}
 use Rattle.hp_model.proofs.FirstEvents.{ComesOf, first_comes, nothing_waits, reader_waits}
 
 -- what a lawful journal keeps, for this
@@ -58,7 +59,7 @@ pub record Facts (head : Head) (xs : List Event) : Type 0 where
 
 pub facts : (head : Head) (xs : List Event) → IsLawful head xs → Facts head xs
 facts head xs h =
-    let k = held_from head [] xs (held_none head h.0) h.1 in
+    let k = held head xs h in
     record { kept = k.kept; operations = k.operations; owners = owners head xs h; holders = holders head xs h }
 
 abbrev held_as : Operation → Pending
@@ -77,38 +78,24 @@ takes_none head xs e h = rw h refl
 pub entered_op : (head : Head) (xs : List Event) (o : Operation) → Operations head xs → operation xs ≡ Some o → is_map_op o.op ≡ true
 entered_op head xs o k at = let e : Entered head o = rw at at k.entered in e.enters.takes_map
 
+-- what is given in a walk of the operation that holds the map lock
+of_holder : (head : Head) (xs : List Event) (pending : List Pending) (o : Operation) (e : Event) {k : ℕ} → Facts head xs →
+    ArePending head xs pending → operation xs ≡ Some o → (seat_of e ≡ k → seat_of e ≡ o.seat) →
+    ((seat_of e ≡ k) × ((op : Op) → is_map_op op ≡ true → BelongsTo op e)) ⊎ IsOfThread xs e →
+    IsOfPending pending e ⊎ IsOfThread xs e
+of_holder head xs pending o e f p held s (inl h) =
+    inl (held_as o, p.in_flight (held_as o) (inl (o, held, refl, refl)), s h.0, h.1 o.op (entered_op head xs o f.operations held))
+of_holder head xs pending o e f p held s (inr h) = inr h
+
 -- a walk is in flight, and each has its turn
 by_walk : (head : Head) (xs : List Event) (pending : List Pending) (o : Operation) (c : ℕ) (w : Walk) → Facts head xs →
     ArePending head xs pending → operation xs ≡ Some o → o.seat ≡ w.seat → walk c xs ≡ Some w →
     ((k : ℕ) → has_turn head xs k c ≡ true) → CanMove head xs pending
-by_walk head xs pending o c w f p held own at turns = go (walk_next head xs c w at kept)
-  where
-    kept : WalkKept head c w xs
-    kept = rw at at (f.kept.at c).kept
-
-    mine : (e : Event) → Comes head xs e → need head xs e ≡ None → seat_of e ≡ w.seat → BelongsTo o.op e → CanMove head xs pending
-    mine e h n s b =
-        inl (e, (h, takes_none head xs e n), inl (held_as o, p.in_flight (held_as o) (inl (o, held, refl, refl)), s ∙ sym own, b))
-
-    made : (n : EntryNext head xs c w) (j : ℕ) → (j ≡ n.entry.of.seat) ⊎ (ap_seat c xs ≡ Some j) →
-        caller xs c n.state n.how n.entry.of.seat ≡ Some j → CanMove head xs pending
-    made n j (inl s) by =
-        mine (Call j c n.state n.inst n.dir n.how) (inl (record { entry = n.entry; caller_is = by; turn = turns j })) refl
-        (s ∙ n.client_is) tt
-    made n j (inr a) by =
-        inl (
-          Call j c n.state n.inst n.dir n.how,
-          (inl (record { entry = n.entry; caller_is = by; turn = turns j }), refl),
-          inr (c, a, refl),
-        )
-
-    go : EndsNext head xs c w ⊎ EntryNext head xs c w → CanMove head xs pending
-    go (inl e) =
-        mine (WalkEnd w.seat c e.answer) (ends_with head xs c w at e (turns w.seat)) refl refl (entered_op head xs o f.operations held)
-    go (inr n) =
-        let thread = p.threads c kept.present in
-        let by = called_by (is_made_by_ap n.state n.how) (ap_seat c xs) thread.0 n.entry.of.seat thread.1 in
-        made n by.seat by.by by.is
+by_walk head xs pending o c w f p held own at turns =
+    let kept : WalkKept head c w xs = rw at at (f.kept.at c).kept in
+    let n = walk_goes head xs c w kept (p.threads c kept.present) in
+    let g = walk_given head xs c w n.0 at (turns (seat_of n.0)) n.1 in
+    inl (n.0, (g.comes, takes_none head xs n.0 g.takes_none), of_holder head xs pending o n.0 f p held (λ q. q ∙ sym own) g.by)
 
 -- an upmany walks
 by_batch : (head : Head) (xs : List Event) (pending : List Pending) (o : Operation) (c : ℕ) (w : Walk) → Facts head xs →
@@ -120,12 +107,6 @@ by_batch head xs pending o c w f p held u at = go (batch_next head xs o c w f.ow
 
     is : Contains pending (held_as o)
     is = p.in_flight (held_as o) (inl (o, held, refl, refl))
-
-    by : (v : Walk) (e : Event) → seat_of e ≡ o.seat →
-        ((seat_of e ≡ v.seat) × ((op : Op) → is_map_op op ≡ true → BelongsTo op e)) ⊎ IsOfThread xs e →
-        IsOfPending pending e ⊎ IsOfThread xs e
-    by v e s (inl h) = inl (held_as o, is, s, h.1 o.op takes_map)
-    by v e s (inr h) = inr h
 
     thread : (n : ThreadNext head xs c w) → CanMove head xs pending
     thread n =
@@ -147,7 +128,8 @@ by_batch head xs pending o c w f p held u at = go (batch_next head xs o c w f.ow
 
     go : BatchNext head xs o → CanMove head xs pending
     go (begins d b r) = inl (WalkBegin o.seat d (settled d xs) 200, (b, r), inl (held_as o, is, refl, takes_map))
-    go (makes v e s g) = inl (e, (g.comes, takes_none head xs e g.takes_none), by v e s g.by)
+    go (makes v e s g) =
+        inl (e, (g.comes, takes_none head xs e g.takes_none), of_holder head xs pending o e f p held (λ q. s) g.by)
     go (threads n t all) = thread (all c w at)
 
 pub registers_op : (op : Op) (found : Option Registered) → CanBegin op found → is_registration_op op ≡ true
@@ -162,8 +144,9 @@ by_registration : (head : Head) (xs : List Event) (pending : List Pending) (r : 
     ArePending head xs pending → registration xs ≡ Some r → CanMove head xs pending
 by_registration head xs pending r f p at =
     let kept : RegistrationKept head r xs = rw at at f.kept.registration_kept in
-    let m = registration_comes head xs r at kept p.threads in
-    inl (m.event, (m.comes, takes_none head xs m.event m.takes_none), go m.event (registers_op r.op _ kept.can_begin) m.by)
+    let n = registration_goes head xs r kept p.threads in
+    let g = registration_given head xs r n.0 at n.1 in
+    inl (n.0, (g.comes, takes_none head xs n.0 g.takes_none), go n.0 (registers_op r.op _ kept.can_begin) g.by)
   where
     go : (e : Event) → is_registration_op r.op ≡ true →
         ((seat_of e ≡ r.seat) × ((op : Op) → is_registration_op op ≡ true → BelongsTo op e)) ⊎ IsOfThread xs e →

@@ -1,7 +1,7 @@
 -- At what stage a seat is when an event of its operation can stand: before it, between its walks, on a walk, or on
 -- a registration. No two of them are possible at once.
-use Rattle.std.proofs.Common.{◌≡◌, ℕ, ℤ, Bool, true, false, cond, Option, Some, None, List, refl, sym, ◌∙◌, subst, inl, inr, ◌⊎◌}
-use Rattle.std.proofs.lemmas.Bool.{true≢false}
+use Rattle.std.proofs.Common.{◌≡◌, ℕ, ℤ, Bool, true, false, cond, Option, Some, None, List, refl, sym, ◌∙◌, inl, inr, ◌⊎◌}
+use Rattle.std.proofs.lemmas.Bool.{true≢false, false≢true}
 use Rattle.hp_event.specs.declared.op.Op.{Op}
 use Rattle.hp_event.specs.declared.op.Op.TheVariants.{Lock, Unlock, Arm, ShowState, ShowTarget, ShowFail, ShowStates}
 use Rattle.hp_event.specs.declared.event.File.{File}
@@ -10,16 +10,16 @@ use Rattle.hp_event.specs.declared.event.Role.TheVariants.{Client, Ap}
 use Rattle.hp_event.specs.declared.answer.Answer.{Answer}
 use Rattle.hp_event.specs.declared.head.Head.{Head}
 use Rattle.hp_event.specs.declared.event.Event.{Event}
-use Rattle.hp_event.specs.declared.event.Event.TheVariants.{Enter, Refused, WalkBegin, Call, WalkEnd, OpEnd, RegBegin, RegEnd, ReadLock, ReadUnlock, Armed, Shown, Wakeup}
+use Rattle.hp_event.specs.declared.event.Event.TheVariants.{Admit, Leave, Enter, Refused, WalkBegin, Call, WalkEnd, OpEnd, RegBegin, RegEnd, ReadLock, ReadUnlock, Armed, Shown, Wakeup}
 use Rattle.hp_model.specs.Events.{seat_of, showing, BelongsTo}
 use Rattle.hp_model.specs.Walks.{Walk, walk}
 use Rattle.hp_model.specs.Registrations.{Registration, registration}
 use Rattle.hp_model.specs.MapLock.{Operation, operation, is_map_op}
-use Rattle.hp_model.specs.Seats.{role_of, ap_seat, is_busy}
+use Rattle.hp_model.specs.Seats.{role_of, ap_seat, is_busy, IsFree}
 use Rattle.hp_model.specs.Settled.{settled}
 use Rattle.hp_model.specs.Sequence.{Next, walks, ends, nothing, next, is_between}
 use Rattle.hp_model.specs.Resolved.{resolved}
-use Rattle.hp_model.specs.Refusals.{refusal}
+use Rattle.hp_model.specs.Refusals.{refusal, Passes}
 use Rattle.hp_model.specs.Files.{file_value}
 use Rattle.hp_model.specs.NextEvent.{walk_begin}
 use Rattle.hp_model.specs.Caller.{is_made_by_ap}
@@ -27,7 +27,7 @@ use Rattle.hp_model.specs.StandsCalls.{InWalk, InRegistration}
 use Rattle.hp_model.specs.StandsOperations.{Enters, WalkEnds, IsOver, IsCut}
 use Rattle.hp_model.specs.StandsFiles.{Shows}
 use Rattle.hp_model.specs.StandsRegistrations.{RegEnds}
-use Rattle.hp_model.specs.Lawful.{Stands}
+use Rattle.hp_model.specs.Lawful.{Comes, Stands}
 use Rattle.hp_model.proofs.BatchLemmas.{between_rest}
 use Rattle.hp_model.proofs.Kept.{Kept, WalkKept}
 use Rattle.hp_model.proofs.Owners.{Owners, same_some, none_some, idle_op, idle_reg, not_self}
@@ -126,6 +126,47 @@ shown_first head xs seat Target cpu value h = rw (h.passes.not_refused, h.value_
 shown_first head xs seat Fail cpu value h = rw (h.passes.not_refused, h.value_is) refl
 shown_first head xs seat States cpu value h = rw (h.passes.not_refused, h.value_is, h.has_file) refl
 
+-- whether an event is the first of an operation
+abbrev pub is_first : Event → Bool
+is_first (Admit seat role) = false
+is_first (Leave seat) = false
+is_first (WalkBegin seat cpu from to) = false
+is_first (Call seat cpu state inst dir how) = false
+is_first (WalkEnd seat cpu answer) = false
+is_first (OpEnd seat answer) = false
+is_first (RegEnd seat answer) = false
+is_first e = true
+
+-- it is a free seat's: its refusal, or its begin where it passes
+pub record IsFirst (head : Head) (xs : List Event) (k : ℕ) (op : Op) (e : Event) : Type 0 where
+  pub free : IsFree xs k
+  pub event_is : e ≡ first_event head xs k op
+  pub passes : Passes head xs k op ⊎ ((errno : ℕ) × (refusal head xs k op ≡ Some errno))
+
+passed : (head : Head) (xs : List Event) (k : ℕ) (op : Op) (e : Event) → IsFree xs k → Passes head xs k op →
+    e ≡ first_event head xs k op → IsFirst head xs k op e
+passed head xs k op e free p is = record { free = free; event_is = is; passes = inl p }
+
+pub first_is : (head : Head) (xs : List Event) (op : Op) (e : Event) → BelongsTo op e → Comes head xs e → is_first e ≡ true →
+    IsFirst head xs (seat_of e) op e
+first_is head xs op (Enter seat asked) b h f =
+    rw (← b) (passed head xs seat asked (Enter seat asked) h.free h.passes (entered head xs seat asked h))
+first_is head xs op (RegBegin seat state asked) b h f =
+    rw (← b) (passed head xs seat asked (RegBegin seat state asked) h.free h.passes (rw (h.passes.not_refused, h.state_is) refl))
+first_is head xs op (Refused seat errno asked) b h f =
+    rw (← b) (record { free = h.free; event_is = rw h.refused refl; passes = inr (errno, h.refused) })
+first_is head xs op (Shown seat file cpu value) b h f =
+    rw b (passed head xs seat (showing file cpu) (Shown seat file cpu value) h.free h.passes (shown_first head xs seat file cpu value h))
+first_is head xs op (ReadLock seat) b h f =
+    rw b (passed head xs seat Lock (ReadLock seat) h.free h.passes (rw h.passes.not_refused refl))
+first_is head xs op (ReadUnlock seat) b h f =
+    rw b (passed head xs seat Unlock (ReadUnlock seat) h.free h.passes (rw h.passes.not_refused refl))
+first_is head xs op (Armed seat cpu value) b h f =
+    rw b (passed head xs seat (Arm cpu value) (Armed seat cpu value) h.free h.passes (rw h.passes.not_refused refl))
+first_is head xs op (Wakeup seat) b h f =
+    rw b (passed head xs seat Op.Wakeup (Wakeup seat) h.free h.passes (rw h.passes.not_refused refl))
+first_is head xs op e b h f = absurd (false≢true f)
+
 walks_something : (c to : ℕ) → walks c to ≡ nothing → ⊥
 walks_something c to h = cc
 
@@ -135,17 +176,6 @@ ends_something answer h = cc
 -- the stage of an event that stands and belongs to an operation
 pub stage_of : (head : Head) (xs : List Event) (op : Op) (e : Event) → BelongsTo op e → Stands head xs e →
     Stage head xs (seat_of e) op e
-stage_of head xs op (Enter seat asked) b h =
-    let P : Op → Type 0 = λ z. Enter seat asked ≡ first_event head xs seat z in
-    inl (record { client = h.0.free.client; idle = h.0.free.idle; event_is = subst P b (entered head xs seat asked h.0) })
-stage_of head xs op (Refused seat errno asked) b h =
-    inl (record { client = h.0.free.client; idle = h.0.free.idle; event_is = rw (← b, h.0.refused) refl })
-stage_of head xs op (RegBegin seat state asked) b h =
-    inl (record { client = h.0.free.client; idle = h.0.free.idle; event_is = rw (← b, h.0.passes.not_refused, h.0.state_is) refl })
-stage_of head xs op (ReadLock seat) b h =
-    inl (record { client = h.0.free.client; idle = h.0.free.idle; event_is = rw (b, h.0.passes.not_refused) refl })
-stage_of head xs op (ReadUnlock seat) b h =
-    inl (record { client = h.0.free.client; idle = h.0.free.idle; event_is = rw (b, h.0.passes.not_refused) refl })
 stage_of head xs op (WalkBegin seat cpu from to) b h =
     let w = h.0 in
     inr (inl (record {
@@ -208,14 +238,11 @@ stage_of head xs op (Call seat cpu state inst dir how) b h = go h.0
           by = called_by (is_made_by_ap state how) (ap_seat cpu xs) r.entry.of.seat seat r.caller_is;
           event_is = (refl, r);
         })))
-stage_of head xs op (Armed seat cpu value) b h =
-    inl (record { client = h.0.free.client; idle = h.0.free.idle; event_is = rw (b, h.0.passes.not_refused) refl })
-stage_of head xs op (Shown seat file cpu value) b h =
-    let P : Op → Type 0 = λ z. Shown seat file cpu value ≡ first_event head xs seat z in
-    inl (record { client = h.0.free.client; idle = h.0.free.idle; event_is = subst P (sym b) (shown_first head xs seat file cpu value h.0) })
-stage_of head xs op (Wakeup seat) b h =
-    inl (record { client = h.0.free.client; idle = h.0.free.idle; event_is = rw (b, h.0.passes.not_refused) refl })
-stage_of head xs op e b h = elim b [ ]
+stage_of head xs op (Admit seat role) b h = elim b [ ]
+stage_of head xs op (Leave seat) b h = elim b [ ]
+stage_of head xs op e b h =
+    let f = first_is head xs op e b h.0 refl in
+    inl (record { client = f.free.client; idle = f.free.idle; event_is = f.event_is })
 
 -- no two stages at once
 pub ap_no_client : (xs : List Event) (c k : ℕ) → Owners xs → ap_seat c xs ≡ Some k → role_of k xs ≡ Some Client → ⊥

@@ -1,6 +1,6 @@
--- What holds of every step of a tree, and where entries that begin a shape stand in it.
+-- What holds of every step of a tree.
 use Rattle.std.proofs.Common.{◌≡◌, ℕ, ◌<◌, Bool, true, false, cond, Some, None, Option, List, [], ◌∷◌, ◌++◌, refl, sym, ◌∙◌, arith, eqb, ◌+◌}
-use Rattle.std.proofs.lemmas.Bool.{true≢false, eq-eqb, eqb-true}
+use Rattle.std.proofs.lemmas.Bool.{true≢false, eqb-true}
 use Rattle.hp_states.specs.declared.dir.Dir.{Dir}
 use Rattle.hp_states.specs.declared.dir.Dir.TheVariants.{Down}
 use Rattle.hp_states.specs.declared.place.Place.{Place}
@@ -8,12 +8,13 @@ use Rattle.hp_states.specs.declared.place.Place.TheVariants.{Forward, Back}
 use Rattle.hp_states.specs.Sections.{opposite, can_fail}
 use Rattle.hp_event.specs.declared.event.Event.{Event}
 use Rattle.hp_model.specs.Lists.{occurs}
-use Rattle.hp_model.specs.Crossing.{Slot, Begin, Fits}
-use Rattle.hp_model.proofs.NextSlot.{with_fails, Tree, stop, dead, step, Follow, visit_tree, part_tree, back_tree, walk_tree}
+use Rattle.hp_model.specs.Crossing.{Slot}
+use Rattle.hp_model.proofs.NextSlot.{Tree, stop, dead, step, visit_tree, part_tree, back_tree, walk_tree}
 use Rattle.hp_model.proofs.NextRegistration.{down_tree, add_tree, registration_tree}
 use Rattle.hp_model.proofs.Cursor.{Runs, IsLive, sound_back, sound_part}
 use Rattle.hp_model.proofs.RegistrationCursor.{sound_down}
 use Rattle.hp_model.proofs.Counts.{occurs-append}
+use Rattle.hp_model.proofs.ListLemmas.{once_in}
 
 -- each step has the rule, which speaks of its slot and of what follows a fault
 abbrev pub EachStep : (Slot → Tree → Type 0) → Tree → Type 0
@@ -32,53 +33,34 @@ steps_below P (step s a b) (e ∷ es) u r h = go r.0 r.2 (steps_below P a es u) 
     go true k f g = g k h.2
     go false k f g = f k h.1
 
--- entries that begin what follows a tree lead down to a tree that isn't dead
-pub record IsAt (t : Tree) (es : List Event) : Type 0 where
-  pub tree : Tree
-  pub runs : Runs t es tree
-  pub live : IsLive tree
+-- a slot has the rule, and a fault that can come leads to no dead end
+abbrev pub IsSafe : (Slot → Type 0) → Slot → Tree → Type 0
+IsSafe Rule s b = Rule s × (can_fail s.dir s.state s.place ≡ true → IsLive b)
 
-live_of : (t : Tree) (xs : List Slot) → Follow t xs → IsLive t
-live_of stop xs h = tt
-live_of dead xs h = h
-live_of (step s a b) xs h = tt
-
-fits_as : (s x : Slot) (e : Event) → x ≡ with_fails s x.fails → Fits x e → Fits (with_fails s x.fails) e
-fits_as s x e h f = rw h at f
-
-pub at_tree : (t : Tree) (xs : List Slot) (es : List Event) → Follow t xs → Begin xs es → IsAt t es
-at_tree t xs [] f b = record { tree = t; runs = refl; live = live_of t xs f }
-at_tree t [] (e ∷ es) f b = elim b [ ]
-at_tree stop (x ∷ xs) (e ∷ es) f b = elim f [ ]
-at_tree dead (x ∷ xs) (e ∷ es) f b = elim f [ ]
-at_tree (step s a c) (x ∷ xs) (e ∷ es) f b =
-    let r = at_tree (cond x.fails c a) xs es f.1 b.1 in
-    record { tree = r.tree; runs = (x.fails, fits_as s x e f.0 b.0, r.runs); live = r.live }
-
--- a step of a walk is of its processor, and a fault that can come leads to no dead end
-abbrev pub IsWalkStep : (cpu : ℕ) → Slot → Tree → Type 0
-IsWalkStep c s b = (s.cpu ≡ c) × (can_fail s.dir s.state s.place ≡ true → IsLive b)
+-- each slot of a walk is of its processor
+abbrev pub IsOn : (cpu : ℕ) → Slot → Type 0
+IsOn c s = s.cpu ≡ c
 
 steps_visit : (c : ℕ) (p : Place) (d : Dir) (s : ℕ) (b : Bool) (seen is : List ℕ) (t : Tree) (f : List ℕ → Tree) →
-    EachStep (IsWalkStep c) t → ((earlier : List ℕ) → IsLive (f earlier) × EachStep (IsWalkStep c) (f earlier)) →
-    EachStep (IsWalkStep c) (visit_tree c p d s b seen is t f)
+    EachStep (IsSafe (IsOn c)) t → ((earlier : List ℕ) → IsLive (f earlier) × EachStep (IsSafe (IsOn c)) (f earlier)) →
+    EachStep (IsSafe (IsOn c)) (visit_tree c p d s b seen is t f)
 steps_visit c p d s b seen [] t f h k = h
 steps_visit c p d s b seen (i ∷ is) t f h k =
     ((refl, λ e. (k seen).0), steps_visit c p d s false (seen ++ i ∷ []) is t f h k, (k seen).1)
 
-steps_part : (c : ℕ) (d : Dir) (s : ℕ) (is : List ℕ) (t : Tree) → EachStep (IsWalkStep c) t →
-    EachStep (IsWalkStep c) (part_tree c d s is t)
+steps_part : (c : ℕ) (d : Dir) (s : ℕ) (is : List ℕ) (t : Tree) → EachStep (IsSafe (IsOn c)) t →
+    EachStep (IsSafe (IsOn c)) (part_tree c d s is t)
 steps_part c d s [] t h = h
 steps_part c d s (i ∷ is) t h = ((refl, λ e. absurd (true≢false (sym e))), steps_part c d s is t h, tt)
 
-steps_back : (c : ℕ) (keys : ℕ → List ℕ) (d : Dir) (ts : List ℕ) → EachStep (IsWalkStep c) (back_tree c keys d ts)
+steps_back : (c : ℕ) (keys : ℕ → List ℕ) (d : Dir) (ts : List ℕ) → EachStep (IsSafe (IsOn c)) (back_tree c keys d ts)
 steps_back c keys d [] = tt
 steps_back c keys d (t ∷ ts) =
     steps_visit c Back d t true [] (keys t) (back_tree c keys d ts) (λ earlier. part_tree c (opposite d) t earlier stop)
     (steps_back c keys d ts)
     (λ earlier. ((sound_part c (opposite d) t earlier stop tt tt).0, steps_part c (opposite d) t earlier stop tt))
 
-pub steps_walk : (c : ℕ) (keys : ℕ → List ℕ) (d : Dir) (stack ss : List ℕ) → EachStep (IsWalkStep c) (walk_tree c keys d stack ss)
+pub steps_walk : (c : ℕ) (keys : ℕ → List ℕ) (d : Dir) (stack ss : List ℕ) → EachStep (IsSafe (IsOn c)) (walk_tree c keys d stack ss)
 steps_walk c keys d stack [] = tt
 steps_walk c keys d stack (s ∷ ss) =
     steps_visit c Forward d s true [] (keys s) (walk_tree c keys d (s ∷ stack) ss)
@@ -90,27 +72,24 @@ steps_walk c keys d stack (s ∷ ss) =
       steps_part c (opposite d) s earlier (back_tree c keys (opposite d) stack) (steps_back c keys (opposite d) stack),
     ))
 
--- a step of a registration is on one of its processors
-abbrev pub IsRegistrationStep : (cpus : List ℕ) → Slot → Tree → Type 0
-IsRegistrationStep cs s b = (0 < occurs s.cpu cs) × (can_fail s.dir s.state s.place ≡ true → IsLive b)
-
-first_in : (c : ℕ) (cs : List ℕ) → 0 < occurs c (c ∷ cs)
-first_in c cs = let e : eqb c c ≡ true = eq-eqb c c refl in rw e (omega arith)
+-- each slot of a registration is on one of its processors
+abbrev pub IsAmong : (cpus : List ℕ) → Slot → Type 0
+IsAmong cs s = 0 < occurs s.cpu cs
 
 steps_down : (all : List ℕ) (p : Place) (s i : ℕ) (cs : List ℕ) → ((d : Dir) → can_fail d s p ≡ false) →
-    ((c : ℕ) → 0 < occurs c cs → 0 < occurs c all) → EachStep (IsRegistrationStep all) (down_tree p s i cs)
+    ((c : ℕ) → 0 < occurs c cs → 0 < occurs c all) → EachStep (IsSafe (IsAmong all)) (down_tree p s i cs)
 steps_down all p s i [] never h = tt
 steps_down all p s i (c ∷ cs) never h = (
-  (h c (first_in c cs), λ e. absurd (true≢false (sym e ∙ never Down))),
+  (h c (once_in c cs), λ e. absurd (true≢false (sym e ∙ never Down))),
   steps_down all p s i cs never (λ d n. h d (omega (arith, n))),
   tt,
 )
 
 steps_add : (all : List ℕ) (s i : ℕ) (seen cs : List ℕ) → ((c : ℕ) → 0 < occurs c cs → 0 < occurs c all) →
-    ((c : ℕ) → 0 < occurs c seen → 0 < occurs c all) → EachStep (IsRegistrationStep all) (add_tree s i seen cs)
+    ((c : ℕ) → 0 < occurs c seen → 0 < occurs c all) → EachStep (IsSafe (IsAmong all)) (add_tree s i seen cs)
 steps_add all s i seen [] h k = tt
 steps_add all s i seen (c ∷ cs) h k = (
-  (h c (first_in c cs), λ e. (sound_down Place.Undo s i seen).0),
+  (h c (once_in c cs), λ e. (sound_down Place.Undo s i seen).0),
   steps_add all s i (seen ++ c ∷ []) cs (λ d n. h d (omega (arith, n))) (λ d n. more d (rw (occurs-append d seen (c ∷ [])) at n)),
   steps_down all Place.Undo s i seen (λ d. refl) k,
 )
@@ -119,11 +98,11 @@ steps_add all s i seen (c ∷ cs) h k = (
     more d n = go (eqb c d) refl n
       where
         go : (b : Bool) → eqb c d ≡ b → 0 < occurs d seen + (cond b 1 0 + 0) → 0 < occurs d all
-        go true e m = let same = eqb-true c d e in rw same at (h c (first_in c cs))
+        go true e m = let same = eqb-true c d e in rw same at (h c (once_in c cs))
         go false e m = k d (omega (arith, m))
 
 pub steps_registration : (adding : Bool) (s : ℕ) (key : Option ℕ) (cs : List ℕ) →
-    EachStep (IsRegistrationStep cs) (registration_tree adding s key cs)
+    EachStep (IsSafe (IsAmong cs)) (registration_tree adding s key cs)
 steps_registration adding s None cs = tt
 steps_registration true s (Some i) cs = steps_add cs s i [] cs (λ c h. h) (λ c h. absurd (omega (arith, h)))
 steps_registration false s (Some i) cs = steps_down cs Place.Remove s i cs (λ d. refl) (λ c h. h)

@@ -7,7 +7,7 @@ use Rattle.hp_event.specs.declared.head.Head.{Head}
 use Rattle.hp_event.specs.declared.event.Event.{Event}
 use Rattle.hp_event.specs.declared.event.Event.TheVariants.{Refused, WalkBegin, Call, WalkEnd, OpEnd, RegEnd}
 use Rattle.hp_model.specs.Lists.{among}
-use Rattle.hp_model.specs.Events.{seat_of, is_call, is_registration_op, BelongsTo}
+use Rattle.hp_model.specs.Events.{seat_of, is_registration_op, BelongsTo}
 use Rattle.hp_model.specs.Walks.{Walk, walk, walking, is_walking}
 use Rattle.hp_model.specs.Registrations.{Registration, registration}
 use Rattle.hp_model.specs.MapLock.{Operation, operation, is_map_op}
@@ -37,6 +37,7 @@ use Rattle.hp_model.proofs.BatchNext.{ThreadNext, BatchNext, begins, makes, thre
 use Rattle.hp_model.proofs.NextOfRegistration as reg
 use Rattle.hp_model.proofs.FirstEvents.{ComesOf, first_comes}
 use Rattle.hp_model.proofs.SomeMoves.{Facts, facts, some_of, entered_op, registers_op, next_some}
+use Rattle.hp_model.proofs.DueGives.{call_belongs}
 
 -- an event that comes next stands, or is kept out
 room_or_full : (head : Head) (xs : List Event) (p : Pending) → IsFree xs p.seat → ComesOf head xs p.seat p.op → TurnFinds head xs p
@@ -147,11 +148,7 @@ batch_finds head xs p o c w f held s is u at = go (batch_next head xs o c w f.ow
     by : (v : Walk) (e : Event) → Stands head xs e → seat_of e ≡ o.seat →
         ((seat_of e ≡ v.seat) × ((op : Op) → is_map_op op ≡ true → BelongsTo op e)) ⊎ IsOfThread xs e → TurnFinds head xs p
     by v e h t (inl b) = inl (e, h, t ∙ s, b.1 p.op is)
-    by v e h t (inr b) = inl (e, h, t ∙ s, call_of p.op e b.2)
-      where
-        call_of : (op : Op) (e : Event) → is_call e ≡ true → BelongsTo op e
-        call_of op (Call seat cpu state inst dir how) h = tt
-        call_of op e h = absurd (false≢true h)
+    by v e h t (inr b) = inl (e, h, t ∙ s, call_belongs p.op e b.2)
 
     kept : WalkKept head c w xs
     kept = rw at at (f.kept.at c).kept

@@ -2,6 +2,7 @@
 -- another seat goes on with has its last event later from there on.
 use Rattle.std.proofs.Common.{◌≡◌, ◌≢◌, ℕ, zero, suc, ◌<◌, Bool, true, false, not, ◌&&◌, cond, eqb, ltb, is_some, Option, Some, None, List, [], ◌∷◌, ◌++◌, length, refl, ap, sym, ◌∙◌, inl, inr, ◌⊎◌, subst, arith, append_assoc, length-append}
 use Rattle.std.specs.List.{filter}
+use Rattle.std.specs.Prelude.{option_map}
 use Rattle.std.proofs.lemmas.List.{append-nil}
 use Rattle.std.proofs.lemmas.Bool.{true≢false, false≢true, eqb-true, eq-eqb}
 use Rattle.std.proofs.lemmas.Bool.Decides.{nat_tests}
@@ -33,7 +34,8 @@ use Rattle.hp_model.specs.StandsCalls.{InWalk, InRegistration}
 use Rattle.hp_model.specs.StandsOperations.{IsOver, IsCut}
 use Rattle.hp_model.specs.Lawful.{Comes}
 use Rattle.hp_model.specs.Batch.{begun, begun_step, is_upmany, to_begin_of, to_begin}
-use Rattle.hp_model.specs.NextInWalk.{made_by, walk_left, walk_end, event_of_walk, next_of_walk}
+use Rattle.hp_model.specs.Errands.{made_by}
+use Rattle.hp_model.specs.NextInWalk.{walk_left, event_of_walk, next_of_walk}
 use Rattle.hp_model.specs.BatchTurn.{last_step, last_event, is_by, own_walks, earlier, earliest, if_empty, turn_of}
 use Rattle.hp_model.proofs.ListLemmas.{in_filter}
 use Rattle.hp_model.proofs.Laws.{over_from_push, walk_push, walk_entries_push, walking_push, begun_push, operation_push}
@@ -43,6 +45,7 @@ use Rattle.hp_model.proofs.WalkGives as by_walk
 use Rattle.hp_model.proofs.BatchLemmas.{walking_begun}
 use Rattle.hp_model.proofs.PromisedParts.{left_same}
 use Rattle.hp_model.proofs.TurnLemmas.{earliest_in, turn_own}
+use Rattle.hp_model.proofs.Beside.{none_at_first}
 
 -- ---- where last events stand
 
@@ -80,13 +83,9 @@ last_within : (c : ℕ) (xs : List Event) → Within (last_event c xs) (length x
 unfolding last_event
 last_within c xs = last_from c 0 [] xs (inl refl)
 
-none_first : (c : ℕ) → walk c [] ≡ None
-unfolding walk
-none_first c = refl
-
 -- that of a walk in flight stands before what comes next
 pub last_before : (c : ℕ) (w : Walk) (xs : List Event) → walk c xs ≡ Some w → last_event c xs < length xs
-last_before c w [] h = absurd (none_some w (sym (none_first c) ∙ h))
+last_before c w [] h = absurd (none_some w (sym (none_at_first c) ∙ h))
 last_before c w (x ∷ xs) h = go (last_within c (x ∷ xs))
   where
     go : Within (last_event c (x ∷ xs)) (length (x ∷ xs)) → last_event c (x ∷ xs) < length (x ∷ xs)
@@ -130,7 +129,7 @@ owned_left : (head : Head) (xs : List Event) (k c : ℕ) (w : Walk) (t : Tree) �
     is_by k (event_of_walk head xs c w t) ≡ own_of w.seat k (direction w.from w.to) (faults (walk_entries c xs)) t
 owned_left head xs k c w stop none = go (walk_answer (direction w.from w.to) (faults (walk_entries c xs)))
   where
-    go : (v : Option Answer) → is_by k (walk_end w.seat c v) ≡ (is_some v && eqb w.seat k)
+    go : (v : Option Answer) → is_by k (option_map (λ answer. WalkEnd w.seat c answer) v) ≡ (is_some v && eqb w.seat k)
     go None = refl
     go (Some a) = refl
 owned_left head xs k c w dead none = refl

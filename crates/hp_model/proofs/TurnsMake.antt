@@ -4,8 +4,6 @@ use Rattle.std.proofs.lemmas.Bool.{false≢true, ltb-false}
 use Rattle.hp_event.specs.declared.op.Op.{Op}
 use Rattle.hp_event.specs.declared.head.Head.{Head}
 use Rattle.hp_event.specs.declared.event.Event.{Event}
-use Rattle.hp_event.specs.declared.event.Event.TheVariants.{Call}
-use Rattle.hp_model.specs.Events.{is_call, is_answer}
 use Rattle.hp_model.specs.Processors.{present}
 use Rattle.hp_model.specs.Pending.{IsAllowed}
 use Rattle.hp_model.specs.NextEvent.{due_entry, next_event, is_full}
@@ -18,11 +16,7 @@ use Rattle.hp_model.proofs.Owners.{none_some}
 use Rattle.hp_model.proofs.DueGives.{due_stands, due_gives}
 use Rattle.hp_model.proofs.NextStands.{next_stands, next_belongs}
 use Rattle.hp_model.proofs.NextGives.{next_gives, full_only, full_exactly}
-use Rattle.hp_model.proofs.Going.{IsGoing, asks_allowed, turns_going, start_going}
-
-pub no_answer : (e : Event) → is_call e ≡ true → is_answer e ≡ false
-no_answer (Call seat cpu state inst dir how) q = refl
-no_answer e q = absurd (false≢true q)
+use Rattle.hp_model.proofs.Going.{IsGoing, asks_allowed, turns_going, start_going, no_answer}
 
 -- with its task named, so that the task's cases can be told
 abbrev pub MakesAs : Head → (actors : List (List Op)) → RunState → (seat : ℕ) → Task → (after : RunState) → Type 0

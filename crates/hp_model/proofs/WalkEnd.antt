@@ -1,5 +1,5 @@
 -- The end of a walk: the entries that lead to the end of the plan, with the answer of their faults, are a whole walk.
-use Rattle.std.proofs.Common.{◌≡◌, ℕ, Bool, true, false, cond, not, Some, List, [], ◌∷◌, map, refl, sym}
+use Rattle.std.proofs.Common.{◌≡◌, ℕ, Bool, true, false, cond, not, Some, List, [], ◌∷◌, map, refl, sym, ◌∙◌}
 use Rattle.std.proofs.lemmas.Bool.{true≢false, false≢true}
 use Rattle.hp_states.specs.declared.dir.Dir.{Dir}
 use Rattle.hp_event.specs.declared.answer.Answer.{Answer}
@@ -13,7 +13,7 @@ use Rattle.hp_model.specs.WalkShape.{IsAnswer, IsWholeWalk}
 use Rattle.hp_model.specs.Faults.{Faulty, faults, walk_answer}
 use Rattle.hp_model.proofs.Cursor.{StandsAt, end_of_walk}
 use Rattle.hp_model.proofs.NextSlot.{stop}
-use Rattle.hp_model.proofs.OneAnswer.{failing, outcome_of, shape_outcome}
+use Rattle.hp_model.proofs.Failing.{failing, outcome_of, shape_outcome}
 use Rattle.hp_model.proofs.Owners.{same_some, none_some}
 
 -- the faults among the entries that fill some slots
@@ -64,5 +64,31 @@ whole_walk c K d p es answer h k =
       crossings = e.crossings;
       shape = e.shape;
       filled = e.filled;
-      answered = rw (o, f.0) (answer_if d es answer (faults es) f.1 k);
+      answered = rw (o.0, f.0) (answer_if d es answer (faults es) f.1 k);
     }
+
+-- and the other way round: the answer of a whole walk is that of its faults
+first_code : (a b : ℕ) (xs ys : List ℕ) → a ∷ xs ≡ b ∷ ys → a ≡ b
+first_code a b xs ys h = cc
+
+second_code : (a b c e : ℕ) (xs ys : List ℕ) → a ∷ (c ∷ xs) ≡ b ∷ (e ∷ ys) → c ≡ e
+second_code a b c e xs ys h = cc
+
+no_third : (a b c e f : ℕ) (xs : List ℕ) → a ∷ (c ∷ (f ∷ xs)) ≡ b ∷ (e ∷ []) → ⊥
+no_third a b c e f xs h = cc
+
+answer_only : (d : Dir) (es : List Event) (answer : Answer) (fs : List Faulty) → codes_of_faults es ≡ map (λ f. f.code) fs →
+    IsAnswer (outcome_of d (map (λ f. f.state) fs)) es answer → walk_answer d fs ≡ Some answer
+answer_only d es answer [] h k = rw k refl
+answer_only d es answer (f ∷ []) h k = rw (k.2, first_code f.code k.0 [] [] (sym h ∙ k.1)) refl
+answer_only d es answer (f ∷ (g ∷ [])) h k =
+    let q = sym h ∙ k.2 in
+    rw (k.3, first_code f.code k.0 _ _ q, second_code f.code k.0 g.code k.1 [] [] q) refl
+answer_only d es answer (f ∷ (g ∷ (j ∷ js))) h k = absurd (no_third f.code k.0 g.code k.1 j.code _ (sym h ∙ k.2))
+
+pub walk_answered : (c : ℕ) (K : ℕ → List ℕ) (d : Dir) (p : List ℕ) (es : List Event) (answer : Answer) →
+    IsWholeWalk c K d p es answer → walk_answer d (faults es) ≡ Some answer
+walk_answered c K d p es answer h =
+    let f = fill_faults (slots c K h.crossings) es h.filled in
+    let o = shape_outcome c K d p h.crossings h.outcome h.shape in
+    answer_only d es answer (faults es) f.1 (rw (o.0, f.0) at h.answered)

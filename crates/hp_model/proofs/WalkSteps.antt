@@ -67,11 +67,6 @@ begin_unmoved head c xs seat cpu from to f =
     unmoved_event head c xs (WalkBegin seat cpu from to) (λ w. rw f refl) (λ es. rw f refl) (λ r. refl) (λ n. refl)
     (λ s g. refl) (λ s i d. refl)
 
-pub begin_other : (head : Head) (c : ℕ) (xs : List Event) (seat cpu from to : ℕ) → eqb cpu c ≡ false → KeptAt head c xs →
-    KeptAt head c (xs ++ WalkBegin seat cpu from to ∷ [])
-begin_other head c xs seat cpu from to f k =
-    unmoved head c xs (xs ++ WalkBegin seat cpu from to ∷ []) (begin_unmoved head c xs seat cpu from to f) k
-
 -- an entry at the next slot
 pub Begin_next : (front : List Slot) (slot : Slot) (rest : List Slot) (es : List Event) (e : Event) → Fill front es → Fits slot e →
     Begin (front ++ slot ∷ rest) (es ++ e ∷ [])
@@ -119,32 +114,34 @@ begin_at head xs seat cpu from to b present still none k =
     } in
     record { kept = rw at_walk kept; away = λ h. settled_push cpu xs e ∙ k.away h }
 
+-- an event of the walk of one processor
+step_on : (head : Head) (xs : List Event) (e : Event) (cpu : ℕ) → KeptAt head cpu (xs ++ e ∷ []) →
+    ((c : ℕ) → eqb cpu c ≡ false → Unmoved head c xs (xs ++ e ∷ [])) → registration (xs ++ e ∷ []) ≡ None →
+    ((s : ℕ) → registered head s (xs ++ e ∷ []) ≡ registered head s xs) → Kept head xs → Kept head (xs ++ e ∷ [])
+step_on head xs e cpu here others none same k = record {
+  at = λ c. go c (eqb cpu c) refl;
+  registration_kept = rw none tt;
+  once = λ s i. rw (same s) (k.once s i);
+  none_at_0 = same 0 ∙ k.none_at_0;
+}
+  where
+    go : (c : ℕ) (b : Bool) → eqb cpu c ≡ b → KeptAt head c (xs ++ e ∷ [])
+    go c true f = subst (λ z. KeptAt head z (xs ++ e ∷ [])) (eqb-true cpu c f) here
+    go c false f = unmoved head c xs (xs ++ e ∷ []) (others c f) (k.at c)
+
 pub begin_step : (head : Head) (xs : List Event) (seat cpu from to : ℕ) → WalkBegins head xs seat cpu from to →
     is_present head cpu ≡ true → walk cpu xs ≡ None → registration xs ≡ None → Kept head xs →
     Kept head (xs ++ WalkBegin seat cpu from to ∷ [])
-begin_step head xs seat cpu from to b present still none k = record {
-  at = λ c. go c (eqb cpu c) refl;
-  registration_kept = rw (registration_push xs (WalkBegin seat cpu from to), none) tt;
-  once = λ s i. rw (registered_push head s xs (WalkBegin seat cpu from to)) (k.once s i);
-  none_at_0 = registered_push head 0 xs (WalkBegin seat cpu from to) ∙ k.none_at_0;
-}
-  where
-    go : (c : ℕ) (same : Bool) → eqb cpu c ≡ same → KeptAt head c (xs ++ WalkBegin seat cpu from to ∷ [])
-    go c true f =
-        let P : ℕ → Type 0 = λ z. KeptAt head z (xs ++ WalkBegin seat cpu from to ∷ []) in
-        subst P (eqb-true cpu c f) (begin_at head xs seat cpu from to b present still none (k.at cpu))
-    go c false f = begin_other head c xs seat cpu from to f (k.at c)
+begin_step head xs seat cpu from to b present still none k =
+    let e : Event = WalkBegin seat cpu from to in
+    step_on head xs e cpu (begin_at head xs seat cpu from to b present still none (k.at cpu))
+    (λ c f. begin_unmoved head c xs seat cpu from to f) (registration_push xs e ∙ none) (λ s. registered_push head s xs e) k
 
 pub call_unmoved : (head : Head) (c : ℕ) (xs : List Event) (seat cpu state inst : ℕ) (dir : Dir) (how : How) → eqb cpu c ≡ false →
     Unmoved head c xs (xs ++ Call seat cpu state inst dir how ∷ [])
 call_unmoved head c xs seat cpu state inst dir how f =
     unmoved_event head c xs (Call seat cpu state inst dir how) (λ w. refl) (λ es. rw f refl) (λ r. refl) (λ n. refl)
     (λ s g. refl) (λ s i d. rw f refl)
-
-pub call_other : (head : Head) (c : ℕ) (xs : List Event) (seat cpu state inst : ℕ) (dir : Dir) (how : How) → eqb cpu c ≡ false → KeptAt head c xs →
-    KeptAt head c (xs ++ Call seat cpu state inst dir how ∷ [])
-call_other head c xs seat cpu state inst dir how f k =
-    unmoved head c xs (xs ++ Call seat cpu state inst dir how ∷ []) (call_unmoved head c xs seat cpu state inst dir how f) k
 
 pub call_at : (head : Head) (xs : List Event) (seat cpu state inst : ℕ) (dir : Dir) (how : How) →
     InWalk head xs seat cpu state inst dir how →
@@ -174,30 +171,17 @@ pub call_step : (head : Head) (xs : List Event) (seat cpu state inst : ℕ) (dir
     InWalk head xs seat cpu state inst dir how →
     Kept head xs → Kept head (xs ++ Call seat cpu state inst dir how ∷ [])
 call_step head xs seat cpu state inst dir how b k =
+    let e : Event = Call seat cpu state inst dir how in
     let h : WalkKept head cpu b.entry.of xs = rw b.entry.in_flight at (k.at cpu).kept in
-    record {
-      at = λ c. go c (eqb cpu c) refl;
-      registration_kept = rw (registration_push xs (Call seat cpu state inst dir how), h.no_registration) tt;
-      once = λ s i. rw (registered_push head s xs (Call seat cpu state inst dir how)) (k.once s i);
-      none_at_0 = registered_push head 0 xs (Call seat cpu state inst dir how) ∙ k.none_at_0;
-    }
-  where
-    go : (c : ℕ) (same : Bool) → eqb cpu c ≡ same → KeptAt head c (xs ++ Call seat cpu state inst dir how ∷ [])
-    go c true f =
-        let P : ℕ → Type 0 = λ z. KeptAt head z (xs ++ Call seat cpu state inst dir how ∷ []) in
-        subst P (eqb-true cpu c f) (call_at head xs seat cpu state inst dir how b (k.at cpu))
-    go c false f = call_other head c xs seat cpu state inst dir how f (k.at c)
+    step_on head xs e cpu (call_at head xs seat cpu state inst dir how b (k.at cpu))
+    (λ c f. call_unmoved head c xs seat cpu state inst dir how f) (registration_push xs e ∙ h.no_registration)
+    (λ s. registered_push head s xs e) k
 
 pub end_unmoved : (head : Head) (c : ℕ) (xs : List Event) (seat cpu : ℕ) (answer : Answer) → eqb cpu c ≡ false →
     Unmoved head c xs (xs ++ WalkEnd seat cpu answer ∷ [])
 end_unmoved head c xs seat cpu answer f =
     unmoved_event head c xs (WalkEnd seat cpu answer) (λ w. rw f refl) (λ es. refl) (λ r. refl) (λ n. rw f refl)
     (λ s g. refl) (λ s i d. refl)
-
-pub end_other : (head : Head) (c : ℕ) (xs : List Event) (seat cpu : ℕ) (answer : Answer) → eqb cpu c ≡ false → KeptAt head c xs →
-    KeptAt head c (xs ++ WalkEnd seat cpu answer ∷ [])
-end_other head c xs seat cpu answer f k =
-    unmoved head c xs (xs ++ WalkEnd seat cpu answer ∷ []) (end_unmoved head c xs seat cpu answer f) k
 
 -- where an answer leaves a processor is where its walk's outcome does
 pub left_at_end : (o : Outcome) (w : Walk) (entries : List Event) (answer : Answer) (n : ℕ) → IsAnswer o entries answer →
@@ -247,16 +231,7 @@ end_at head xs seat cpu answer b k =
 pub end_step : (head : Head) (xs : List Event) (seat cpu : ℕ) (answer : Answer) → WalkEnds head xs seat cpu answer →
     Kept head xs → Kept head (xs ++ WalkEnd seat cpu answer ∷ [])
 end_step head xs seat cpu answer b k =
+    let e : Event = WalkEnd seat cpu answer in
     let h : WalkKept head cpu b.of xs = rw b.in_flight at (k.at cpu).kept in
-    record {
-      at = λ c. go c (eqb cpu c) refl;
-      registration_kept = rw (registration_push xs (WalkEnd seat cpu answer), h.no_registration) tt;
-      once = λ s i. rw (registered_push head s xs (WalkEnd seat cpu answer)) (k.once s i);
-      none_at_0 = registered_push head 0 xs (WalkEnd seat cpu answer) ∙ k.none_at_0;
-    }
-  where
-    go : (c : ℕ) (same : Bool) → eqb cpu c ≡ same → KeptAt head c (xs ++ WalkEnd seat cpu answer ∷ [])
-    go c true f =
-        let P : ℕ → Type 0 = λ z. KeptAt head z (xs ++ WalkEnd seat cpu answer ∷ []) in
-        subst P (eqb-true cpu c f) (end_at head xs seat cpu answer b (k.at cpu))
-    go c false f = end_other head c xs seat cpu answer f (k.at c)
+    step_on head xs e cpu (end_at head xs seat cpu answer b (k.at cpu)) (λ c f. end_unmoved head c xs seat cpu answer f)
+    (registration_push xs e ∙ h.no_registration) (λ s. registered_push head s xs e) k

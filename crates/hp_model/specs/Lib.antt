@@ -40,6 +40,7 @@ pub mod Room
 pub mod Files
 pub mod Trees
 pub mod Remaining
+pub mod Errands
 pub mod NextInWalk
 pub mod BatchTurn
 pub mod StandsCalls
@@ -65,7 +66,6 @@ pub mod Net
 pub mod Found
 pub mod Admissions
 pub mod Tasks
-pub mod RunByRounds
 pub mod ScriptTurns
 pub mod ScriptRun
 pub mod Draws
@@ -84,6 +84,4 @@ pub mod EventLine
 pub mod HasLine
 pub mod JournalText
 pub mod Summary
-pub mod Steps
-pub mod OneClient
 pub mod Front

@@ -1,7 +1,6 @@
 -- What comes next in what is under way: in each walk and in the registration in flight the next entry, or the end. Of the walks of
 -- an upmany its own seat makes one event at a time. This project's own.
-use Rattle.std.specs.Prelude.{ℕ, if◌then◌else◌, Option, Some, None, option_map, option_to_list, List, ◌++◌, filter_map}
-use Rattle.hp_event.specs.declared.answer.Answer.{Answer}
+use Rattle.std.specs.Prelude.{ℕ, if◌then◌else◌, Option, Some, None, option_to_list, List, ◌++◌, filter_map}
 use Rattle.hp_event.specs.declared.head.Head.{Head}
 use Rattle.hp_event.specs.declared.event.Event.{Event}
 use Rattle.hp_event.specs.declared.event.Event.TheVariants.{RegEnd}
@@ -11,31 +10,33 @@ use Rattle.hp_model.specs.Registrations.{Registration, registration, registratio
 use Rattle.hp_model.specs.Processors.{processors}
 use Rattle.hp_model.specs.RegistrationShape.{key_of, is_adding, ok_value}
 use Rattle.hp_model.specs.How.{how_in_registration}
-use Rattle.hp_model.specs.Faults.{faults, registration_answer}
-use Rattle.hp_model.specs.Trees.{Tree, stop, dead, step, registration_tree}
-use Rattle.hp_model.specs.Remaining.{remaining}
-pub use Rattle.hp_model.specs.NextInWalk.{made_by, entry, walk_left, walk_end, event_of_walk, next_of_walk}
+use Rattle.hp_model.specs.Faults.{registration_answer}
+use Rattle.hp_model.specs.Trees.{Tree, registration_tree}
+pub use Rattle.hp_model.specs.Errands.{entry}
+use Rattle.hp_model.specs.Errands.{Errand, left_of, event_of, next_of}
+pub use Rattle.hp_model.specs.NextInWalk.{walk_left, event_of_walk, next_of_walk}
 use Rattle.hp_model.specs.BatchTurn.{has_turn}
+
+abbrev pub registration_errand : Head → List Event → Registration → Errand
+registration_errand head events r = record {
+  seat = r.seat;
+  tree = registration_tree (is_adding r.op) r.state (key_of head r) (processors head r.state r.before);
+  entries = registration_entries events;
+  how = λ cpu state inst dir place first. how_in_registration head events r.op cpu state inst dir place;
+  answer = registration_answer (ok_value r.op r.state);
+  end = λ answer. RegEnd r.seat answer;
+}
 
 -- what is left of a registration
 abbrev pub registration_left : Head → List Event → Registration → Tree
-registration_left head events r =
-    remaining (registration_tree (is_adding r.op) r.state (key_of head r) (processors head r.state r.before))
-    (registration_entries events)
-
-abbrev pub registration_end : (seat : ℕ) → Option Answer → Option Event
-registration_end k given = option_map (λ answer. RegEnd k answer) given
+registration_left head events r = left_of (registration_errand head events r)
 
 abbrev pub event_of_registration : Head → List Event → Registration → (left : Tree) → Option Event
-event_of_registration head events r stop =
-    registration_end r.seat (registration_answer (ok_value r.op r.state) (faults (registration_entries events)))
-event_of_registration head events r dead = None
-event_of_registration head events r (step x a b) =
-    entry events r.seat x (how_in_registration head events r.op x.cpu x.state x.inst x.dir x.place)
+event_of_registration head events r left = event_of events (registration_errand head events r) left
 
 abbrev pub next_of_registration : Head → List Event → Option Registration → Option Event
 next_of_registration head events None = None
-next_of_registration head events (Some r) = event_of_registration head events r (registration_left head events r)
+next_of_registration head events (Some r) = next_of events (registration_errand head events r)
 
 abbrev pub in_turn : Head → List Event → (cpu : ℕ) → Option Event → Option Event
 in_turn head events c None = None

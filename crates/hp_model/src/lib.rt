@@ -12,17 +12,16 @@
 //! 4. `Armed`, `Calls`, `How`, `Caller`: how an entry is made, and by whom.
 //! 5. `Waits`, `RefusalsAtOnce`, `Refusals`, `Resolved`, `Batch`, `Sequence`, `Suspend`, `Files`: the rules of
 //!    operations. `Needs`, `Promised`, `Room`: the room that they take.
-//! 6. `NextInWalk`, `BatchTurn`: whose turn it is in an upmany. `SeatNext`, `BatchQueue`: how that is
-//!    found. `StandsCalls`, `StandsSeats`, `StandsOperations`, `StandsRegistrations`, `StandsFiles`, and
-//!    `Lawful`: which event stands after which events.
+//! 6. `Errands`, `NextInWalk`, `BatchTurn`: what comes next in a walk, and whose turn it is in an upmany.
+//!    `SeatNext`, `BatchQueue`: how that is found. `StandsCalls`, `StandsSeats`, `StandsOperations`,
+//!    `StandsRegistrations`, `StandsFiles`, and `Lawful`: which event stands after which events.
 //! 7. `Headline`, `OneWalk`, `NoUpmany`, `Keys`, `Front`, `Own`, `Completes`: what holds of every lawful
 //!    journal.
 //! 8. `Pending`, `SeatWaits`, `ApTurn`, `Full`, `Turns`, `Moves`: what a turn finds, and that some seat
 //!    can move. `Trees`, `Remaining`, `UnderWay`, `FirstEvent`, `NextEvent`: what comes next, found by
 //!    functions.
 //! 9. `Scripts`, `Admissions`, `Tasks`, `ScriptTurns`, `ScriptRun`, `Draws`, `Schedule`, `TurnMakes`,
-//!    `WithoutEvent`, `Distance`: the run of a script by its schedule. `RunByRounds`, `Steps`,
-//!    `OneClient`: a run by rounds as a relation, with one actor.
+//!    `WithoutEvent`, `Distance`: the run of a script by its schedule.
 //! 10. `Listed`, `SetOf`: sets of processors as they are written. `EventLine`, `JournalText`, `Summary`: the
 //!     texts.
 //!
@@ -34,7 +33,6 @@ ghost use Rattle.std.specs.Prelude.{◌≡◌, ◌≢◌, ◌↔◌, ◌⊎◌, 
 ghost use Rattle.hp_event.specs.declared.op.Op.{Op as AnOp};
 ghost use Rattle.hp_event.specs.declared.event.Event.{Event as AnEvent};
 ghost use Rattle.hp_event.specs.declared.event.Event.TheVariants.{Leave};
-ghost use Rattle.hp_model.specs.Journal.{EachAfter};
 ghost use Rattle.hp_model.specs.Processors.{present};
 ghost use Rattle.hp_model.specs.Heads.{IsHead};
 ghost use Rattle.hp_model.specs.Needs.{need, taken};
@@ -62,8 +60,6 @@ ghost use Rattle.hp_model.specs.OneWalk.{WalksAlone};
 ghost use Rattle.hp_model.specs.NoUpmany.{IsPlain, IsNoUpmany};
 ghost use Rattle.hp_model.specs.Keys.{AreKeysInForce, AreKeysAtRest};
 ghost use Rattle.hp_model.specs.Events.{seat_of, is_call, answered, BelongsTo};
-ghost use Rattle.hp_model.specs.Admissions.{admissions};
-ghost use Rattle.hp_model.specs.RunByRounds.{CanTakeAfter, all_answered, IsRunByRounds};
 ghost use Rattle.hp_model.specs.Scripts.{IsScript};
 ghost use Rattle.hp_model.specs.ScriptTurns.{unanswered, turn, after_turns};
 ghost use Rattle.hp_model.specs.ScriptRun.{start, is_over, after_round, IsRun};
@@ -71,8 +67,6 @@ ghost use Rattle.hp_model.specs.Draws.{draws};
 ghost use Rattle.hp_model.specs.TurnMakes.{TurnMakes};
 ghost use Rattle.hp_model.specs.WithoutEvent.{answered_without_event};
 ghost use Rattle.hp_model.specs.Distance.{distance};
-ghost use Rattle.hp_model.specs.OneClient.{OneClient};
-ghost use Rattle.hp_model.specs.Steps.{IsStep};
 ghost use Rattle.hp_model.specs.Seats.{admits};
 
 mod lists;
@@ -306,37 +300,6 @@ pub fn some_seat_can_move(head: &Head, events: &[Event])
         ArePending head.now events.now pending → CanMove head.now events.now pending }
 {}
 
-/// A run of a script's actors by rounds is a lawful journal, where its head is one that a machine can be
-/// started with and there are seats for all.
-pub fn run_lawful(head: &Head, events: &[Event])
-    ensures { (actors : List (List AnOp)) → IsHead head.now →
-        length (present head.now) + length actors ≤ MAX_SEATS →
-        IsRunByRounds head.now actors events.now → IsLawful head.now events.now }
-{}
-
-/// With one actor, after a lawful journal in which no seat but the actor's is in as a client and no
-/// upmany is in flight, at most one event can be taken next, whatever seats' turns it is.
-pub fn one_actor_next(head: &Head, ops: &[Op], before: &[Event], one: &Event, other: &Event)
-    ensures { (seat another : ℕ) → IsLawful head.now before.now →
-        held_by is_upmany (operation before.now) ≡ false →
-        OneClient (length (present head.now)) before.now →
-        CanTakeAfter head.now (ops.now ∷ []) before.now seat one.now →
-        CanTakeAfter head.now (ops.now ∷ []) before.now another other.now →
-        one.now ≡ other.now }
-{}
-
-/// Steps make a run by rounds. Where each event after the admissions is the only one that any seat could take
-/// then, all operations are answered at the end and no earlier, and no seat can take an event
-/// after it, the journal is one that turns make by rounds.
-pub fn steps_make_run(head: &Head, rest: &[Event])
-    ensures { (actors : List (List AnOp)) →
-        EachAfter (IsStep head.now actors) (admissions head.now actors) rest.now →
-        all_answered head.now actors (admissions head.now actors ++ rest.now) ≡ true →
-        ((seat : ℕ) (event : AnEvent) →
-        CanTakeAfter head.now actors (admissions head.now actors ++ rest.now) seat event → ⊥) →
-        IsRunByRounds head.now actors (admissions head.now actors ++ rest.now) }
-{}
-
 /// A script has one run for its schedule.
 pub fn one_run(head: &Head, one: &[Event], other: &[Event])
     ensures { (actors : List (List AnOp)) (schedule : List ℕ) →
@@ -346,7 +309,7 @@ pub fn one_run(head: &Head, one: &[Event], other: &[Event])
 
 /// The run of a script by a schedule is a lawful journal, where its head is one that a machine can be
 /// started with and there are seats for all.
-pub fn script_run_lawful(head: &Head, events: &[Event])
+pub fn run_lawful(head: &Head, events: &[Event])
     ensures { (actors : List (List AnOp)) (schedule : List ℕ) → IsHead head.now →
         length (present head.now) + length actors ≤ MAX_SEATS →
         IsRun head.now actors schedule events.now → IsLawful head.now events.now }
@@ -410,15 +373,6 @@ pub fn over_stays(head: &Head)
         is_over actors (after_turns head.now actors (start head.now actors) seats) ≡ true →
         turn head.now actors (after_turns head.now actors (start head.now actors) seats) seat
         ≡ after_turns head.now actors (start head.now actors) seats }
-{}
-
-/// A journal that turns make by rounds, each taking whatever event stands, is the run of the script
-/// without a schedule, where after no front of it an operation lacks room for its first event.
-pub fn rounds_make_run(head: &Head, events: &[Event])
-    ensures { (actors : List (List AnOp)) → IsScript head.now actors →
-        ((front rest : List AnEvent) (seat : ℕ) (op : AnOp) → events.now ≡ front ++ rest →
-        IsFull head.now front seat op → ⊥) →
-        IsRunByRounds head.now actors events.now → IsRun head.now actors [] events.now }
 {}
 
 /// No event of the next seat stands in a lawful journal, nor of any above it: seats are numbered by how

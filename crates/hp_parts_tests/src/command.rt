@@ -1,4 +1,4 @@
-//! Lists of words, and what they ask for.
+//! Lists of words, and what they ask for by hp_command.
 
 use hp_command::{Command, Options, command_of};
 use std::alloc::Global;
@@ -16,7 +16,8 @@ fn assert_commands(
         for word in *row {
             words.push(String::from_str(alloc, word)?)?;
         }
-        assert!(rt; command_of(alloc, &words)? == *wanted);
+        let command = command_of(alloc, &words)?;
+        assert!(rt; command == *wanted, "{row:?}: {command:?}");
     }
     Ok(())
 }

@@ -1,4 +1,4 @@
-//! What may be read and written, as worked out by hand.
+//! What may be read and written in the files of hp_files, as worked out by hand.
 
 use hp_files::{BadNumber, check_fail, check_target, read_i32, show_number};
 use hp_hook::ScriptHook;
@@ -8,60 +8,60 @@ use std::test::*;
 
 #[test]
 fn numbers_are_read(rt: HostRuntime) -> Result<(), Fail> {
-    let rows: [(&[u8], i32); 14] = [
-        (b"0", 0),
-        (b"5\n", 5),
-        (b"-1", -1),
-        (b"-1\n", -1),
-        (b"-0", 0),
-        (b"007", 7),
-        (b"0000000000", 0),
-        (b"0000000011\n", 11),
-        (b"2147483647", i32::MAX),
-        (b"2147483647\n", i32::MAX),
-        (b"-2147483647", -2147483647),
-        (b"-2147483648", i32::MIN),
-        (b"-2147483648\n", i32::MIN),
-        (b"-0000000200\n", -200),
+    let rows: [(&str, i32); 14] = [
+        ("0", 0),
+        ("5\n", 5),
+        ("-1", -1),
+        ("-1\n", -1),
+        ("-0", 0),
+        ("007", 7),
+        ("0000000000", 0),
+        ("0000000011\n", 11),
+        ("2147483647", i32::MAX),
+        ("2147483647\n", i32::MAX),
+        ("-2147483647", -2147483647),
+        ("-2147483648", i32::MIN),
+        ("-2147483648\n", i32::MIN),
+        ("-0000000200\n", -200),
     ];
-    for &(bytes, number) in rows.iter() {
-        assert!(rt; read_i32(bytes) == Ok(number));
+    for &(text, number) in rows.iter() {
+        assert!(rt; read_i32(text.as_bytes()) == Ok(number), "{text:?}");
     }
     Ok(())
 }
 
 #[test]
 fn other_bytes_say_no_number(rt: HostRuntime) -> Result<(), Fail> {
-    let rows: [&[u8]; 26] = [
-        b"",
-        b"\n",
-        b"-",
-        b"-\n",
-        b"--1",
-        b"1-",
-        b"+5",
-        b" 5",
-        b"5 ",
-        b"5\n\n",
-        b"\n5",
-        b"5\n5",
-        b"5\r\n",
-        b"5\0",
-        b"0x5",
-        b"5a",
-        b"-\n5",
-        b"2147483648",
-        b"-2147483649",
-        b"4294967295",
-        b"9999999999",
-        b"-9999999999\n",
-        b"00000000000",
-        b"00000000005",
-        b"21474836470",
-        b"-21474836480\n",
+    let rows: [&str; 26] = [
+        "",
+        "\n",
+        "-",
+        "-\n",
+        "--1",
+        "1-",
+        "+5",
+        " 5",
+        "5 ",
+        "5\n\n",
+        "\n5",
+        "5\n5",
+        "5\r\n",
+        "5\0",
+        "0x5",
+        "5a",
+        "-\n5",
+        "2147483648",
+        "-2147483649",
+        "4294967295",
+        "9999999999",
+        "-9999999999\n",
+        "00000000000",
+        "00000000005",
+        "21474836470",
+        "-21474836480\n",
     ];
-    for &bytes in rows.iter() {
-        assert!(rt; read_i32(bytes) == Err(BadNumber));
+    for &text in rows.iter() {
+        assert!(rt; read_i32(text.as_bytes()) == Err(BadNumber), "{text:?}");
     }
     Ok(())
 }
@@ -79,8 +79,8 @@ fn numbers_are_shown(rt: HostRuntime) -> Result<(), Fail> {
     for &(number, bytes) in rows.iter() {
         let mut buf = [b'.'; 12];
         let count = show_number(number, &mut buf);
-        assert!(rt; buf.as_slice() == &bytes[..12]);
-        assert!(rt; read_i32(&buf[..count]) == Ok(number));
+        assert!(rt; buf.as_slice() == &bytes[..12], "{number}");
+        assert!(rt; read_i32(&buf[..count]) == Ok(number), "{number}");
     }
     Ok(())
 }
@@ -114,7 +114,10 @@ fn table_of(alloc: Global) -> Result<Table<ScriptHook>, Fail> {
 fn targets(rt: HostRuntime) -> Result<(), Fail> {
     let table = table_of(rt.alloc())?;
     for state in [0, 10, 20, 120, 130, 150, 199, 200] {
-        assert!(rt; check_target(&table, state as i32) == Ok(state));
+        assert!(rt;
+            check_target(&table, state as i32) == Ok(state),
+            "at {state}"
+        );
     }
     let refused = [
         i32::MIN,
@@ -133,7 +136,7 @@ fn targets(rt: HostRuntime) -> Result<(), Fail> {
         i32::MAX,
     ];
     for &value in refused.iter() {
-        assert!(rt; check_target(&table, value) == Err(22));
+        assert!(rt; check_target(&table, value) == Err(22), "at {value}");
     }
     Ok(())
 }
@@ -153,7 +156,10 @@ fn armed_states(rt: HostRuntime) -> Result<(), Fail> {
         (150, 150),
     ];
     for &(value, shown) in rows.iter() {
-        assert!(rt; check_fail(&table, value, shown) == Ok(value));
+        assert!(rt;
+            check_fail(&table, value, shown) == Ok(value),
+            "{value} at {shown}"
+        );
     }
     let refused = [
         (i32::MIN, 0),
@@ -174,7 +180,10 @@ fn armed_states(rt: HostRuntime) -> Result<(), Fail> {
         (i32::MAX, 0),
     ];
     for &(value, shown) in refused.iter() {
-        assert!(rt; check_fail(&table, value, shown) == Err(22));
+        assert!(rt;
+            check_fail(&table, value, shown) == Err(22),
+            "{value} at {shown}"
+        );
     }
     Ok(())
 }

@@ -1,9 +1,10 @@
-//! What no clause says: that memory suffices where it is ample, and that the file comes out as
+//! What no clause says of hp_files: that memory suffices where it is ample, and that the file of states comes out as
 //! written by hand.
 
 use hp_event::{Head, Name, Numbers, Sub, Subs};
 use hp_files::show_states;
 use hp_hook::ScriptHook;
+use hp_samples::first_difference;
 use hp_states::HookPlan;
 use hp_table::{Record, Table};
 use std::alloc::Global;
@@ -47,6 +48,7 @@ fn text_of(alloc: Global, names: &[&[u8]], states: &[(u32, u32)]) -> Result<Vec<
     Ok(show_states(alloc, &head, &table)?)
 }
 
+/// Compares the file with a text, and says the first line that is another.
 fn check(
     rt: &impl Abort,
     alloc: Global,
@@ -54,22 +56,45 @@ fn check(
     states: &[(u32, u32)],
     wanted: &[u8],
 ) -> Result<(), Fail> {
-    assert!(rt; text_of(alloc, names, states)?.as_slice() == wanted);
+    let text = text_of(alloc, names, states)?;
+    if let Some(line) = first_difference(text.as_slice(), wanted) {
+        panic!(rt; "line {line}");
+    }
     Ok(())
 }
 
 #[test]
 fn the_built_in_states_alone(rt: HostRuntime) -> Result<(), Fail> {
-    let wanted =
-        b"  0: offline\n 62: cpu:bringup\n 63: idle:dead\n 64: ap:offline\n100: ap:online\n101: cpu:teardown\n102: online:idle\n199: sched:active\n200: online\n";
+    let wanted = b"  0: offline
+ 62: cpu:bringup
+ 63: idle:dead
+ 64: ap:offline
+100: ap:online
+101: cpu:teardown
+102: online:idle
+199: sched:active
+200: online
+";
     check(&rt, rt.alloc(), &[], &[], wanted)
 }
 
 #[test]
 fn registered_states_are_named_too(rt: HostRuntime) -> Result<(), Fail> {
     let names: [&[u8]; 4] = [b"net:a", b"net:b", b"x", b"y"];
-    let wanted =
-        b"  0: offline\n  7: x\n 41: y\n 62: cpu:bringup\n 63: idle:dead\n 64: ap:offline\n100: ap:online\n101: cpu:teardown\n102: online:idle\n120: net:a\n150: net:b\n199: sched:active\n200: online\n";
+    let wanted = b"  0: offline
+  7: x
+ 41: y
+ 62: cpu:bringup
+ 63: idle:dead
+ 64: ap:offline
+100: ap:online
+101: cpu:teardown
+102: online:idle
+120: net:a
+150: net:b
+199: sched:active
+200: online
+";
     check(
         &rt,
         rt.alloc(),
@@ -82,8 +107,17 @@ fn registered_states_are_named_too(rt: HostRuntime) -> Result<(), Fail> {
 /// A record whose subsystem's number is none of the head's has no line.
 #[test]
 fn a_number_past_the_heads_has_no_name(rt: HostRuntime) -> Result<(), Fail> {
-    let wanted =
-        b"  0: offline\n 62: cpu:bringup\n 63: idle:dead\n 64: ap:offline\n100: ap:online\n101: cpu:teardown\n102: online:idle\n120: net:a\n199: sched:active\n200: online\n";
+    let wanted = b"  0: offline
+ 62: cpu:bringup
+ 63: idle:dead
+ 64: ap:offline
+100: ap:online
+101: cpu:teardown
+102: online:idle
+120: net:a
+199: sched:active
+200: online
+";
     check(
         &rt,
         rt.alloc(),

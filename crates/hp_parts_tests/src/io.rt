@@ -1,4 +1,4 @@
-//! What no clause says: how sources and sinks fail in mid-stream, and that the system's own take and give bytes.
+//! What no clause says of hp_io: how sources and sinks fail in mid-stream, and that the system's own take and give bytes.
 
 use hp_io::{
     Failed, MemSink, MemSource, ReadError, RealSink, RealSource, Sink, Source, read_up_to,

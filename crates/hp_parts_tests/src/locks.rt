@@ -1,4 +1,4 @@
-//! What no clause says: that memory suffices where it is ample, and who waits for whom where several
+//! What no clause says of hp_locks: that memory suffices where it is ample, and who waits for whom where several
 //! seats come together, as worked out by hand from the table of waits.
 
 use hp_locks::{Locks, Why};

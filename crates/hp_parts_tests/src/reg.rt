@@ -1,4 +1,4 @@
-//! What no clause says: that registrations come out as written by hand, at a table of real records.
+//! What no clause says of hp_reg: that registrations come out as written by hand, at a table of real records.
 
 ghost use Rattle.std.specs.Prelude.{◌≡◌, true};
 ghost use Rattle.hp_model.specs.Events.{is_registration_op};
@@ -51,7 +51,7 @@ fn check(
 ) -> Result<(), Fail> {
     let table = table(alloc)?;
     assert!(rt; scene.settled.len() <= MAX_CPUS as usize);
-    for (cpu, dir, place, how) in wanted {
+    for (i, (cpu, dir, place, how)) in wanted.iter().enumerate() {
         let step = reg.next(&table, scene.settled, scene.absent);
         let call = RegStep::Call {
             cpu: *cpu,
@@ -59,12 +59,12 @@ fn check(
             dir: *dir,
             place: *place,
         };
-        assert!(rt; step == call);
-        assert!(rt; *cpu < MAX_CPUS);
+        assert!(rt; step == call, "entry {i}");
+        assert!(rt; *cpu < MAX_CPUS, "entry {i}");
         reg.took(*cpu, *how);
     }
     let step = reg.next(&table, scene.settled, scene.absent);
-    assert!(rt; step == RegStep::Ended(answer));
+    assert!(rt; step == RegStep::Ended(answer), "the end");
     Ok(())
 }
 
@@ -167,8 +167,8 @@ fn an_overruled_undo_keeps_the_first_code(rt: HostRuntime) -> Result<(), Fail> {
     )
 }
 
-#[test]
-fn an_instance_is_added_and_taken_out(rt: HostRuntime) -> Result<(), Fail> {
+/// An add that a fault undoes.
+fn a_faulty_instance_is_undone(rt: &impl Abort, alloc: Global) -> Result<(), Fail> {
     let add = Op::Add {
         state: 30,
         inst: 9,
@@ -184,13 +184,18 @@ fn an_instance_is_added_and_taken_out(rt: HostRuntime) -> Result<(), Fail> {
         undo(3, How::Empty),
     ];
     check(
-        &rt,
-        rt.alloc(),
+        rt,
+        alloc,
         Reg::begin(add, 30),
         &scene_at(30, 9),
         &wanted,
         Answer::Fault(6),
-    )?;
+    )
+}
+
+#[test]
+fn an_instance_is_added_and_taken_out(rt: HostRuntime) -> Result<(), Fail> {
+    a_faulty_instance_is_undone(&rt, rt.alloc())?;
     let del = Op::Del {
         state: 30,
         inst: 7,

@@ -1,63 +1,33 @@
-//! What no clause says: that the tables come out as written by hand, and plans as they are filled.
+//! What no clause says of hp_states: that the tables come out as written by hand, and plans as they are filled.
 
+use hp_states::Section::{self, Online, Prepare, Starting};
 use hp_states::{
-    CpuSet, Dir, HookPlan, Place, Range, Rule, Section, builtin_name, can_stop, first_state, is_ap,
+    CpuSet, Dir, HookPlan, Place, Range, Rule, builtin_name, can_stop, first_state, is_ap,
     is_atomic, is_builtin, is_name, is_name_byte, may_fail, section_of,
 };
 
+/// A state, its section, its name if it is built in, whether a processor's own thread makes its entries, whether they
+/// must not fail, and whether a walk may stop there.
+type Row = (u32, Section, Option<&'static str>, bool, bool, bool);
+
+const STATES: [Row; 12] = [
+    (0, Prepare, Some("offline"), false, false, true),
+    (61, Prepare, None, false, false, true),
+    (62, Prepare, Some("cpu:bringup"), false, false, false),
+    (63, Starting, Some("idle:dead"), true, true, false),
+    (64, Starting, Some("ap:offline"), true, true, false),
+    (99, Starting, None, true, true, false),
+    (100, Starting, Some("ap:online"), true, false, false),
+    (101, Online, Some("cpu:teardown"), false, false, false),
+    (102, Online, Some("online:idle"), true, false, false),
+    (103, Online, None, true, false, true),
+    (199, Online, Some("sched:active"), true, false, true),
+    (200, Online, Some("online"), true, false, true),
+];
+
 #[test]
 fn states_lie_in_their_sections(rt: HostRuntime) {
-    for &(state, section, name, ap, atomic, stop) in [
-        (0, Section::Prepare, Some("offline"), false, false, true),
-        (61, Section::Prepare, None, false, false, true),
-        (
-            62,
-            Section::Prepare,
-            Some("cpu:bringup"),
-            false,
-            false,
-            false,
-        ),
-        (63, Section::Starting, Some("idle:dead"), true, true, false),
-        (64, Section::Starting, Some("ap:offline"), true, true, false),
-        (99, Section::Starting, None, true, true, false),
-        (
-            100,
-            Section::Starting,
-            Some("ap:online"),
-            true,
-            false,
-            false,
-        ),
-        (
-            101,
-            Section::Online,
-            Some("cpu:teardown"),
-            false,
-            false,
-            false,
-        ),
-        (
-            102,
-            Section::Online,
-            Some("online:idle"),
-            true,
-            false,
-            false,
-        ),
-        (103, Section::Online, None, true, false, true),
-        (
-            199,
-            Section::Online,
-            Some("sched:active"),
-            true,
-            false,
-            true,
-        ),
-        (200, Section::Online, Some("online"), true, false, true),
-    ]
-    .iter()
-    {
+    for &(state, section, name, ap, atomic, stop) in STATES.iter() {
         assert!(rt; section_of(state) == section, "at {state}");
         assert!(rt; builtin_name(state) == name, "at {state}");
         assert!(rt; is_ap(state) == ap, "at {state}");
@@ -65,7 +35,7 @@ fn states_lie_in_their_sections(rt: HostRuntime) {
         assert!(rt; can_stop(state) == stop, "at {state}");
         assert!(rt; is_builtin(state) == name.is_some(), "at {state}");
     }
-    assert!(rt; section_of(201) == Section::Online);
+    assert!(rt; section_of(201) == Online);
     assert!(rt; builtin_name(u32::MAX) == None);
 }
 
@@ -91,15 +61,18 @@ fn processors_begin_and_cross_states(rt: HostRuntime) {
     assert!(rt; (first_state(0), first_state(1), first_state(63)) == (200, 0, 0));
     assert!(rt; (Dir::between(0, 1), Dir::between(1, 0)) == (Dir::Up, Dir::Down));
     for &(dir, before, after) in [(Dir::Up, 109, 110), (Dir::Down, 110, 109)].iter() {
-        assert!(rt; (dir.state_before(110), dir.state_after(110)) == (before, after));
-        assert!(rt; dir.opposite().state_before(110) == after);
+        assert!(rt;
+            (dir.state_before(110), dir.state_after(110)) == (before, after),
+            "{dir:?}"
+        );
+        assert!(rt; dir.opposite().state_before(110) == after, "{dir:?}");
     }
 }
 
 #[test]
 fn names_have_their_form(rt: HostRuntime) {
     let long = [b'a'; 33];
-    for &(name, wanted) in [
+    for (row, &(name, wanted)) in [
         (b"net:queue/0_a.B-9".as_slice(), true),
         (b"".as_slice(), true),
         (b"-".as_slice(), false),
@@ -109,16 +82,17 @@ fn names_have_their_form(rt: HostRuntime) {
         (&long[..], false),
     ]
     .iter()
+    .enumerate()
     {
-        assert!(rt; is_name(name) == wanted);
+        assert!(rt; is_name(name) == wanted, "name {row}");
     }
     for byte in [
         b'a', b'z', b'A', b'Z', b'0', b'9', b':', b'_', b'/', b'.', b'-',
     ] {
-        assert!(rt; is_name_byte(byte));
+        assert!(rt; is_name_byte(byte), "byte {byte}");
     }
     for byte in [b' ', b'@', b'[', b'`', b'{', b',', b';', b'*', 0, 127, 255] {
-        assert!(rt; !is_name_byte(byte));
+        assert!(rt; !is_name_byte(byte), "byte {byte}");
     }
 }
 
@@ -180,7 +154,7 @@ fn a_ninth_rule_is_not_added(rt: HostRuntime) {
     };
     for code in 1..9 {
         rule.code = code;
-        assert!(rt; plan.add(rule));
+        assert!(rt; plan.add(rule), "rule {code}");
     }
     let before = plan;
     rule.code = 9;
@@ -188,7 +162,7 @@ fn a_ninth_rule_is_not_added(rt: HostRuntime) {
     assert!(rt; plan == before);
     assert!(rt; plan.rules().len() == 8);
     for (i, kept) in plan.rules().iter().enumerate() {
-        assert!(rt; kept.code as usize == i + 1);
+        assert!(rt; kept.code as usize == i + 1, "rule {i}");
     }
 }
 

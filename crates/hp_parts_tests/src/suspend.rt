@@ -1,4 +1,4 @@
-//! What no clause says: the walks and the ends of some freezes, thaws, boots and upmanys, as worked out by
+//! What no clause says of hp_suspend: the walks and the ends of some freezes, thaws, boots and upmanys, as worked out by
 //! hand from the rules, with lists that change as the answers say.
 
 use hp_event::Answer;

@@ -1,4 +1,4 @@
-//! What no clause says: that walks come out as written by hand, entry by entry, with what the files
+//! What no clause says of hp_walk: that walks come out as written by hand, entry by entry, with what the files
 //! show at each.
 
 ghost use Rattle.std.specs.Prelude.{◌≡◌, ◌≢◌, ◌≤◌};

@@ -15,7 +15,7 @@ use Rattle.hp_model.proofs.OneWalkProof.{one_walk_of_front}
 use Rattle.hp_model.proofs.KeyLaw.{keys_at_rest}
 use Rattle.hp_model.proofs.OneNext.{owners}
 use Rattle.hp_model.proofs.Owners.{none_some}
-use Rattle.hp_model.proofs.ScriptRuns.{script_run_lawful}
+use Rattle.hp_model.proofs.ScriptRuns.{run_lawful}
 use Rattle.hp_script.specs.Schedules.{schedule_written}
 use Rattle.hp_script.specs.Script.{Contents}
 use Rattle.hp_play.specs.Played.{IsJournalOf}
@@ -48,6 +48,6 @@ journal_of script events plays run free quiet = record {
   where
     lawful : IsLawful script.head events
     lawful =
-        script_run_lawful script.head script.actors
+        run_lawful script.head script.actors
         (first_turns (length (present script.head) + length script.actors) (schedule_written script.schedule)) events
         plays.head_is plays.few_seats run

@@ -1,6 +1,11 @@
 -- What is so of the journal of a script that was played, and of the rack after it. This project's own.
-use Rattle.std.specs.Prelude.{◌≡◌, ℕ, min, None, List, ◌++◌, length}
+use Rattle.std.specs.Prelude.{◌≡◌, ℕ, min, true, None, Option, List, ◌++◌, length, map}
+use Rattle.std.specs.List.{sum_by}
+use Rattle.hp_actors.specs.Hooks.{AreFromRack, IsLater, OneForEachSetup, hooks_there}
+use Rattle.hp_actors.specs.Positions.{Position}
+use Rattle.hp_actors.specs.Racks.{Takes}
 use Rattle.hp_event.specs.declared.event.Event.{Event}
+use Rattle.hp_hook.specs.Counted.{Counts}
 use Rattle.hp_model.specs.Lawful.{IsLawful}
 use Rattle.hp_model.specs.Headline.{Headline}
 use Rattle.hp_model.specs.Completes.{Completes}
@@ -10,7 +15,9 @@ use Rattle.hp_model.specs.Net.{keys_in_force}
 use Rattle.hp_model.specs.Keys.{AreKeysAtRest}
 use Rattle.hp_model.specs.Registrations.{registration}
 use Rattle.hp_model.specs.Schedule.{IsRunBy}
+use Rattle.hp_model.specs.ScriptRun.{start, is_over}
 use Rattle.hp_script.specs.Judged.{IsRead}
+use Rattle.hp_script.specs.Playable.{setups_in}
 use Rattle.hp_script.specs.Schedules.{schedule_written}
 use Rattle.hp_script.specs.Script.{Contents}
 use Rattle.hp_play.specs.declared.output.Output.{Output}
@@ -29,6 +36,21 @@ pub record IsJournalOf (script : Contents) (events : List Event) : Type 0 where
   pub no_operation : operation events ≡ None
   pub no_registration : registration events ≡ None
   pub keys : (cpu : ℕ) → AreKeysAtRest script.head cpu events (keys_in_force cpu events)
+
+-- A script's run at its end, with the rack before the run and now: its journal is the script's, every operation is answered, and each
+-- setup took a hook, in turn the last of the rack. Turns of the run's seats made of these the hooks that operations have at the end.
+pub record IsRunOf {H : Type 0} (script : Contents) (rack : Racks H) (run : Position) : Type 0 where
+  pub head_is : run.head ≡ script.head
+  pub actors_are : run.actors ≡ script.actors
+  pub journal : IsJournalOf script run.progress.events
+  pub over : is_over run.actors run.progress ≡ true
+  pub takes : Takes rack.old rack.new (sum_by setups_in script.actors)
+  pub first : List (List (Option Counts))
+  pub one_for_each : OneForEachSetup script.actors first
+  pub in_turn : AreFromRack (map rack.seen rack.old) (map rack.seen rack.new) (hooks_there first)
+  pub made :
+      IsLater
+      (record { head = script.head; actors = script.actors; progress = start script.head script.actors; hooks = first }) run
 
 -- What is written of a script, and the rack then: there is one journal of it, of which the output is written, and by which the rack is.
 pub record WasPlayed {H : Type 0} (of : Output) (script : Contents) (rack : Racks H) (written : List ℕ) : Type 0 where

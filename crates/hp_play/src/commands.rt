@@ -7,7 +7,7 @@ ghost use Rattle.hp_play.specs.Racks.{racks};
 ghost use Rattle.hp_play.specs.Stops.{HasRanges, Stops, StopsScript, StopsJournal, Refuses};
 
 use crate::output::Output;
-use crate::play::play;
+use crate::play::text_played;
 use crate::stop::Stop;
 use hp_command::Command;
 use hp_edge::{journal_error_line, read_input, script_error_line};
@@ -85,7 +85,7 @@ fn text_of_script<H: Hook>(
 {
     let hooks = rack.hooks.len().min(u32::MAX as usize) as u32;
     match parse(alloc, bytes, hooks) {
-        Ok(script) => Ok(play(alloc, of, &script, rack)?),
+        Ok(script) => Ok(text_played(alloc, of, &script, rack)?),
         Err(ParseError::NoMemory) => Err(Stop::NoMemory),
         Err(error) => Err(Stop::BadScript(script_error_line(alloc, error)?)),
     }

@@ -5,6 +5,7 @@
 //! after it. `replay` reads a printed journal, checks it (`hp_replay`), and writes its summary. `gen` writes a
 //! generated script, and `bench` plays one and writes the summary alone.
 //!
+//! `play` (of `play.rt`) plays a script to its journal, and answers the run; its text is made apart from that.
 //! What is written of a run, `specs/Outputs.antt` says; what is so of its journal, `specs/Played.antt`, and of
 //! the rack, `specs/Racks.antt`; what each status means, `specs/Main.antt`.
 #![tactic(auto)]

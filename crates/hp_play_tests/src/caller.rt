@@ -6,16 +6,19 @@ use hp_edge::NO_MEMORY;
 use hp_hook::{Hook, Rack, ScriptHook};
 use hp_io::{MemSink, MemSource};
 use hp_play::hp_main;
+use hp_samples::{Sample, first_difference};
 use std::alloc::{AllocError, Global};
 use std::process::Abort;
 use std::test::*;
 
-/// The words, what is read, and what is to come of it.
+/// A name for it, the words, what is read, and what is to come of it.
+#[derive(Clone, Copy)]
 pub struct Row {
+    pub name: &'static str,
     pub words: &'static [&'static str],
-    pub input: &'static [u8],
+    pub input: &'static str,
     pub status: u8,
-    pub output: &'static [u8],
+    pub output: &'static str,
 }
 
 /// A rack of so many hooks of scripts.
@@ -95,12 +98,41 @@ pub fn run_alone(
     run(rt, alloc, words, input, &mut rack)
 }
 
+/// Asserts that a text is the wanted one, and says the row and the first line that is another.
+pub fn assert_text(rt: &impl Abort, name: &str, found: &[u8], wanted: &[u8]) {
+    if let Some(line) = first_difference(found, wanted) {
+        panic!(rt; "row {name}, line {line}");
+    }
+}
+
 /// Runs each row, and compares its status and what is written.
 pub fn check(rt: &impl Abort, alloc: Global, rows: &[Row]) -> Result<(), Fail> {
     for row in rows {
-        let (status, written) = run_alone(rt, alloc, row.words, row.input)?;
-        assert!(rt; status == row.status);
-        assert!(rt; written.as_slice() == row.output);
+        let name = row.name;
+        let (status, written) = run_alone(rt, alloc, row.words, row.input.as_bytes())?;
+        assert!(rt; status == row.status, "row {name}: status {status}");
+        assert_text(rt, name, &written, row.output.as_bytes());
     }
     Ok(())
+}
+
+/// Plays the script of each sample, and compares what is written with its journal and its summary.
+pub fn check_played(rt: &impl Abort, alloc: Global, samples: &[Sample]) -> Result<(), Fail> {
+    for sample in samples {
+        let name = sample.name;
+        let (status, written) = run_alone(rt, alloc, &["play"], sample.script.as_bytes())?;
+        assert!(rt; status == 0, "row {name}: status {status}");
+        let wanted = joined(alloc, &[sample.journal, sample.summary])?;
+        assert_text(rt, name, &written, &wanted);
+    }
+    Ok(())
+}
+
+/// Texts, one behind the other.
+pub fn joined(alloc: Global, parts: &[&str]) -> Result<Vec<u8>, AllocError> {
+    let mut text = Vec::new(alloc);
+    for part in parts {
+        text.extend_from_slice(part.as_bytes())?;
+    }
+    Ok(text)
 }

@@ -1,6 +1,7 @@
 //! The tests of hp_play: whole outputs of `hp_main` against texts that don't come from it, by status, and
 //! what is left where a read or a write fails. By them the crates below are tested together, from the
 //! bytes of a script to those of its journal; and in `full`, on a board alone, a journal that is full.
+//! Scripts and journals that other crates of tests use too are samples of hp_samples.
 //!
 //! They use hp_play as any crate does. They stand apart from it because a crate with tests is proved
 //! twice, once with them and once without.
@@ -15,16 +16,12 @@ mod full;
 #[cfg(test)]
 mod generated;
 #[cfg(test)]
+mod played;
+#[cfg(test)]
 mod program;
 #[cfg(test)]
 mod refused;
 #[cfg(test)]
-mod registrations;
-#[cfg(test)]
 mod replays;
 #[cfg(test)]
 mod schedules;
-#[cfg(test)]
-mod suspending;
-#[cfg(test)]
-mod walks;

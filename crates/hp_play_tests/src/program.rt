@@ -2,95 +2,34 @@
 
 ghost use Rattle.std.specs.Prelude.{◌<◌};
 
-use crate::caller::{ample_sink, run, run_with, some_hooks, source_of};
-use hp_hook::{Hook, Rack, ScriptHook};
+use crate::caller::{ample_sink, assert_text, joined, run, run_with, some_hooks, source_of};
+use hp_hook::{Hook, Rack};
 use hp_io::{MemSink, MemSource};
-use hp_states::{Dir, HookPlan, MAX_SCRIPT_BYTES};
-use std::alloc::Global;
+use hp_samples::{Marked, TWO_STARTUPS};
+use hp_states::MAX_SCRIPT_BYTES;
+use std::alloc::{AllocError, Global};
 use std::process::Abort;
 use std::sync::Arc;
 use std::sync::atomic::{AtomicU64, Ordering};
 use std::test::*;
 
-const SCRIPT: &[u8] = b"\
-    cpus 2\n\
-    sub net:a both single\n\
-    sub net:b both single\n\
-    actor a\n\
-    setup 120 1\n\
-    setup 150 2\n\
-    up 1\n";
-
-const PLAYED: &[u8] = b"\
-    cpuhp journal 1\n\
-    cpus 2\n\
-    absent -\n\
-    sub net:a both single\n\
-    sub net:b both single\n\
-    events\n\
-    admit 0 ap 0\n\
-    admit 1 ap 1\n\
-    admit 2 client\n\
-    reg 2 120 setup 120 1\n\
-    call 0 0 120 0 up ok\n\
-    regged 2 ok 0\n\
-    reg 2 150 setup 150 2\n\
-    call 0 0 150 0 up ok\n\
-    regged 2 ok 0\n\
-    enter 2 up 1\n\
-    walk 2 1 0 200\n\
-    call 1 1 120 0 up ok\n\
-    call 1 1 150 0 up ok\n\
-    walked 2 1 ok\n\
-    done 2 ok 0\n\
-    end 15\n\
-    cpu 0 present state 200 keys 120.0 150.0\n\
-    cpu 1 present state 200 keys 120.0 150.0\n\
-    disabled 0\n\
-    frozen -\n\
-    sub 120 net:a made 2 faults 0 instances -\n\
-    sub 150 net:b made 2 faults 0 instances -\n\
-    ops ok 3 refused 0 fault 0 stuck 0 full 0\n\
-    events 15\n";
-
-/// A hook of the test's own: it answers as a script's hook does, and counts its calls where the test
-/// sees them too.
-#[derive(Drop)]
-struct SharedHook {
-    inner: ScriptHook,
-    calls: Arc<AtomicU64, Global>,
-}
-
-impl Hook for SharedHook {
-    ghost counts = { λ h. h.inner };
-
-    fn load(&mut self, rules: HookPlan) {
-        self.inner.load(rules)
-    }
-
-    fn call(&mut self, cpu: u32, inst: u32, dir: Dir) -> u32 {
-        self.calls.fetch_add(1, Ordering::SeqCst);
-        self.inner.call(cpu, inst, dir)
-    }
-
-    fn made(&self) -> u64 {
-        self.inner.made()
-    }
-
-    fn faults(&self) -> u64 {
-        self.inner.faults()
-    }
+/// What is written when the script of two startups is played.
+fn written_of_two_startups(alloc: Global) -> Result<Vec<u8>, AllocError> {
+    joined(alloc, &[TWO_STARTUPS.journal, TWO_STARTUPS.summary])
 }
 
 #[test]
 fn a_script_is_played(rt: HostRuntime) -> Result<(), Fail> {
     let alloc = rt.alloc();
     let mut rack = some_hooks(alloc, 4)?;
-    let (status, written) = run(&rt, alloc, &["play"], SCRIPT, &mut rack)?;
-    assert!(rt; (status, written.as_slice()) == (0, PLAYED));
+    let script = TWO_STARTUPS.script.as_bytes();
+    let (status, written) = run(&rt, alloc, &["play"], script, &mut rack)?;
+    assert!(rt; status == 0);
+    let wanted = written_of_two_startups(alloc)?;
+    assert_text(&rt, TWO_STARTUPS.name, &written, &wanted);
     assert!(rt; rack.hooks.len() == 4);
-    for (hook, made) in rack.hooks.iter().zip([0, 0, 2, 2]) {
-        assert!(rt; (hook.made(), hook.faults()) == (made, 0));
+    for (place, (hook, made)) in rack.hooks.iter().zip([0, 0, 2, 2]).enumerate() {
+        assert!(rt; (hook.made(), hook.faults()) == (made, 0), "hook {place}");
     }
     Ok(())
 }
@@ -100,13 +39,13 @@ fn hooks_of_the_caller_are_called(rt: HostRuntime) -> Result<(), Fail> {
     let alloc = rt.alloc();
     let calls = Arc::new(alloc, AtomicU64::new(0))?;
     let mut hooks: Vec<Box<dyn Hook + Send>> = Vec::new(alloc);
-    for _ in 0..2 {
-        let calls = Arc::try_clone(&calls)?;
-        let inner = ScriptHook::new();
-        hooks.push(Box::new(alloc, SharedHook { inner, calls })?)?;
+    for mark in 0..2u32 {
+        let hook = Marked::counted(mark, Arc::try_clone(&calls)?);
+        hooks.push(Box::new(alloc, hook)?)?;
     }
     let mut rack = Rack { hooks };
-    let (status, _) = run(&rt, alloc, &["play"], SCRIPT, &mut rack)?;
+    let script = TWO_STARTUPS.script.as_bytes();
+    let (status, _) = run(&rt, alloc, &["play"], script, &mut rack)?;
     assert!(rt; status == 0);
     assert!(rt; rack.hooks.len() == 2);
     assert!(rt; calls.load(Ordering::SeqCst) == 4);
@@ -133,7 +72,7 @@ fn play_with_failing_read(
     alloc: Global,
     call: u64,
 ) -> Result<(u8, u64, u64), Fail> {
-    let mut source = source_of(alloc, SCRIPT)?;
+    let mut source = source_of(alloc, TWO_STARTUPS.script.as_bytes())?;
     source.step = 10;
     source.fails.push(call)?;
     let mut sink = ample_sink(alloc)?;
@@ -159,7 +98,7 @@ fn play_with_failing_write(
     alloc: Global,
     call: u64,
 ) -> Result<(u8, u64, Vec<u8>), Fail> {
-    let mut source = source_of(alloc, SCRIPT)?;
+    let mut source = source_of(alloc, TWO_STARTUPS.script.as_bytes())?;
     let mut sink = ample_sink(alloc)?;
     sink.step = 100;
     sink.fails.push(call)?;
@@ -169,12 +108,13 @@ fn play_with_failing_write(
 
 #[test]
 fn each_failing_write_is_told(rt: HostRuntime) -> Result<(), Fail> {
+    let wanted = written_of_two_startups(rt.alloc())?;
     // 579 bytes by hundreds
     for call in 1..7 {
         let (status, faults, written) = play_with_failing_write(&rt, rt.alloc(), call)?;
         assert!(rt; (status, faults) == (4, 1), "write {call}");
-        assert!(rt; PLAYED.starts_with(&written), "write {call}");
-        assert!(rt; written.len() < PLAYED.len(), "write {call}");
+        assert!(rt; wanted.starts_with(&written), "write {call}");
+        assert!(rt; written.len() < wanted.len(), "write {call}");
     }
     Ok(())
 }

@@ -4,47 +4,47 @@ use crate::caller::{Row, check};
 use std::test::*;
 
 const INPUTS: &[Row] = &[
-    // an empty input
     Row {
+        name: "an empty input",
         words: &["play"],
-        input: b"",
+        input: "",
         status: 2,
-        output: b"error: line 1: no cpus\n",
+        output: "error: line 1: no cpus\n",
     },
-    // the last actor is still locked
     Row {
+        name: "the last actor is still locked",
         words: &["play"],
-        input: b"cpus 1\n\nactor a\nlock\n",
+        input: "cpus 1\n\nactor a\nlock\n",
         status: 2,
-        output: b"error: line 5: still locked\n",
+        output: "error: line 5: still locked\n",
     },
-    // a processor too many
     Row {
+        name: "a processor too many",
         words: &["states"],
-        input: b"cpus 65\nactor a\n",
+        input: "cpus 65\nactor a\n",
         status: 2,
-        output: b"error: line 1: bad number\n",
+        output: "error: line 1: bad number\n",
     },
-    // the first line that is wrong, and its first cause
     Row {
+        name: "the first line that is wrong, and its first cause",
         words: &["play"],
-        input: b"cpus 2\nactor a\nflyup 1\nup 1 2\n",
+        input: "cpus 2\nactor a\nflyup 1\nup 1 2\n",
         status: 2,
-        output: b"error: line 3: bad word\n",
+        output: "error: line 3: bad word\n",
     },
-    // a journal without lines
     Row {
+        name: "a journal without lines",
         words: &["replay"],
-        input: b"",
+        input: "",
         status: 6,
-        output: b"error: line 1: missing\n",
+        output: "error: line 1: missing\n",
     },
-    // another version
     Row {
+        name: "another version",
         words: &["replay"],
-        input: b"cpuhp journal 9\n",
+        input: "cpuhp journal 9\n",
         status: 6,
-        output: b"error: line 1: header\n",
+        output: "error: line 1: header\n",
     },
 ];
 
@@ -53,54 +53,64 @@ fn inputs_that_are_refused(rt: HostRuntime) -> Result<(), Fail> {
     check(&rt, rt.alloc(), INPUTS)
 }
 
+const USAGE: &str = "usage: hp play|replay|states|report|gen|bench [--seed N] [--size N]\n";
+
 const WORDS: &[Row] = &[
     Row {
+        name: "an unknown command",
         words: &["fly"],
-        input: b"",
+        input: "",
         status: 1,
-        output: b"usage: hp play|replay|states|report|gen|bench [--seed N] [--size N]\n",
+        output: USAGE,
     },
     Row {
+        name: "an option given twice",
         words: &["gen", "--seed", "0", "--seed", "1"],
-        input: b"",
+        input: "",
         status: 1,
-        output: b"usage: hp play|replay|states|report|gen|bench [--seed N] [--size N]\n",
+        output: USAGE,
     },
     Row {
+        name: "a size of 0",
         words: &["gen", "--size", "0"],
-        input: b"",
+        input: "",
         status: 1,
-        output: b"usage: hp play|replay|states|report|gen|bench [--seed N] [--size N]\n",
+        output: USAGE,
     },
     Row {
+        name: "a size with a leading zero",
         words: &["gen", "--size", "01"],
-        input: b"",
+        input: "",
         status: 1,
-        output: b"usage: hp play|replay|states|report|gen|bench [--seed N] [--size N]\n",
+        output: USAGE,
     },
     Row {
+        name: "the word -- behind bench",
         words: &["bench", "--"],
-        input: b"",
+        input: "",
         status: 1,
-        output: b"usage: hp play|replay|states|report|gen|bench [--seed N] [--size N]\n",
+        output: USAGE,
     },
     Row {
+        name: "a report",
         words: &["report"],
-        input: b"",
+        input: "",
         status: 1,
-        output: b"usage: hp play|replay|states|report|gen|bench [--seed N] [--size N]\n",
+        output: USAGE,
     },
     Row {
+        name: "two commands",
         words: &["play", "play"],
-        input: b"",
+        input: "",
         status: 1,
-        output: b"usage: hp play|replay|states|report|gen|bench [--seed N] [--size N]\n",
+        output: USAGE,
     },
     Row {
+        name: "the word --help",
         words: &["--help"],
-        input: b"",
+        input: "",
         status: 1,
-        output: b"usage: hp play|replay|states|report|gen|bench [--seed N] [--size N]\n",
+        output: USAGE,
     },
 ];
 

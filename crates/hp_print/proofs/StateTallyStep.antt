@@ -2,7 +2,6 @@
 use Rattle.std.proofs.Common.{◌≡◌, ℕ, ◌+◌, ◌<◌, ◌≤◌, ◌^◌, Bool, true, false, ◌&&◌, ◌==◌, if◌then◌else◌, Option, Some, None, List, [], ◌∷◌, ◌++◌, length, get_or, set, refl, ap, ◌∙◌, arith}
 use Rattle.std.proofs.lemmas.List.{length-set, length_push}
 use Rattle.std.proofs.lemmas.Bool.Decides.{nat_tests}
-use Rattle.hp_states.specs.Rules.{Site}
 use Rattle.hp_event.specs.declared.op.Op.{Op}
 use Rattle.hp_event.specs.declared.op.Op.TheVariants.{Setup, Remove, Add, Del}
 use Rattle.hp_event.specs.declared.how.How.{How}
@@ -16,7 +15,7 @@ use Rattle.hp_model.specs.Registrations.{Registration, registration, registratio
 use Rattle.hp_model.specs.Registered.{Registered, registered, registered_step, applied, after_ok, instances}
 use Rattle.hp_model.specs.Calls.{is_called, sites, sites_step}
 use Rattle.hp_model.specs.Summary.{is_hook_fault, hook_faults, faults_step}
-use Rattle.hp_model.proofs.Laws.{over_from_push, registration_push, registered_push, sites_push}
+use Rattle.hp_model.proofs.Laws.{registration_push, registered_push, sites_push, hook_faults_push, sites_few}
 use Rattle.hp_print.specs.declared.state_tally.Asked.{Asked}
 use Rattle.hp_print.specs.declared.state_tally.StateTally.{StateTally}
 use Rattle.hp_print.specs.Counts.{one_more}
@@ -93,32 +92,6 @@ insts_as head s subs insts xs (RegEnd seat (Fault code)) h p q = q
 insts_as head s subs insts xs (RegEnd seat (Stuck first second at)) h p q = q
 insts_as head s subs insts xs (RegEnd seat LogFull) h p q = q
 insts_as head s subs insts xs e h p q = q
-
-faults_push : (s : ℕ) (xs : List Event) (e : Event) → hook_faults s (xs ++ e ∷ []) ≡ faults_step s (hook_faults s xs) xs e
-unfolding hook_faults
-faults_push s xs e = over_from_push (faults_step s) 0 [] xs e
-
-sites_grow : (s : ℕ) (found : List Site) (xs : List Event) (e : Event) → length (sites_step s found xs e) ≤ length found + 1
-sites_grow s found xs (RegBegin seat state (Setup asked sub form)) = grind arith
-sites_grow s found xs (RegBegin seat state op) = omega arith
-sites_grow s found xs (Call seat cpu state inst dir how) =
-    go (state == s && is_called how) where
-      go : (b : Bool) → length (if b then found ++ record { cpu = cpu; inst = inst; dir = dir } ∷ [] else found) ≤ length found + 1
-      go true = rw length_push (omega arith)
-      go false = omega arith
-sites_grow s found xs e = omega arith
-
-sites_from : (s : ℕ) (found : List Site) (before es : List Event) →
-    length (over_from (sites_step s) found before es) ≤ length found + length es
-sites_from s found before [] = omega arith
-sites_from s found before (e ∷ es) =
-    let h = sites_from s (sites_step s found before e) (before ++ e ∷ []) es in
-    let g = sites_grow s found before e in
-    omega arith
-
-sites_few : (s : ℕ) (xs : List Event) → length (sites s xs) ≤ length xs
-unfolding sites
-sites_few s xs = omega (arith, sites_from s [] [] xs)
 
 faults_grow : (s n : ℕ) (xs : List Event) (e : Event) → faults_step s n xs e ≤ n + 1
 faults_grow s n xs (RegBegin seat state (Setup asked sub form)) = grind arith
@@ -231,5 +204,5 @@ states_step head n xs e t u l h a p q r k = record {
   insts_is = λ s b. rw (q, registered_push, h.asked)
       (insts_as head s t.subs.items t.insts.items xs e (rw h.as_many_insts b) (h.sub_is s b) (h.insts_is s b));
   made_is = λ s b. rw (r, sites_push) (made_as s t.made.items xs e (rw h.as_many_made b) l (h.made_is s b));
-  faults_is = λ s b. rw (k, faults_push) (faults_as s t.faults.items xs e (rw h.as_many_faults b) l (h.faults_is s b));
+  faults_is = λ s b. rw (k, hook_faults_push) (faults_as s t.faults.items xs e (rw h.as_many_faults b) l (h.faults_is s b));
 }

@@ -160,7 +160,8 @@ fn append_call(
     append_made(out, dir, how)
 }
 
-/// Appends the direction of an entry, and how it was made. Most ran and were ok, and those go in one piece.
+/// Appends the direction of an entry, and how it was made. Most ran and were ok, and those go in
+/// one piece.
 fn append_made(out: &mut Vec<u8>, dir: Dir, how: How) -> Result<(), AllocError>
     ensures { OnOk result (out.new.items ≡ out.old.items ++ 32 ∷ dir_word dir ++ spaced (how_words how)) }
 {
@@ -300,9 +301,10 @@ pub fn has_line(event: &Event) -> bool
 
 /// The line of an event, as the text of a journal has it.
 ///
-/// The event is one that has a line, as each of a lawful journal has. Takes memory for the line; where
-/// it is wanting the answer is `NoMemory`. The form of the line is this project's own: the kind's word,
-/// the seat, and what else the kind has, one space between two words and a newline at the end.
+/// The event is one that has a line, as each of a lawful journal has. Takes memory for the line;
+/// where it is wanting the answer is `NoMemory`. The form of the line is this project's own: the
+/// kind's word, the seat, and what else the kind has, one space between two words and a newline at
+/// the end.
 pub fn event_line(alloc: Global, event: &Event) -> Result<Vec<u8>, NoMemory>
     requires { has_line_of event.now ≡ true }
     ensures { IfOk result (λ v. v.items ≡ line_of event.now) }

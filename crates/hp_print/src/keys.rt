@@ -57,8 +57,8 @@ fn place_by_halves(counts: &[KeyCount], key: Key) -> usize
     low
 }
 
-/// How many keys of a list that rises are before a key. Keys mostly come for the first time in rising
-/// order, so the end is looked at first.
+/// How many keys of a list that rises are before a key. Keys mostly come for the first time in
+/// rising order, so the end is looked at first.
 fn place_of(counts: &[KeyCount], key: Key) -> usize
     requires { AreInOrder counts.now }
     ensures place { result ≡ place key counts.now }

@@ -332,8 +332,8 @@ fn append_summary(alloc: Global, out: &mut Vec<u8>, journal: &Journal) -> Result
     append_tally(out, journal.head(), &tally, journal.events().len())
 }
 
-/// The summary of a journal: where its processors stand and which callbacks are in force there, what
-/// is registered, and how the operations were answered.
+/// The summary of a journal: where its processors stand and which callbacks are in force there,
+/// what is registered, and how the operations were answered.
 ///
 /// The journal may be in flight: a registration in flight isn't registered, and a walk in flight
 /// leaves the settled state at its start. Takes memory for the text and for a tally of the journal;
@@ -349,8 +349,8 @@ pub fn summary(alloc: Global, journal: &Journal) -> Result<Vec<u8>, NoMemory>
 
 /// The text of a journal, and behind it its summary.
 ///
-/// Takes memory as `journal_text` and `summary` do, but in one buffer; where it is wanting the answer is
-/// `NoMemory`, and the journal is as before.
+/// Takes memory as `journal_text` and `summary` do, but in one buffer; where it is wanting the
+/// answer is `NoMemory`, and the journal is as before.
 pub fn journal_and_summary(alloc: Global, journal: &Journal) -> Result<Vec<u8>, NoMemory>
     ensures { IfOk result (λ v.
         v.items

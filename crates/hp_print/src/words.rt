@@ -16,8 +16,8 @@ fn digit(value: u32) -> u8
     b'0' + value as u8
 }
 
-/// Appends some bytes as they are, one by one: the words of a line are short, and known where they are
-/// written, so that this takes less than to copy them as a slice.
+/// Appends some bytes as they are, one by one: the words of a line are short, and known where they
+/// are written, so that this takes less than to copy them as a slice.
 #[inline(always)]
 pub fn append(out: &mut Vec<u8>, bytes: &[u8]) -> Result<(), AllocError>
     ensures { OnOk result (out.new.items ≡ out.old.items ++ bytes.now) }
@@ -126,7 +126,8 @@ pub fn end_line(out: &mut Vec<u8>) -> Result<(), AllocError>
     append(out, b"\n")
 }
 
-/// Appends a count, behind a space. It stands apart, so that shorter numbers don't pay for its buffer.
+/// Appends a count, behind a space. It stands apart, so that shorter numbers don't pay for its
+/// buffer.
 #[inline(never)]
 pub fn append_count(out: &mut Vec<u8>, count: usize) -> Result<(), AllocError>
     ensures { OnOk result (out.new.items ≡ out.old.items ++ 32 ∷ decimal count) }

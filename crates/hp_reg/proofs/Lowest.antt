@@ -1,29 +1,17 @@
 -- The lowest processor that is left, found by looking at the numbers in turn.
-use Rattle.std.proofs.Common.{◌≡◌, ℕ, zero, suc, ◌<◌, ◌≤◌, Bool, true, false, cond, ◌&&◌, leb, ltb, min, Option, Some, None, IfSome, IfNone, List, [], ◌∷◌, ◌++◌, filter, length, get_or, refl, ap, ◌∙◌, arith}
+use Rattle.std.proofs.Common.{◌≡◌, ℕ, zero, suc, ◌<◌, ◌≤◌, Bool, true, false, ◌&&◌, leb, ltb, min, Option, Some, None, IfSome, IfNone, List, [], ◌∷◌, ◌++◌, filter, length, get_or, refl, ap, ◌∙◌, arith}
 use Rattle.std.proofs.lemmas.Bool.{le-leb, leb-true, lt-ltb, ltb-true, ltb-false}
 use Rattle.std.specs.Prelude.{All, AllPairs}
 use Rattle.std.proofs.lemmas.List.Elements.{filter-append, All-append}
 use Rattle.std.proofs.lemmas.List.Kept.{AllPairs-filter}
 use Rattle.std.proofs.lemmas.List.Quantifiers.{all_pairs_push}
 use Rattle.hp_model.specs.Lists.{numbers}
+use Rattle.hp_model.proofs.ListLemmas.{filter_both}
 pub use Rattle.hp_event.proofs.Among.{among_any as any_among}
 use Rattle.hp_reg.specs.declared.phase.Phase.{Phase}
 use Rattle.hp_reg.specs.declared.phase.Phase.TheVariants.{Making, Undoing}
-use Rattle.hp_reg.specs.Concerned.{is_concerned, concerned}
+use Rattle.hp_reg.specs.Concerned.{is_concerned, concerned, IsFirstLeft}
 use Rattle.hp_reg.specs.Progress.{from_on, below, cpus_left}
-
--- a filter of a filter
-filter_both : (p q : ℕ → Bool) (xs : List ℕ) → filter p (filter q xs) ≡ filter (λ x. p x && q x) xs
-filter_both p q [] = refl
-filter_both p q (x ∷ xs) = go (p x) (q x) refl refl (filter_both p q xs)
-  where
-    go : (a b : Bool) → p x ≡ a → q x ≡ b → filter p (filter q xs) ≡ filter (λ x. p x && q x) xs →
-        filter p (cond b (x ∷ filter q xs) (filter q xs))
-        ≡ cond (a && b) (x ∷ filter (λ x. p x && q x) xs) (filter (λ x. p x && q x) xs)
-    go true true e f h = rw (e, h) refl
-    go true false e f h = h
-    go false true e f h = rw e h
-    go false false e f h = h
 
 none_pass : (q : ℕ → Bool) (n : ℕ) → ((d : ℕ) → d < n → q d ≡ false) → filter q (numbers n) ≡ []
 none_pass q zero h = refl
@@ -118,15 +106,10 @@ none_left ph from s settled absent (Some c) e h = tt
 abbrev pub IsFirst : (from to s : ℕ) → (settled absent : List ℕ) → ℕ → Type 0
 IsFirst from to s settled absent c = (from ≤ c) × (c < to) × (is_concerned s settled absent c ≡ true)
 
-abbrev pub IsLeft : Phase → (s : ℕ) → (settled absent : List ℕ) → ℕ → Type 0
-IsLeft ph s settled absent c =
-    (c < length settled) × (is_concerned s settled absent c ≡ true)
-    × ((others : List ℕ) × (cpus_left ph (concerned s settled absent) ≡ c ∷ others))
-
 pub lowest_left : (ph : Phase) (from s : ℕ) (settled absent : List ℕ) (found : Option ℕ) → ph ≡ Making from →
     IfSome found (IsFirst from (length settled) s settled absent) →
     IfSome found (λ c. (d : ℕ) → from ≤ d → d < c → is_concerned s settled absent d ≡ false) →
-    IfSome found (IsLeft ph s settled absent)
+    IfSome found (IsFirstLeft ph s settled absent)
 lowest_left ph from s settled absent None e h k = tt
 lowest_left ph from s settled absent (Some c) e h k =
     (h.1, h.2, rw e (making_some (is_concerned s settled absent) (length settled) from c h.0 h.1 h.2 k))
@@ -143,7 +126,7 @@ pub lowest_undone : (ph : Phase) (from failed code to s : ℕ) (settled absent :
     ph ≡ Undoing from failed code → to ≡ min failed (length settled) →
     IfSome found (IsFirst from to s settled absent) →
     IfSome found (λ c. (d : ℕ) → from ≤ d → d < c → is_concerned s settled absent d ≡ false) →
-    IfSome found (IsLeft ph s settled absent)
+    IfSome found (IsFirstLeft ph s settled absent)
 lowest_undone ph from failed code to s settled absent None e t h k = tt
 lowest_undone ph from failed code to s settled absent (Some c) e t h k =
     let within : c < min failed (length settled) = rw t at h.1 in (

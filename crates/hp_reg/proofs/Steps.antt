@@ -22,9 +22,9 @@ use Rattle.hp_model.specs.How.{fits}
 use Rattle.hp_model.specs.RegistrationShape.{is_adding, ok_value, Registering, IsRegistrationAnswer}
 use Rattle.hp_model.proofs.NextSlot.{with_fails, Tree, stop, dead, step}
 use Rattle.hp_model.proofs.NextRegistration.{down_tree, add_tree, registration_tree}
-use Rattle.hp_model.proofs.Cursor.{IsLive}
-use Rattle.hp_model.proofs.OneRegistration.{outcome_of}
-use Rattle.hp_model.proofs.RegistrationCursor.{sound_down, sound_add, runs_more, next_slot_of, end_of_registration}
+use Rattle.hp_model.proofs.Cursor.{IsLive, runs_more}
+use Rattle.hp_model.proofs.RegistrationCursor.{outcome_of}
+use Rattle.hp_model.proofs.RegistrationCursor.{sound_down, sound_add, next_slot_of, end_of_registration}
 use Rattle.hp_reg.specs.declared.phase.Phase.{Phase}
 use Rattle.hp_reg.specs.declared.phase.Phase.TheVariants.{Making, Undoing}
 use Rattle.hp_reg.specs.declared.step.RegStep.{RegStep}

@@ -1,7 +1,7 @@
 -- Where a registration stands after the entries that were asked for and made, and how its next step goes on with them:
 -- by another entry of a registration shape, or by the end of one. This project's own; the shapes are those of
 -- `RegistrationShape.antt` of hp_model.
-use Rattle.std.specs.Prelude.{◌≡◌, ℕ, ◌<◌, Bool, true, false, Option, Some, None, List, [], ◌∷◌, AllPairs}
+use Rattle.std.specs.Prelude.{◌≡◌, ℕ, ◌<◌, Bool, true, false, Option, Some, None, List, [], ◌∷◌, ◌++◌, AllPairs}
 use Rattle.hp_states.specs.declared.dir.Dir.{Dir}
 use Rattle.hp_states.specs.declared.place.Place.{Place}
 use Rattle.hp_states.specs.declared.place.Place.TheVariants.{Undo, Remove}
@@ -22,6 +22,7 @@ use Rattle.hp_reg.specs.declared.phase.Phase.TheVariants.{Making, Undoing}
 use Rattle.hp_reg.specs.declared.step.RegStep.{RegStep}
 use Rattle.hp_reg.specs.declared.step.RegStep.TheVariants.{Call, Ended}
 use Rattle.hp_reg.specs.Progress.{Progress, from_on, below}
+use Rattle.hp_reg.specs.Asked.{asked}
 
 -- what can still follow, of all that can follow from the start of the registration
 abbrev pub tree_in : Phase → (adding : Bool) → (state inst : ℕ) → (cpus : List ℕ) → Tree
@@ -72,3 +73,15 @@ GoesOnBy key cpus entries p c k d place =
 abbrev pub GoesOn : Option ℕ → (cpus : List ℕ) → List Event → Progress → RegStep → Type 0
 GoesOn key cpus entries p (Call c k d place) = GoesOnBy key cpus entries p c k d place
 GoesOn key cpus entries p (Ended answer) = IsWhole key cpus entries p answer
+
+-- it goes on with whatever entries the registration stands after
+abbrev pub GoesOnFrom : Option ℕ → (cpus : List ℕ) → Progress → RegStep → Type 0
+GoesOnFrom key cpus p next = (entries : List Event) → IsAfter key cpus entries p → GoesOn key cpus entries p next
+
+-- the registration has gone on past an entry: whichever was asked for on this processor and made so, where that fits
+-- its place, it stands after that entry too
+abbrev pub WentOn : Progress → (cpu : ℕ) → How → Progress → Type 0
+WentOn p cpu how q =
+    (key : Option ℕ) (cpus : List ℕ) (entries : List Event) (seat : ℕ) (at : Key) (dir : Dir) (place : Place) →
+    IsAfter key cpus entries p → asked key cpus p ≡ Call cpu at dir place → fits how dir at.state place ≡ true →
+    IsAfter key cpus (entries ++ event.Call seat cpu at.state at.inst dir how ∷ []) q

@@ -1,13 +1,14 @@
 -- On which processors a registration makes an entry, and of which key, by what the caller keeps: the table, where
 -- processors stand, and which are absent. After the loops over the present processors of
 -- `__cpuhp_setup_state_cpuslocked` and its kin of `kernel/cpu.c`.
-use Rattle.std.specs.Prelude.{ℕ, Bool, not, ◌&&◌, nat_le, Option, Some, None, List, filter, length, slice_index}
+use Rattle.std.specs.Prelude.{◌≡◌, ℕ, ◌<◌, Bool, true, not, ◌&&◌, nat_le, Option, Some, None, List, ◌∷◌, filter, length, slice_index}
 use Rattle.hp_event.specs.declared.op.Op.{Op}
 use Rattle.hp_event.specs.declared.op.Op.TheVariants.{Setup, Remove, Add, Del}
 use Rattle.hp_model.specs.Lists.{among, numbers}
 use Rattle.hp_model.specs.RegistrationShape.{single}
 use Rattle.hp_table.specs.Step.{Step, step_at}
-use Rattle.hp_reg.specs.Progress.{Progress}
+use Rattle.hp_reg.specs.declared.phase.Phase.{Phase}
+use Rattle.hp_reg.specs.Progress.{Progress, cpus_left}
 
 -- a processor that isn't absent and stands at the state or above it
 abbrev pub is_concerned : (state : ℕ) → (settled absent : List ℕ) → (cpu : ℕ) → Bool
@@ -16,6 +17,12 @@ is_concerned s settled absent c = not (among c absent) && nat_le s (slice_index 
 -- these, in rising number
 abbrev pub concerned : (state : ℕ) → (settled absent : List ℕ) → List ℕ
 concerned s settled absent = filter (is_concerned s settled absent) (numbers (length settled))
+
+-- the lowest processor whose entry is still to come in a phase: it has a place, and is concerned
+abbrev pub IsFirstLeft : Phase → (state : ℕ) → (settled absent : List ℕ) → (cpu : ℕ) → Type 0
+IsFirstLeft phase s settled absent c =
+    (c < length settled) × (is_concerned s settled absent c ≡ true)
+    × ((others : List ℕ) × (cpus_left phase (concerned s settled absent) ≡ c ∷ others))
 
 abbrev pub single_in : Option Step → Option ℕ
 single_in None = None

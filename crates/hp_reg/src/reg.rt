@@ -1,22 +1,16 @@
 //! A registration in flight.
 
-ghost use Rattle.std.specs.Prelude.{◌≡◌, ℕ, ◌-◌, ◌*◌, ◌<◌, ◌≤◌, true, false, Option, IfSome, IfNone, List, [], ◌∷◌, ◌++◌, AllPairs, length};
-ghost use Rattle.hp_states.specs.declared.dir.Dir.{Dir as ADir};
-ghost use Rattle.hp_states.specs.declared.place.Place.{Place as APlace};
-ghost use Rattle.hp_event.specs.declared.key.Key.{Key as AKey};
-ghost use Rattle.hp_event.specs.declared.event.Event.{Event};
-ghost use Rattle.hp_event.specs.declared.event.Event.TheVariants as event;
+ghost use Rattle.std.specs.Prelude.{◌≡◌, ℕ, ◌-◌, ◌*◌, ◌<◌, ◌≤◌, true, false, Option, IfSome, IfNone, List, [], AllPairs, length};
 ghost use Rattle.hp_model.specs.Events.{is_registration_op};
 ghost use Rattle.hp_model.specs.Lists.{among};
 ghost use Rattle.hp_model.specs.Entries.{fault_of};
-ghost use Rattle.hp_model.specs.How.{fits};
 ghost use Rattle.hp_event.specs.Ops.{is_adding};
 ghost use Rattle.hp_model.specs.RegistrationShape.{ok_value};
-ghost use Rattle.hp_reg.specs.Concerned.{is_concerned, key_at, cpus_at};
+ghost use Rattle.hp_reg.specs.Concerned.{is_concerned, key_at, cpus_at, IsFirstLeft};
 ghost use Rattle.hp_reg.specs.Progress.{cpus_left, past};
 ghost use Rattle.hp_reg.specs.Asked.{direction, place, answer, asked, IfCall};
-ghost use Rattle.hp_reg.specs.After.{IsAfter, GoesOn};
-ghost use Rattle.hp_reg.specs.CallsLeft.{calls_left};
+ghost use Rattle.hp_reg.specs.After.{IsAfter, WentOn, GoesOnFrom};
+ghost use Rattle.hp_reg.specs.CallsLeft.{calls_left, LessIsLeft};
 
 use crate::phase::Phase;
 use crate::step::RegStep;
@@ -81,8 +75,8 @@ impl Reg {
         self.op
     }
 
-    /// The state that the operation registers or changes, at most 200. Takes no memory. Of a dynamic
-    /// setup it is the slot that was found, as in `cpuhp_reserve_state` of `kernel/cpu.c`.
+    /// The state that the operation registers or changes, at most 200. Takes no memory. Of a
+    /// dynamic setup it is the slot that was found, as in `cpuhp_reserve_state` of `kernel/cpu.c`.
     pub fn state(&self) -> u32
         ensures state { result ≡ self.now.state }
         ensures within { result ≤ ONLINE }
@@ -98,13 +92,13 @@ impl Reg {
     /// keys stay. Takes no memory and changes nothing; looks at no more processors than are left.
     ///
     /// - `Call`: the entry on the lowest processor that is left. A setup and an add go upwards over
-    ///   the present processors that stand at the state or above it, in rising number (`Add`); after
-    ///   a fault they are rolled back, downwards over those of them below the one that failed, in
-    ///   rising number (`Undo`). A remove and a del go downwards over all of them (`Remove`). The key has the instance of an
-    ///   add or a del, else 0. A setup or a remove of a state with an instance list has no key and
-    ///   makes no entry.
-    /// - `Ended(Fault)`, with the code of the fault, where an entry faulted and the others are rolled
-    ///   back.
+    ///   the present processors that stand at the state or above it, in rising number (`Add`);
+    ///   after a fault they are rolled back, downwards over those of them below the one that
+    ///   failed, in rising number (`Undo`). A remove and a del go downwards over all of them
+    ///   (`Remove`). The key has the instance of an add or a del, else 0. A setup or a remove of a
+    ///   state with an instance list has no key and makes no entry.
+    /// - `Ended(Fault)`, with the code of the fault, where an entry faulted and the others are
+    ///   rolled back.
     /// - `Ended(Ok)` where no entry faulted: the state for a setup of 41 or 141, else 0.
     ///
     /// After `__cpuhp_setup_state_cpuslocked`, `__cpuhp_state_add_instance_cpuslocked`,
@@ -113,9 +107,8 @@ impl Reg {
     pub fn next<H: Hook>(&self, table: &Table<H>, settled: &[u32], absent: &[u32]) -> RegStep
         requires { length settled.now ≤ MAX_CPUS }
         ensures asks { result ≡ asked (key_at table.now self.now) (cpus_at settled.now absent.now self.now) self.now }
-        ensures goes_on { (entries : List Event) →
-            IsAfter (key_at table.now self.now) (cpus_at settled.now absent.now self.now) entries self.now →
-            GoesOn (key_at table.now self.now) (cpus_at settled.now absent.now self.now) entries self.now result }
+        ensures goes_on { GoesOnFrom
+            (key_at table.now self.now) (cpus_at settled.now absent.now self.now) self.now result }
         ensures on { IfCall result (λ cpu key. (cpu < length settled.now)
             × (is_concerned self.now.state settled.now absent.now cpu ≡ true) × (key.state ≡ self.now.state)) }
     {
@@ -138,22 +131,17 @@ impl Reg {
 
     /// Goes on after the entry on a processor: `how` says how it was made.
     ///
-    /// `cpu` is below `MAX_CPUS`. `next` asked for this entry, and `how` fits its place: the entry is
-    /// done, or it is a fault and `may_fail` of hp_states holds. Otherwise nothing is promised but
-    /// that the operation and the state stay. After a fault the processors before this one are to be
-    /// rolled back, and the fault's code is kept: 11 where it was injected. Takes no memory. That an
-    /// entry which must not fail goes on whatever it answers is this project's own.
+    /// `cpu` is below `MAX_CPUS`. `next` asked for this entry, and `how` fits its place: the entry
+    /// is done, or it is a fault and `may_fail` of hp_states holds. Otherwise nothing is promised
+    /// but that the operation and the state stay. After a fault the processors before this one are
+    /// to be rolled back, and the fault's code is kept: 11 where it was injected. Takes no memory.
+    /// That an entry which must not fail goes on whatever it answers is this project's own.
     pub fn took(&mut self, cpu: u32, how: How)
         requires { cpu < MAX_CPUS }
         ensures op { self.new.op ≡ self.old.op }
         ensures state { self.new.state ≡ self.old.state }
-        ensures after { (key : Option ℕ) (cpus : List ℕ) (entries : List Event) (seat : ℕ) (at : AKey) (dir : ADir) (place : APlace) →
-            IsAfter key cpus entries self.old → asked key cpus self.old ≡ RegStep.Call cpu at dir place →
-            fits how dir at.state place ≡ true →
-            IsAfter key cpus (entries ++ event.Call seat cpu at.state at.inst dir how ∷ []) self.new }
-        ensures less { (key : Option ℕ) (cpus : List ℕ) (at : AKey) (dir : ADir) (place : APlace) →
-            AllPairs (λ c d. c < d) cpus → asked key cpus self.old ≡ RegStep.Call cpu at dir place →
-            fits how dir at.state place ≡ true → calls_left key cpus self.new < calls_left key cpus self.old }
+        ensures after { WentOn self.old cpu how self.new }
+        ensures less { LessIsLeft self.old cpu how self.new }
     {
         self.phase = past(self.phase, cpu, how);
     }
@@ -176,9 +164,7 @@ impl Reg {
     fn next_cpu(&self, settled: &[u32], absent: &[u32]) -> Option<u32>
         requires { length settled.now ≤ MAX_CPUS }
         ensures none { IfNone result (cpus_left self.now.phase (cpus_at settled.now absent.now self.now) ≡ []) }
-        ensures lowest { IfSome result (λ cpu. (cpu < length settled.now)
-            × (is_concerned self.now.state settled.now absent.now cpu ≡ true)
-            × ((others : List ℕ) × (cpus_left self.now.phase (cpus_at settled.now absent.now self.now) ≡ cpu ∷ others))) }
+        ensures lowest { IfSome result (IsFirstLeft self.now.phase self.now.state settled.now absent.now) }
     {
         let cpus = settled.len() as u32;
         match self.phase {

@@ -78,22 +78,6 @@ pub fn line_refused(alloc: Global, text: &[u8]) -> Result<Option<usize>, Fail> {
     }
 }
 
-/// The first of some changes, by its place among them, with which alone a text isn't refused just
-/// where it is changed; none where there is no such change.
-fn first_let_through(
-    alloc: Global,
-    text: &[u8],
-    changes: &[Change],
-) -> Result<Option<usize>, Fail> {
-    for (place, change) in changes.iter().enumerate() {
-        let changed = with_line(alloc, text, change.0, change.1)?;
-        if line_refused(alloc, changed.as_slice())? != Some(change.0) {
-            return Ok(Some(place));
-        }
-    }
-    Ok(None)
-}
-
 /// Asserts that a text is accepted, and with each of some changes alone refused just where it is
 /// changed.
 pub fn assert_refusals(
@@ -102,7 +86,15 @@ pub fn assert_refusals(
     text: &[u8],
     changes: &[Change],
 ) -> Result<(), Fail> {
-    assert!(rt; line_refused(alloc, text)? == None);
-    assert!(rt; first_let_through(alloc, text, changes)? == None);
+    let found = line_refused(alloc, text)?;
+    assert!(rt; found == None, "refused as it stands: {found:?}");
+    for (row, &(number, line)) in changes.iter().enumerate() {
+        let changed = with_line(alloc, text, number, line)?;
+        let found = line_refused(alloc, changed.as_slice())?;
+        assert!(rt;
+            found == Some(number),
+            "row {row}, line {number}: {found:?}"
+        );
+    }
     Ok(())
 }

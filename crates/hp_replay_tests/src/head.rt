@@ -9,58 +9,54 @@ const HEADER: ReplayKind = ReplayKind::Header;
 const MISSING: ReplayKind = ReplayKind::Missing;
 
 /// Texts, each with the line that is refused and the kind.
-const REFUSED: [(&'static [u8], u32, ReplayKind); 26] = [
-    (b"", 1, MISSING),
-    (b"\n", 1, HEADER),
-    (b"cpuhp journal 1", 1, HEADER),
-    (b"cpuhp journal 9\n", 1, HEADER),
-    (b"cpuhp  journal 1\n", 1, HEADER),
-    (b"cpuhp journal 1\n", 2, MISSING),
-    (b"cpuhp journal 1\ncpus 0\n", 2, HEADER),
-    (b"cpuhp journal 1\ncpus 65\n", 2, HEADER),
-    (b"cpuhp journal 1\ncpus 02\n", 2, HEADER),
-    (b"cpuhp journal 1\ncpus 2", 2, HEADER),
-    (b"cpuhp journal 1\ncpus 64\n", 3, MISSING),
-    (b"cpuhp journal 1\ncpus 2\nabsent\n", 3, HEADER),
-    (b"cpuhp journal 1\ncpus 2\nabsent 0\n", 3, HEADER),
-    (b"cpuhp journal 1\ncpus 2\nabsent 2\n", 3, HEADER),
-    (b"cpuhp journal 1\ncpus 1\nabsent 1\n", 3, HEADER),
-    (b"cpuhp journal 1\ncpus 4\nabsent 3 2\n", 3, HEADER),
-    (b"cpuhp journal 1\ncpus 4\nabsent 2 2\n", 3, HEADER),
-    (b"cpuhp journal 1\ncpus 4\nabsent - 2\n", 3, HEADER),
-    (b"cpuhp journal 1\ncpus 4\nabsent 1 2 3\n", 4, MISSING),
+const REFUSED: [(&'static str, u32, ReplayKind); 26] = [
+    ("", 1, MISSING),
+    ("\n", 1, HEADER),
+    ("cpuhp journal 1", 1, HEADER),
+    ("cpuhp journal 9\n", 1, HEADER),
+    ("cpuhp  journal 1\n", 1, HEADER),
+    ("cpuhp journal 1\n", 2, MISSING),
+    ("cpuhp journal 1\ncpus 0\n", 2, HEADER),
+    ("cpuhp journal 1\ncpus 65\n", 2, HEADER),
+    ("cpuhp journal 1\ncpus 02\n", 2, HEADER),
+    ("cpuhp journal 1\ncpus 2", 2, HEADER),
+    ("cpuhp journal 1\ncpus 64\n", 3, MISSING),
+    ("cpuhp journal 1\ncpus 2\nabsent\n", 3, HEADER),
+    ("cpuhp journal 1\ncpus 2\nabsent 0\n", 3, HEADER),
+    ("cpuhp journal 1\ncpus 2\nabsent 2\n", 3, HEADER),
+    ("cpuhp journal 1\ncpus 1\nabsent 1\n", 3, HEADER),
+    ("cpuhp journal 1\ncpus 4\nabsent 3 2\n", 3, HEADER),
+    ("cpuhp journal 1\ncpus 4\nabsent 2 2\n", 3, HEADER),
+    ("cpuhp journal 1\ncpus 4\nabsent - 2\n", 3, HEADER),
+    ("cpuhp journal 1\ncpus 4\nabsent 1 2 3\n", 4, MISSING),
     (
-        b"cpuhp journal 1\ncpus 2\nabsent -\nrule up * * * 5\n",
+        "cpuhp journal 1\ncpus 2\nabsent -\nrule up * * * 5\n",
+        4,
+        HEADER,
+    ),
+    ("cpuhp journal 1\ncpus 2\nabsent -\nsub a both\n", 4, HEADER),
+    (
+        "cpuhp journal 1\ncpus 2\nabsent -\nsub a,b both single\n",
         4,
         HEADER,
     ),
     (
-        b"cpuhp journal 1\ncpus 2\nabsent -\nsub a both\n",
-        4,
-        HEADER,
-    ),
-    (
-        b"cpuhp journal 1\ncpus 2\nabsent -\nsub a,b both single\n",
-        4,
-        HEADER,
-    ),
-    (
-        b"cpuhp journal 1\ncpus 2\nabsent -\nsub - none multi\nrule up 256 * * 5\n",
+        "cpuhp journal 1\ncpus 2\nabsent -\nsub - none multi\nrule up 256 * * 5\n",
         5,
         HEADER,
     ),
     (
-        b"cpuhp journal 1\ncpus 2\nabsent -\nsub - none multi\nrule up * * 0 5\n",
+        "cpuhp journal 1\ncpus 2\nabsent -\nsub - none multi\nrule up * * 0 5\n",
         5,
         HEADER,
     ),
     (
-        b"cpuhp journal 1\ncpus 2\nabsent -\nsub - none multi\nrule up * * * 4096\n",
+        "cpuhp journal 1\ncpus 2\nabsent -\nsub - none multi\nrule up * * * 4096\n",
         5,
         HEADER,
     ),
     (
-        b"cpuhp journal 1\ncpus 2\nabsent -\nadmit 0 ap 0\n",
+        "cpuhp journal 1\ncpus 2\nabsent -\nadmit 0 ap 0\n",
         4,
         HEADER,
     ),
@@ -68,15 +64,32 @@ const REFUSED: [(&'static [u8], u32, ReplayKind); 26] = [
 
 #[test]
 fn what_stands_before_the_events(rt: HostRuntime) {
-    for &(bytes, line, kind) in REFUSED.iter() {
-        let answer = check(rt.alloc(), bytes);
-        assert!(rt; answer.err() == Some(ReplayError::Bad { line, kind }));
+    for &(text, line, kind) in REFUSED.iter() {
+        let found = check(rt.alloc(), text.as_bytes()).err();
+        assert!(rt;
+            found == Some(ReplayError::Bad { line, kind }),
+            "{text:?}: {found:?}"
+        );
     }
 }
 
 /// Eight rules of a subsystem, and one more.
-const RULES: &'static [u8] =
-    b"cpuhp journal 1\ncpus 2\nabsent -\nsub a both single\nrule up * * * 1\nrule up * * * 2\nrule up * * * 3\nrule up * * * 4\nrule up * * * 5\nrule up * * * 6\nrule up * * * 7\nrule up * * * 8\nrule up * * * 9\nevents\n";
+const RULES: &'static [u8] = b"\
+cpuhp journal 1
+cpus 2
+absent -
+sub a both single
+rule up * * * 1
+rule up * * * 2
+rule up * * * 3
+rule up * * * 4
+rule up * * * 5
+rule up * * * 6
+rule up * * * 7
+rule up * * * 8
+rule up * * * 9
+events
+";
 
 #[test]
 fn a_ninth_rule(rt: HostRuntime) {

@@ -3,8 +3,11 @@
 //! They are texts of one form and another, and journals of each way in which a walk or a registration
 //! can end, of clients that wait for one another and of seats that come and go, accepted as they stand,
 //! and refused with one line changed or left out, or with two lines swapped. What is said of them was
-//! written by hand, from the rules. Which event can stand next is decided by hp_law and hp_ledger, so
+//! written by hand, from the rules. Which event can stand next is decided by hp_law and hp_account, so
 //! that these are their tests too.
+//!
+//! Journals that other crates of tests use too are samples of hp_samples; the others stand beside what is asked of
+//! them.
 //!
 //! They use hp_replay as any crate does. They stand apart from it because a crate with tests is proved
 //! twice, once with them and once without.

@@ -90,62 +90,68 @@ const FIRST: usize = 12;
 fn a_line_says_its_event(rt: HostRuntime) -> Result<(), Fail> {
     let journal = check(rt.alloc(), EACH_KIND)?;
     for &(number, line, event) in EVENTS.iter() {
-        assert!(rt; line_at(rt.alloc(), EACH_KIND, number)?.as_slice() == line);
-        assert!(rt; journal.events().get(number.saturating_sub(FIRST)) == Some(&event));
+        assert!(rt;
+            line_at(rt.alloc(), EACH_KIND, number)?.as_slice() == line,
+            "line {number}"
+        );
+        assert!(rt;
+            journal.events().get(number.saturating_sub(FIRST)) == Some(&event),
+            "line {number}"
+        );
     }
     Ok(())
 }
 
 /// Lines that say no event.
-const NO_EVENTS: [&'static [u8]; 30] = [
-    b"leave  9\n",
-    b" leave 9\n",
-    b"leave 9 \n",
-    b"leave\t9\n",
-    b"leave 9\r\n",
-    b"leave 09\n",
-    b"leave 4294967296\n",
-    b"leave -1\n",
-    b"leave 1 2\n",
-    b"leave\n",
-    b"\n",
-    b"Leave 1\n",
-    b"walked 2 1 full\n",
-    b"walked 2 1 ok 0\n",
-    b"done 2 ok\n",
-    b"shown 2 states 0 9\n",
-    b"shown 2 state 9\n",
-    b"call 1 2 120 3 left ok\n",
-    b"reg 2 41 setup 41 1 locked nocalls\n",
-    b"enter 2 show 1\n",
-    b"enter 2 freeze -0\n",
-    b"enter 2 upmany\n",
-    b"enter 2 upmany one\n",
-    b"enter 2 upmany 1  2\n",
-    b"enter 2 upmany 1 2 \n",
-    b"enter 2 upmany 2 1\n",
-    b"enter 2 upmany 1 1\n",
-    b"enter 2 upmany 1 256\n",
-    b"refused 2 22 upmany\n",
-    b"reg 2 41 upmany 01\n",
+const NO_EVENTS: [&'static str; 30] = [
+    "leave  9\n",
+    " leave 9\n",
+    "leave 9 \n",
+    "leave\t9\n",
+    "leave 9\r\n",
+    "leave 09\n",
+    "leave 4294967296\n",
+    "leave -1\n",
+    "leave 1 2\n",
+    "leave\n",
+    "\n",
+    "Leave 1\n",
+    "walked 2 1 full\n",
+    "walked 2 1 ok 0\n",
+    "done 2 ok\n",
+    "shown 2 states 0 9\n",
+    "shown 2 state 9\n",
+    "call 1 2 120 3 left ok\n",
+    "reg 2 41 setup 41 1 locked nocalls\n",
+    "enter 2 show 1\n",
+    "enter 2 freeze -0\n",
+    "enter 2 upmany\n",
+    "enter 2 upmany one\n",
+    "enter 2 upmany 1  2\n",
+    "enter 2 upmany 1 2 \n",
+    "enter 2 upmany 2 1\n",
+    "enter 2 upmany 1 1\n",
+    "enter 2 upmany 1 256\n",
+    "refused 2 22 upmany\n",
+    "reg 2 41 upmany 01\n",
 ];
 
 /// Lines that say an event which stands in no journal's first place, and most in none at all.
-const NOT_FIRST: [&'static [u8]; 14] = [
-    b"leave 9\n",
-    b"admit 1 ap 7\n",
-    b"enter 2 target 1 -5\n",
-    b"enter 2 show states\n",
-    b"enter 2 upmany 1 2\n",
-    b"refused 2 22 upmany 0 255\n",
-    b"reg 2 41 upmany 1\n",
-    b"refused 2 22 show states\n",
-    b"call 1 2 120 3 down overruled 5\n",
-    b"done 2 full\n",
-    b"done 2 refused 16\n",
-    b"reg 2 41 add 41 7 nocalls locked\n",
-    b"regged 2 stuck 5 6 119\n",
-    b"shown 2 states -1\n",
+const NOT_FIRST: [&'static str; 14] = [
+    "leave 9\n",
+    "admit 1 ap 7\n",
+    "enter 2 target 1 -5\n",
+    "enter 2 show states\n",
+    "enter 2 upmany 1 2\n",
+    "refused 2 22 upmany 0 255\n",
+    "reg 2 41 upmany 1\n",
+    "refused 2 22 show states\n",
+    "call 1 2 120 3 down overruled 5\n",
+    "done 2 full\n",
+    "done 2 refused 16\n",
+    "reg 2 41 add 41 7 nocalls locked\n",
+    "regged 2 stuck 5 6 119\n",
+    "shown 2 states -1\n",
 ];
 
 /// Each in place of the first event's line.
@@ -158,8 +164,9 @@ fn other_lines_say_none(rt: HostRuntime) -> Result<(), Fail> {
     .iter()
     {
         for line in lines {
-            let text = with_line(rt.alloc(), EACH_KIND, FIRST, line)?;
-            assert!(rt; verdict_of(rt.alloc(), text.as_slice())? == Some((12, kind)));
+            let text = with_line(rt.alloc(), EACH_KIND, FIRST, line.as_bytes())?;
+            let found = verdict_of(rt.alloc(), text.as_slice())?;
+            assert!(rt; found == Some((12, kind)), "{line:?}: {found:?}");
         }
     }
     Ok(())

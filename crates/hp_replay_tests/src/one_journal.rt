@@ -147,7 +147,9 @@ fn first_other(
 fn a_front_of_a_text(rt: HostRuntime) -> Result<(), Fail> {
     let mut shortest = 0usize;
     for &(end, wanted) in PREFIXES.iter() {
-        assert!(rt; first_other(rt.alloc(), shortest..end, wanted)? == None);
+        if let Some(length) = first_other(rt.alloc(), shortest..end, wanted)? {
+            panic!(rt; "{length} bytes");
+        }
         shortest = end;
     }
     assert!(rt; shortest == ONE_JOURNAL.len() + 1);
@@ -198,8 +200,10 @@ const LEFT_OUT: [Verdict; 36] = [
 #[test]
 fn a_line_left_out(rt: HostRuntime) -> Result<(), Fail> {
     for (place, wanted) in LEFT_OUT.iter().enumerate() {
-        let text = with_line(rt.alloc(), ONE_JOURNAL, place.saturating_add(1), b"")?;
-        assert!(rt; verdict_of(rt.alloc(), text.as_slice())? == *wanted);
+        let number = place.saturating_add(1);
+        let text = with_line(rt.alloc(), ONE_JOURNAL, number, b"")?;
+        let found = verdict_of(rt.alloc(), text.as_slice())?;
+        assert!(rt; found == *wanted, "line {number}: {found:?}");
     }
     Ok(())
 }
@@ -253,7 +257,8 @@ fn a_line_that_stands_twice(rt: HostRuntime) -> Result<(), Fail> {
         let mut both = line_at(rt.alloc(), ONE_JOURNAL, number)?;
         both.extend_from_slice(line.as_slice())?;
         let text = with_line(rt.alloc(), ONE_JOURNAL, number, both.as_slice())?;
-        assert!(rt; verdict_of(rt.alloc(), text.as_slice())? == *wanted);
+        let found = verdict_of(rt.alloc(), text.as_slice())?;
+        assert!(rt; found == *wanted, "line {number}: {found:?}");
     }
     Ok(())
 }
@@ -301,8 +306,10 @@ const SWAPPED: [Verdict; 35] = [
 #[test]
 fn two_lines_swapped(rt: HostRuntime) -> Result<(), Fail> {
     for (place, wanted) in SWAPPED.iter().enumerate() {
-        let text = with_swap(rt.alloc(), ONE_JOURNAL, place.saturating_add(1))?;
-        assert!(rt; verdict_of(rt.alloc(), text.as_slice())? == *wanted);
+        let number = place.saturating_add(1);
+        let text = with_swap(rt.alloc(), ONE_JOURNAL, number)?;
+        let found = verdict_of(rt.alloc(), text.as_slice())?;
+        assert!(rt; found == *wanted, "line {number}: {found:?}");
     }
     Ok(())
 }

@@ -6,20 +6,20 @@ use crate::changes::{Verdict, verdict_of, with_line};
 use crate::one_journal::ONE_JOURNAL;
 use hp_replay::ReplayKind::{Count, Header, Syntax, Trailing, Unlawful};
 use std::alloc::Global;
+use std::process::Abort;
 use std::test::*;
 
 /// The number of a line, what stands in its place, and what is said of the text then.
 type Row = (usize, &'static [u8], Verdict);
 
-/// The first row, by its place, of which something else is said; none where there is no such row.
-fn first_wrong(alloc: Global, rows: &[Row]) -> Result<Option<usize>, Fail> {
-    for (place, row) in rows.iter().enumerate() {
-        let text = with_line(alloc, ONE_JOURNAL, row.0, row.1)?;
-        if verdict_of(alloc, text.as_slice())? != row.2 {
-            return Ok(Some(place));
-        }
+/// Asserts what is said of the text by each row.
+fn assert_verdicts(rt: &impl Abort, alloc: Global, rows: &[Row]) -> Result<(), Fail> {
+    for (row, &(number, line, wanted)) in rows.iter().enumerate() {
+        let text = with_line(alloc, ONE_JOURNAL, number, line)?;
+        let found = verdict_of(alloc, text.as_slice())?;
+        assert!(rt; found == wanted, "row {row}, line {number}: {found:?}");
     }
-    Ok(None)
+    Ok(())
 }
 
 /// Changes of the lines up to that of the events.
@@ -44,8 +44,7 @@ const HEADER: [Row; 15] = [
 /// A change of the lines up to that of the events.
 #[test]
 fn header_changed(rt: HostRuntime) -> Result<(), Fail> {
-    assert!(rt; first_wrong(rt.alloc(), &HEADER)? == None);
-    Ok(())
+    assert_verdicts(&rt, rt.alloc(), &HEADER)
 }
 
 /// Changes of the admissions, a read section and a registration.
@@ -85,8 +84,7 @@ const FIRST: [Row; 30] = [
 /// A change of the admissions, a read section and a registration.
 #[test]
 fn first_changed(rt: HostRuntime) -> Result<(), Fail> {
-    assert!(rt; first_wrong(rt.alloc(), &FIRST)? == None);
-    Ok(())
+    assert_verdicts(&rt, rt.alloc(), &FIRST)
 }
 
 /// Changes of a way up, an arming, a file that is shown and a refusal.
@@ -133,8 +131,7 @@ const UP: [Row; 37] = [
 /// A change of a way up, an arming, a file that is shown and a refusal.
 #[test]
 fn up_changed(rt: HostRuntime) -> Result<(), Fail> {
-    assert!(rt; first_wrong(rt.alloc(), &UP)? == None);
-    Ok(())
+    assert_verdicts(&rt, rt.alloc(), &UP)
 }
 
 /// Changes of a way down that ends in a fault, and the `end` line.
@@ -170,8 +167,7 @@ const DOWN: [Row; 26] = [
 /// A change of a way down that ends in a fault, and the `end` line.
 #[test]
 fn down_changed(rt: HostRuntime) -> Result<(), Fail> {
-    assert!(rt; first_wrong(rt.alloc(), &DOWN)? == None);
-    Ok(())
+    assert_verdicts(&rt, rt.alloc(), &DOWN)
 }
 
 /// Changes of the summary.
@@ -286,6 +282,5 @@ const SUMMARY: [Row; 29] = [
 /// A change of the summary.
 #[test]
 fn summary_changed(rt: HostRuntime) -> Result<(), Fail> {
-    assert!(rt; first_wrong(rt.alloc(), &SUMMARY)? == None);
-    Ok(())
+    assert_verdicts(&rt, rt.alloc(), &SUMMARY)
 }

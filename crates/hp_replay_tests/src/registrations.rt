@@ -2,6 +2,7 @@
 
 use crate::changes::{Change, assert_refusals};
 use hp_replay::check;
+use hp_samples::{LAST_PROCESSOR, OVERRULED, PRESUMED};
 use std::test::*;
 
 /// A setup that fails on one processor.
@@ -53,30 +54,8 @@ fn a_fault_undoes_a_setup(rt: HostRuntime) -> Result<(), Fail> {
     assert_refusals(&rt, rt.alloc(), FAILED_SETUP, &FAILED_SETUP_CHANGES)
 }
 
-/// A fault at a STARTING state.
-pub const OVERRULED_FAULT: &'static [u8] = b"\
-cpuhp journal 1
-cpus 2
-absent -
-sub net:s both single
-rule up 1 * * 5
-events
-admit 0 ap 0
-admit 1 ap 1
-admit 2 client
-reg 2 70 setup 70 1
-call 0 0 70 0 up ok
-regged 2 ok 0
-enter 2 up 1
-walk 2 1 0 200
-call 1 1 70 0 up overruled 5
-walked 2 1 ok
-done 2 ok 0
-end 11
-";
-
-/// Lines that can't stand in it, with their numbers.
-const OVERRULED_FAULT_CHANGES: [Change; 3] = [
+/// Lines that can't stand in the sample's journal, with their numbers.
+const OVERRULED_CHANGES: [Change; 3] = [
     (15, b"call 1 1 70 0 up fault 5\n"),
     (15, b"call 1 1 70 0 up ok\n"),
     (16, b"walked 2 1 fault 5\n"),
@@ -85,37 +64,16 @@ const OVERRULED_FAULT_CHANGES: [Change; 3] = [
 /// A fault at a STARTING state.
 #[test]
 fn a_fault_of_a_state_that_must_not_fail_is_overruled(rt: HostRuntime) -> Result<(), Fail> {
-    assert_refusals(&rt, rt.alloc(), OVERRULED_FAULT, &OVERRULED_FAULT_CHANGES)
+    assert_refusals(
+        &rt,
+        rt.alloc(),
+        OVERRULED.journal.as_bytes(),
+        &OVERRULED_CHANGES,
+    )
 }
 
-/// A setup without calls, and a way down.
-pub const SETUP_WITHOUT_CALLS: &'static [u8] = b"\
-cpuhp journal 1
-cpus 2
-absent -
-sub net:a both single
-events
-admit 0 ap 0
-admit 1 ap 1
-admit 2 client
-enter 2 up 1
-walk 2 1 0 200
-walked 2 1 ok
-done 2 ok 0
-reg 2 150 setup 150 1 nocalls
-call 2 0 150 0 up presumed
-call 2 1 150 0 up presumed
-regged 2 ok 0
-enter 2 down 1
-walk 2 1 200 0
-call 1 1 150 0 down ok
-walked 2 1 ok
-done 2 ok 0
-end 16
-";
-
-/// Lines that can't stand in it, with their numbers.
-const SETUP_WITHOUT_CALLS_CHANGES: [Change; 5] = [
+/// Lines that can't stand in the sample's journal, with their numbers.
+const PRESUMED_CHANGES: [Change; 5] = [
     (14, b"call 0 0 150 0 up presumed\n"),
     (15, b"call 1 1 150 0 up ok\n"),
     (15, b""),
@@ -129,28 +87,12 @@ fn a_setup_without_calls_is_presumed(rt: HostRuntime) -> Result<(), Fail> {
     assert_refusals(
         &rt,
         rt.alloc(),
-        SETUP_WITHOUT_CALLS,
-        &SETUP_WITHOUT_CALLS_CHANGES,
+        PRESUMED.journal.as_bytes(),
+        &PRESUMED_CHANGES,
     )
 }
 
-/// Operations on the only processor.
-const LAST_PROCESSOR: &'static [u8] = b"\
-cpuhp journal 1
-cpus 1
-absent -
-events
-admit 0 ap 0
-admit 1 client
-refused 1 16 down 0
-refused 1 22 target 0 101
-enter 1 target 0 200
-done 1 ok 0
-refused 1 22 up 1
-end 7
-";
-
-/// Lines that can't stand in it, with their numbers.
+/// Lines that can't stand in the sample's journal, with their numbers.
 const LAST_PROCESSOR_CHANGES: [Change; 6] = [
     (7, b"refused 1 22 down 0\n"),
     (7, b"enter 1 down 0\n"),
@@ -163,7 +105,12 @@ const LAST_PROCESSOR_CHANGES: [Change; 6] = [
 /// Operations on the only processor.
 #[test]
 fn the_last_processor_stays(rt: HostRuntime) -> Result<(), Fail> {
-    assert_refusals(&rt, rt.alloc(), LAST_PROCESSOR, &LAST_PROCESSOR_CHANGES)
+    assert_refusals(
+        &rt,
+        rt.alloc(),
+        LAST_PROCESSOR.journal.as_bytes(),
+        &LAST_PROCESSOR_CHANGES,
+    )
 }
 
 /// Setups of any free ONLINE state until none is left, and of one that is free again.

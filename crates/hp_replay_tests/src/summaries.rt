@@ -1,14 +1,14 @@
 //! What `hp_model` computes of a journal: where each processor stands, the keys in force there, and
 //! the registered keys. Written by hand, as the lines `cpu` and `sub` of the journal's summary.
 
-use crate::registrations::{DYNAMIC_SETUPS, FAILED_SETUP, OVERRULED_FAULT, SETUP_WITHOUT_CALLS};
-use crate::suspends::FREEZE_WITH_SETUP_BETWEEN;
-use crate::walks::{
-    FAULT_OF_AN_INSTANCE, FAULT_ON_THE_WAY_DOWN, FAULT_ON_THE_WAY_UP, STUCK_ON_THE_WAY_BACK,
-};
+use crate::registrations::{DYNAMIC_SETUPS, FAILED_SETUP};
 use hp_event::{Journal, Key};
 use hp_model::{net_of, registered_of, settled_of};
 use hp_replay::check;
+use hp_samples::{
+    FREEZE_WITH_SETUP_BETWEEN, INSTANCE_FAULT, OVERRULED, PRESUMED, ROLLBACK_OF_DOWN,
+    ROLLBACK_OF_UP, STUCK,
+};
 use std::alloc::Global;
 use std::process::Abort;
 use std::test::*;
@@ -48,7 +48,9 @@ fn assert_leaves(
     standings: &[Standing],
     registered: &[Key],
 ) -> Result<(), Fail> {
-    assert!(rt; first_elsewhere(alloc, journal, standings)? == None);
+    if let Some(cpu) = first_elsewhere(alloc, journal, standings)? {
+        panic!(rt; "processor {cpu}");
+    }
     assert!(rt; registered_of(alloc, journal)?.as_slice() == registered);
     Ok(())
 }
@@ -84,7 +86,7 @@ fn after_a_fault_on_the_way_up_the_processor_is_down(rt: HostRuntime) -> Result<
     assert_left(
         &rt,
         rt.alloc(),
-        FAULT_ON_THE_WAY_UP,
+        ROLLBACK_OF_UP.journal.as_bytes(),
         &AFTER_A_FAULT_ON_THE_WAY_UP,
         BOTH,
     )
@@ -98,7 +100,7 @@ fn after_a_fault_on_the_way_down_the_processor_is_up(rt: HostRuntime) -> Result<
     assert_left(
         &rt,
         rt.alloc(),
-        FAULT_ON_THE_WAY_DOWN,
+        ROLLBACK_OF_DOWN.journal.as_bytes(),
         &AFTER_A_FAULT_ON_THE_WAY_DOWN,
         BOTH,
     )
@@ -134,7 +136,7 @@ fn a_stuck_processor_stays_between(rt: HostRuntime) -> Result<(), Fail> {
     assert_left(
         &rt,
         rt.alloc(),
-        STUCK_ON_THE_WAY_BACK,
+        STUCK.journal.as_bytes(),
         &AFTER_A_STUCK_WALK,
         ALL,
     )
@@ -180,7 +182,7 @@ fn instances_are_listed_newest_first(rt: HostRuntime) -> Result<(), Fail> {
     assert_left(
         &rt,
         rt.alloc(),
-        FAULT_OF_AN_INSTANCE,
+        INSTANCE_FAULT.journal.as_bytes(),
         &AFTER_A_FAULT_OF_AN_INSTANCE,
         NEWEST_FIRST,
     )
@@ -205,7 +207,7 @@ fn an_overruled_fault_counts_as_done(rt: HostRuntime) -> Result<(), Fail> {
     assert_left(
         &rt,
         rt.alloc(),
-        OVERRULED_FAULT,
+        OVERRULED.journal.as_bytes(),
         &AFTER_AN_OVERRULED_FAULT,
         STARTING,
     )
@@ -225,7 +227,7 @@ fn a_presumed_startup_counts_as_done(rt: HostRuntime) -> Result<(), Fail> {
     assert_left(
         &rt,
         rt.alloc(),
-        SETUP_WITHOUT_CALLS,
+        PRESUMED.journal.as_bytes(),
         &AFTER_A_SETUP_WITHOUT_CALLS,
         ONE,
     )
@@ -256,7 +258,7 @@ fn after_a_thaw_all_processors_have_the_new_state(rt: HostRuntime) -> Result<(),
     assert_left(
         &rt,
         rt.alloc(),
-        FREEZE_WITH_SETUP_BETWEEN,
+        FREEZE_WITH_SETUP_BETWEEN.journal.as_bytes(),
         &AFTER_A_THAW,
         OLD_AND_NEW,
     )

@@ -1,64 +1,10 @@
 //! Journals of suspends, and lines that can't stand in them.
 
 use crate::changes::{Change, assert_refusals};
+use hp_samples::FREEZE_WITH_SETUP_BETWEEN;
 use std::test::*;
 
-/// A boot, a freeze that a fault of processor 2 ends, a setup of the other client between its walks, and
-/// a thaw.
-pub const FREEZE_WITH_SETUP_BETWEEN: &'static [u8] = b"\
-cpuhp journal 1
-cpus 4
-absent -
-sub net:a both single
-rule down 2 * * 6
-sub net:b both single
-events
-admit 0 ap 0
-admit 1 ap 1
-admit 2 ap 2
-admit 3 ap 3
-admit 4 client
-admit 5 client
-reg 4 150 setup 150 1
-call 0 0 150 0 up ok
-regged 4 ok 0
-enter 4 boot 4
-walk 4 1 0 200
-call 1 1 150 0 up ok
-walked 4 1 ok
-walk 4 2 0 200
-call 2 2 150 0 up ok
-walked 4 2 ok
-walk 4 3 0 200
-call 3 3 150 0 up ok
-walked 4 3 ok
-done 4 ok 0
-enter 4 freeze 0
-walk 4 1 200 0
-call 1 1 150 0 down ok
-walked 4 1 ok
-reg 5 160 setup 160 2
-call 0 0 160 0 up ok
-call 2 2 160 0 up ok
-call 3 3 160 0 up ok
-regged 5 ok 0
-walk 4 2 200 0
-call 2 2 160 0 down ok
-call 2 2 150 0 down fault 6
-call 2 2 160 0 up ok
-walked 4 2 fault 6
-done 4 fault 6
-refused 4 16 up 1
-enter 4 thaw
-walk 4 1 0 200
-call 1 1 150 0 up ok
-call 1 1 160 0 up ok
-walked 4 1 ok
-done 4 ok 0
-end 42
-";
-
-/// Lines that can't stand in it, with their numbers.
+/// Lines that can't stand in the sample's journal, with their numbers.
 const FREEZE_WITH_SETUP_BETWEEN_CHANGES: [Change; 12] = [
     (21, b"walk 4 3 0 200\n"),
     (29, b"walk 4 2 200 0\n"),
@@ -80,7 +26,7 @@ fn a_thaw_brings_up_what_a_failed_freeze_took_down(rt: HostRuntime) -> Result<()
     assert_refusals(
         &rt,
         rt.alloc(),
-        FREEZE_WITH_SETUP_BETWEEN,
+        FREEZE_WITH_SETUP_BETWEEN.journal.as_bytes(),
         &FREEZE_WITH_SETUP_BETWEEN_CHANGES,
     )
 }

@@ -3,109 +3,136 @@
 use crate::changes::{Change, assert_refusals};
 use hp_print::{journal_text, summary};
 use hp_replay::{ReplayError, ReplayKind, check, events_fit, text_is_accepted};
+use hp_samples::{INSTANCE_FAULT, first_difference};
 use std::alloc::Global;
+use std::process::Abort;
 use std::test::*;
 
-/// The journal of an instance whose startup faults.
-const TEXT: &'static [u8] =
-    b"cpuhp journal 1\ncpus 2\nabsent -\nsub net:q both multi\nrule up 1 1 * 5\nevents\nadmit 0 ap 0\nadmit 1 ap 1\nadmit 2 client\nreg 2 150 setup 150 1\nregged 2 ok 0\nreg 2 150 add 150 1\ncall 0 0 150 1 up ok\nregged 2 ok 0\nreg 2 150 add 150 2\ncall 0 0 150 2 up ok\nregged 2 ok 0\nreg 2 150 add 150 3\ncall 0 0 150 3 up ok\nregged 2 ok 0\nenter 2 up 1\nwalk 2 1 0 200\ncall 1 1 150 3 up ok\ncall 1 1 150 2 up ok\ncall 1 1 150 1 up fault 5\ncall 1 1 150 3 down ok\ncall 1 1 150 2 down ok\nwalked 2 1 fault 5\ndone 2 fault 5\nend 23\n";
-
-/// Its summary.
-const SUMMARY: &'static [u8] =
-    b"cpu 0 present state 200 keys 150.1 150.2 150.3\ncpu 1 present state 0 keys -\ndisabled 0\nfrozen -\nsub 150 net:q made 8 faults 1 instances 3 2 1\nops ok 4 refused 0 fault 1 stuck 0 full 0\nevents 23\n";
-
-/// The text, and these bytes behind it.
-fn with(alloc: Global, more: &[u8]) -> Result<Vec<u8>, Fail> {
-    let mut all = Vec::from_slice(alloc, TEXT)?;
-    all.extend_from_slice(more)?;
+/// The journal of the sample, and this text behind it.
+fn with(alloc: Global, more: &str) -> Result<Vec<u8>, Fail> {
+    let mut all = Vec::from_slice(alloc, INSTANCE_FAULT.journal.as_bytes())?;
+    all.extend_from_slice(more.as_bytes())?;
     Ok(all)
+}
+
+/// Asserts that a text is the wanted one, and says the first line that is another.
+fn assert_text(rt: &impl Abort, found: &[u8], wanted: &str) {
+    if let Some(line) = first_difference(found, wanted.as_bytes()) {
+        panic!(rt; "line {line}");
+    }
 }
 
 #[test]
 fn a_text_with_and_without_its_summary(rt: HostRuntime) -> Result<(), Fail> {
-    let journal = check(rt.alloc(), TEXT)?;
+    let text = INSTANCE_FAULT.journal.as_bytes();
+    let journal = check(rt.alloc(), text)?;
     assert!(rt; journal.len() == 23);
-    assert!(rt; journal_text(rt.alloc(), &journal)?.as_slice() == TEXT);
-    assert!(rt; summary(rt.alloc(), &journal)?.as_slice() == SUMMARY);
+    assert_text(
+        &rt,
+        &journal_text(rt.alloc(), &journal)?,
+        INSTANCE_FAULT.journal,
+    );
+    assert_text(&rt, &summary(rt.alloc(), &journal)?, INSTANCE_FAULT.summary);
     events_fit(journal.events());
-    text_is_accepted(&journal, TEXT);
-    let all = with(rt.alloc(), SUMMARY)?;
+    text_is_accepted(&journal, text);
+    let all = with(rt.alloc(), INSTANCE_FAULT.summary)?;
     let again = check(rt.alloc(), all.as_slice())?;
     assert!(rt; again.events() == journal.events());
     Ok(())
 }
 
+/// The summary with another count of faults.
+const SECOND_FAULT: &str = "\
+cpu 0 present state 200 keys 150.1 150.2 150.3
+cpu 1 present state 0 keys -
+disabled 0
+frozen -
+sub 150 net:q made 8 faults 2 instances 3 2 1
+ops ok 4 refused 0 fault 1 stuck 0 full 0
+events 23
+";
+
+/// The summary with its last line twice.
+const EVENTS_TWICE: &str = "\
+cpu 0 present state 200 keys 150.1 150.2 150.3
+cpu 1 present state 0 keys -
+disabled 0
+frozen -
+sub 150 net:q made 8 faults 1 instances 3 2 1
+ops ok 4 refused 0 fault 1 stuck 0 full 0
+events 23
+events 23
+";
+
 /// What stands behind the text, with the line that is refused and the kind.
-const BEHIND: [(&'static [u8], u32, ReplayKind); 8] = [
-    (b"\n", 31, ReplayKind::Trailing),
-    (b"end 23\n", 31, ReplayKind::Trailing),
+const BEHIND: [(&'static str, u32, ReplayKind); 8] = [
+    ("\n", 31, ReplayKind::Trailing),
+    ("end 23\n", 31, ReplayKind::Trailing),
     (
-        b"cpu 0 present state 200 keys 150.1 150.2 150.3",
+        "cpu 0 present state 200 keys 150.1 150.2 150.3",
         31,
         ReplayKind::Trailing,
     ),
     (
-        b"cpu 0 present state 200 keys 150.1 150.2\n",
+        "cpu 0 present state 200 keys 150.1 150.2\n",
         31,
         ReplayKind::Trailing,
     ),
     (
-        b"cpu 0 present state 200 keys 150.1 150.2 150.3\n",
+        "cpu 0 present state 200 keys 150.1 150.2 150.3\n",
         32,
         ReplayKind::Missing,
     ),
     (
-        b"cpu 0 present state 200 keys 150.1 150.2 150.3\ncpu 1 present state 1 keys -\n",
+        "cpu 0 present state 200 keys 150.1 150.2 150.3\ncpu 1 present state 1 keys -\n",
         32,
         ReplayKind::Trailing,
     ),
-    (
-        b"cpu 0 present state 200 keys 150.1 150.2 150.3\ncpu 1 present state 0 keys -\ndisabled 0\nfrozen -\nsub 150 net:q made 8 faults 2 instances 3 2 1\nops ok 4 refused 0 fault 1 stuck 0 full 0\nevents 23\n",
-        35,
-        ReplayKind::Trailing,
-    ),
-    (
-        b"cpu 0 present state 200 keys 150.1 150.2 150.3\ncpu 1 present state 0 keys -\ndisabled 0\nfrozen -\nsub 150 net:q made 8 faults 1 instances 3 2 1\nops ok 4 refused 0 fault 1 stuck 0 full 0\nevents 23\nevents 23\n",
-        38,
-        ReplayKind::Trailing,
-    ),
+    (SECOND_FAULT, 35, ReplayKind::Trailing),
+    (EVENTS_TWICE, 38, ReplayKind::Trailing),
 ];
 
 #[test]
 fn what_stands_behind_the_text(rt: HostRuntime) -> Result<(), Fail> {
     for &(more, line, kind) in BEHIND.iter() {
         let all = with(rt.alloc(), more)?;
-        let answer = check(rt.alloc(), all.as_slice());
-        assert!(rt; answer.err() == Some(ReplayError::Bad { line, kind }));
+        let found = check(rt.alloc(), all.as_slice()).err();
+        assert!(rt;
+            found == Some(ReplayError::Bad { line, kind }),
+            "{more:?}: {found:?}"
+        );
     }
     Ok(())
 }
 
 /// What stands in place of the events' lines, with the line that is refused and the kind.
-const AMONG: [(&'static [u8], u32, ReplayKind); 9] = [
-    (b"", 5, ReplayKind::Missing),
-    (b"end 1\n", 5, ReplayKind::Count),
-    (b"end 4294967296\n", 5, ReplayKind::Count),
-    (b"end 0", 5, ReplayKind::Syntax),
-    (b"end 00\n", 5, ReplayKind::Syntax),
-    (b"end\n", 5, ReplayKind::Syntax),
-    (b"events\n", 5, ReplayKind::Syntax),
-    (b"admit 0 ap 0\nadmit 1 ap 1\n", 7, ReplayKind::Missing),
-    (b"admit 0 ap 0\nend 2", 6, ReplayKind::Syntax),
+const AMONG: [(&'static str, u32, ReplayKind); 9] = [
+    ("", 5, ReplayKind::Missing),
+    ("end 1\n", 5, ReplayKind::Count),
+    ("end 4294967296\n", 5, ReplayKind::Count),
+    ("end 0", 5, ReplayKind::Syntax),
+    ("end 00\n", 5, ReplayKind::Syntax),
+    ("end\n", 5, ReplayKind::Syntax),
+    ("events\n", 5, ReplayKind::Syntax),
+    ("admit 0 ap 0\nadmit 1 ap 1\n", 7, ReplayKind::Missing),
+    ("admit 0 ap 0\nend 2", 6, ReplayKind::Syntax),
 ];
 
 #[test]
 fn what_stands_among_the_events(rt: HostRuntime) -> Result<(), Fail> {
     for &(more, line, kind) in AMONG.iter() {
         let mut all = Vec::from_slice(rt.alloc(), b"cpuhp journal 1\ncpus 2\nabsent -\nevents\n")?;
-        all.extend_from_slice(more)?;
-        let answer = check(rt.alloc(), all.as_slice());
-        assert!(rt; answer.err() == Some(ReplayError::Bad { line, kind }));
+        all.extend_from_slice(more.as_bytes())?;
+        let found = check(rt.alloc(), all.as_slice()).err();
+        assert!(rt;
+            found == Some(ReplayError::Bad { line, kind }),
+            "{more:?}: {found:?}"
+        );
     }
     Ok(())
 }
 
-/// Lines that can't stand in place of the text's, with their numbers.
+/// Lines that can't stand in place of the journal's, with their numbers.
 const UNLAWFUL: [Change; 16] = [
     (8, b"admit 1 ap 0\n"),
     (8, b"admit 2 ap 1\n"),
@@ -127,5 +154,10 @@ const UNLAWFUL: [Change; 16] = [
 
 #[test]
 fn an_event_that_cannot_stand(rt: HostRuntime) -> Result<(), Fail> {
-    assert_refusals(&rt, rt.alloc(), TEXT, &UNLAWFUL)
+    assert_refusals(
+        &rt,
+        rt.alloc(),
+        INSTANCE_FAULT.journal.as_bytes(),
+        &UNLAWFUL,
+    )
 }

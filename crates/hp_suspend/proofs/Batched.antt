@@ -19,12 +19,11 @@ use Rattle.hp_model.specs.Settled.{settled}
 use Rattle.hp_model.specs.Suspend.{is_ok}
 use Rattle.hp_model.proofs.Laws.{begun_push, answers_push}
 use Rattle.hp_model.proofs.Counts.{occurs-append}
-use Rattle.hp_model.proofs.ListLemmas.{occurs-filter}
+use Rattle.hp_model.proofs.ListLemmas.{occurs-filter, filter_both}
 use Rattle.hp_suspend.specs.Batching.{IsBatching}
 use Rattle.hp_suspend.specs.Tables.{AreSettled}
 use Rattle.hp_suspend.specs.declared.batch.Batch.{Batch}
 use Rattle.hp_suspend.proofs.Places.{among_places, said_at}
-use Rattle.hp_suspend.proofs.Rows.{filter_both}
 use Rattle.hp_suspend.proofs.Taking.{failed_more}
 
 -- whether one is of the batch

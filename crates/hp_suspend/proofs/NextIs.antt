@@ -21,9 +21,10 @@ use Rattle.hp_model.specs.Sequence.{Next, walks, ends, begun, answers, failures,
 use Rattle.hp_model.specs.Lawful.{IsLawful}
 use Rattle.hp_model.proofs.Counts.{occurs-append}
 use Rattle.hp_model.proofs.Operations.{in_filter}
+use Rattle.hp_model.proofs.ListLemmas.{filter_both}
 use Rattle.hp_suspend.specs.Booting.{is_fault, faults}
 use Rattle.hp_suspend.proofs.Places.{slice_get-seam}
-use Rattle.hp_suspend.proofs.Rows.{Once, apart, filter_both, all_pass}
+use Rattle.hp_suspend.proofs.Rows.{Once, apart, all_pass}
 use Rattle.hp_suspend.proofs.Sequenced.{walks_many, walks_from, concerned, task, InSequence, Sequenced}
 use Rattle.hp_suspend.proofs.Todo.{once_of, undone_is, stands_same, freeze_is, todo_is}
 use Rattle.hp_suspend.proofs.SequenceKept.{sequenced}

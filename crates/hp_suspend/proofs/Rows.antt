@@ -7,7 +7,7 @@ use Rattle.std.proofs.lemmas.List.Elements.{filter-append, filter_agree}
 use Rattle.std.proofs.lemmas.Bool.{ltb-true, lt-ltb}
 use Rattle.hp_model.specs.Lists.{occurs, among, numbers}
 use Rattle.hp_model.proofs.Counts.{occurs-append}
-use Rattle.hp_model.proofs.ListLemmas.{occurs-filter, occurs-numbers}
+use Rattle.hp_model.proofs.ListLemmas.{occurs-filter, occurs-numbers, filter_both}
 use Rattle.hp_model.proofs.Operations.{once_in, in_filter}
 
 abbrev pub Once : List ℕ → Type 0
@@ -30,18 +30,6 @@ once_numbers n c = rw (occurs-numbers c n) (go (ltb c n))
 -- a number of the first part isn't one of the second
 pub apart : (xs ys : List ℕ) (c : ℕ) → Once (xs ++ ys) → 0 < occurs c ys → occurs c xs ≡ 0
 apart xs ys c h k = let l = rw (occurs-append c xs ys) at (h c) in omega arith
-
-pub filter_both : (p q : ℕ → Bool) (xs : List ℕ) → filter p (filter q xs) ≡ filter (λ x. p x && q x) xs
-filter_both p q [] = refl
-filter_both p q (x ∷ xs) = go (p x) (q x) refl refl (filter_both p q xs)
-  where
-    go : (a b : Bool) → p x ≡ a → q x ≡ b → filter p (filter q xs) ≡ filter (λ x. p x && q x) xs →
-        filter p (cond b (x ∷ filter q xs) (filter q xs))
-        ≡ cond (a && b) (x ∷ filter (λ x. p x && q x) xs) (filter (λ x. p x && q x) xs)
-    go true true e f h = rw (e, h) refl
-    go true false e f h = h
-    go false true e f h = rw e h
-    go false false e f h = h
 
 -- two tests that agree on the numbers of a list
 pub agree_in : (p q : ℕ → Bool) (xs : List ℕ) → ((c : ℕ) → 0 < occurs c xs → p c ≡ q c) → filter p xs ≡ filter q xs

@@ -25,7 +25,8 @@ use Rattle.hp_model.proofs.HeadlineProof.{lawful_more}
 use Rattle.hp_model.proofs.OneNext.{owners}
 use Rattle.hp_model.proofs.Operations.{once_in}
 use Rattle.hp_model.proofs.Owners.{Owners, map_free, alone_at, over_at_rest, same_some, none_some}
-use Rattle.hp_suspend.proofs.Rows.{is_among, filter_both, listed_front, listed_none}
+use Rattle.hp_model.proofs.ListLemmas.{filter_both}
+use Rattle.hp_suspend.proofs.Rows.{is_among, listed_front, listed_none}
 use Rattle.hp_suspend.proofs.Stuck.{faults_come}
 use Rattle.hp_suspend.proofs.Sequenced.{walks_many, task, Recording, InSequence, IsSingle, Sequenced}
 use Rattle.hp_suspend.proofs.Todo.{once_of}

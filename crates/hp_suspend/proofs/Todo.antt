@@ -18,7 +18,8 @@ use Rattle.hp_model.specs.Processors.{is_present, online}
 use Rattle.hp_model.specs.Suspend.{is_freeze, is_thaw, frozen, wakeup_pending}
 use Rattle.hp_model.specs.Sequence.{begun, answers, failures, primary_of, walks, first_next, boot_next, freeze_next, to_boot, to_freeze, to_thaw, next}
 use Rattle.hp_model.proofs.Operations.{not_walk, same_cpu}
-use Rattle.hp_suspend.proofs.Rows.{Once, once_filter, once_numbers, filter_both, left_over}
+use Rattle.hp_model.proofs.ListLemmas.{filter_both}
+use Rattle.hp_suspend.proofs.Rows.{Once, once_filter, once_numbers, left_over}
 use Rattle.hp_suspend.proofs.Sequenced.{walks_many, walks_from, aim, concerned, task, InSequence}
 
 -- no processor comes twice

@@ -4,6 +4,7 @@ pub mod Thawing
 pub mod Booting
 pub mod Asked
 pub mod ByLists
+pub mod ByJournal
 pub mod Quiet
 pub mod Batching
 pub mod Turns

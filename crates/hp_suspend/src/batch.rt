@@ -1,16 +1,14 @@
 //! The walks of an upmany.
 
-ghost use Rattle.std.specs.Prelude.{◌≡◌, ℕ, ◌+◌, ◌<◌, ◌≤◌, Some, List, [], ◌∷◌, ◌++◌, length, slice_get, slice_index, nat_lt, true, not, ◌==◌, ◌&&◌};
-ghost use Rattle.hp_states.specs.declared.limits.TheConstants.{MAX_CPUS as MAX_CPUS_OF, MAX_CPU_SET, MAX_EVENTS, ONLINE as ONLINE_OF};
+ghost use Rattle.std.specs.Prelude.{◌≡◌, ℕ, ◌+◌, ◌<◌, ◌≤◌, List, [], ◌∷◌, ◌++◌, length, true, not, ◌==◌, ◌&&◌};
+ghost use Rattle.hp_states.specs.declared.limits.TheConstants.{MAX_CPUS as MAX_CPUS_OF, MAX_CPU_SET, MAX_EVENTS};
 ghost use Rattle.hp_states.specs.CpuSets.{has};
 ghost use Rattle.hp_event.specs.declared.op.Op.TheVariants as op;
 ghost use Rattle.hp_event.specs.declared.head.Head.{Head};
 ghost use Rattle.hp_event.specs.declared.event.Event.{Event};
-ghost use Rattle.hp_event.specs.declared.event.Event.TheVariants.{Enter, WalkBegin, WalkEnd};
-ghost use Rattle.hp_model.specs.Batch.{to_begin};
-ghost use Rattle.hp_model.specs.MapLock.{Operation, operation};
-ghost use Rattle.hp_model.specs.Lawful.{IsLawful};
-ghost use Rattle.hp_suspend.specs.Batching.{IsBatching};
+ghost use Rattle.hp_event.specs.declared.event.Event.TheVariants.{Enter};
+ghost use Rattle.hp_suspend.specs.Batching.{IsBatching, BatchBegan, BatchTook};
+ghost use Rattle.hp_suspend.specs.ByJournal.{IsNextOfBatch};
 ghost use Rattle.hp_suspend.specs.Tables.{AreSettled};
 
 use hp_event::Answer;
@@ -29,10 +27,11 @@ pub struct Batch {
 }
 
 impl Batch {
-    /// The upmany of these processors that has just entered, with no walk begun: its batch are those that
-    /// aren't up.
+    /// The upmany of these processors that has just entered, with no walk begun: its batch are
+    /// those that aren't up.
     ///
-    /// `settled` says where each possible processor stands. Takes no memory, and a time linear in the list.
+    /// `settled` says where each possible processor stands. Takes no memory, and a time linear in
+    /// the list.
     pub fn begin(set: &CpuSet, settled: &[u32]) -> Batch
         requires few { length settled.now ≤ MAX_CPUS_OF }
         ensures { (head : Head) (before : List Event) (seat : ℕ) → AreSettled head before settled.now →
@@ -55,14 +54,13 @@ impl Batch {
     ///
     /// Takes no memory, and a time that doesn't grow with the processors.
     pub fn next(&self) -> Option<u32>
-        ensures { (head : Head) (events : List Event) (o : Operation) (set : _) → IsLawful head events →
-            operation events ≡ Some o → o.op ≡ op.UpMany set → IsBatching head o.before events set self.now →
-            result ≡ slice_get (to_begin head events) 0 }
+        ensures { IsNextOfBatch self.now result }
     {
         self.left.first_from(0)
     }
 
-    /// Whether a processor is one of the batch that hasn't begun. The number is at most 255. Takes no memory.
+    /// Whether a processor is one of the batch that hasn't begun. The number is at most 255. Takes
+    /// no memory.
     pub fn is_left(&self, cpu: u32) -> bool
         requires { cpu < MAX_CPU_SET }
         ensures { result ≡ has self.now.left cpu }
@@ -87,10 +85,7 @@ impl Batch {
     /// The walk of a processor has begun, which `next` has answered. Takes no memory.
     pub fn began(&mut self, cpu: u32)
         requires { cpu < MAX_CPUS_OF }
-        ensures batching { (head : Head) (events : List Event) (o : Operation) (set : _) (seat stood to : ℕ) → IsLawful head events →
-            operation events ≡ Some o → o.op ≡ op.UpMany set → IsBatching head o.before events set self.old →
-            slice_get (to_begin head events) 0 ≡ Some cpu →
-            IsBatching head o.before (events ++ WalkBegin seat cpu stood to ∷ []) set self.new }
+        ensures batching { BatchBegan self.old cpu self.new }
         ensures left { (c : ℕ) → has self.new.left c ≡ (not (c == cpu) && has self.old.left c) }
         ensures begun { self.new.begun ≡ true }
     {
@@ -103,9 +98,7 @@ impl Batch {
     /// Fewer walks failed than a journal has room for, as is so of any journal. Takes no memory.
     pub fn took(&mut self, answer: Answer)
         requires { self.old.failed < MAX_EVENTS }
-        ensures batching { (head : Head) (entered events : List Event) (set : _) (seat cpu : ℕ) →
-            IsBatching head entered events set self.old →
-            IsBatching head entered (events ++ WalkEnd seat cpu answer ∷ []) set self.new }
+        ensures batching { BatchTook self.old answer self.new }
         ensures one_more { self.new.failed ≤ self.old.failed + 1 }
     {
         if !answer.is_ok() {

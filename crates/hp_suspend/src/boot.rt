@@ -1,19 +1,13 @@
 //! The walks of a boot.
 
-ghost use Rattle.std.specs.Prelude.{◌≡◌, ℕ, ◌+◌, ◌<◌, ◌≤◌, Some, List, [], ◌∷◌, ◌++◌, length, filter, slice_get, slice_index_or, false, not, ◌&&◌};
+ghost use Rattle.std.specs.Prelude.{◌≡◌, ℕ, ◌+◌, ◌<◌, ◌≤◌, Some, List, [], ◌∷◌, ◌++◌, length, slice_get};
 ghost use Rattle.hp_event.specs.declared.op.Op.TheVariants as op;
-ghost use Rattle.hp_event.specs.declared.head.Head.{Head};
 ghost use Rattle.hp_event.specs.declared.event.Event.{Event};
 ghost use Rattle.hp_event.specs.declared.event.Event.TheVariants.{Enter, WalkEnd};
-ghost use Rattle.hp_model.specs.Lists.{numbers};
-ghost use Rattle.hp_model.specs.Walks.{walking};
-ghost use Rattle.hp_model.specs.MapLock.{Operation, operation};
-ghost use Rattle.hp_model.specs.Sequence.{next as next_of};
-ghost use Rattle.hp_model.specs.Lawful.{IsLawful};
 ghost use Rattle.hp_suspend.specs.Asked.{meaning};
-ghost use Rattle.hp_suspend.specs.Tables.{ArePresent, AreOnline};
 ghost use Rattle.hp_suspend.specs.Booting.{IsBooting};
 ghost use Rattle.hp_suspend.specs.ByLists.{next_of_boot, boot_after, online_count, present_offline};
+ghost use Rattle.hp_suspend.specs.ByJournal.{IsNextOfBoot};
 
 use crate::asked::{Asked, WalkAsk};
 use crate::judged::is_fault;
@@ -49,24 +43,23 @@ impl Boot {
     /// What comes next: a walk, or the end of the boot with its answer.
     ///
     /// `present` says of each possible processor whether it is present, and `online` whether it is
-    /// online now. No more walks failed than a journal has room for. Of any such lists the answers are:
+    /// online now. No more walks failed than a journal has room for. Of any such lists the answers
+    /// are:
     /// - `Ended(Ok)` with the number of walks that failed, where `max` processors are online;
     /// - `Walk` to ONLINE of the lowest present processor that is offline, past as many of these as
     ///   walks turned back;
     /// - `Ended(Ok)` with that number, where there is none.
     ///
-    /// While the boot is in flight in a lawful journal and nothing walks, it is what the journal says:
-    /// those that are passed over were walked already. Takes no memory, and a time linear in the lists. After `bringup_nonboot_cpus` of
-    /// `kernel/cpu.c`; that it answers how many walks failed is this project's own.
+    /// While the boot is in flight in a lawful journal and nothing walks, it is what the journal
+    /// says: those that are passed over were walked already. Takes no memory, and a time linear in
+    /// the lists. After `bringup_nonboot_cpus` of `kernel/cpu.c`; that it answers how many walks
+    /// failed is this project's own.
     pub fn next(&self, present: &[bool], online: &[bool]) -> Asked
         requires few { length present.now ≤ MAX_CPUS }
         requires as_long { length online.now ≡ length present.now }
         requires failed { self.now.failed ≤ MAX_EVENTS }
         ensures by_lists { meaning result ≡ next_of_boot self.now present.now online.now }
-        ensures by_journal { (head : Head) (events : List Event) (o : Operation) (max : ℕ) → IsLawful head events →
-            operation events ≡ Some o → o.op ≡ op.Boot max → walking events ≡ [] → IsBooting max events self.now →
-            ArePresent head present.now → AreOnline head events online.now →
-            meaning result ≡ next_of head events o.before o.op }
+        ensures by_journal { IsNextOfBoot self.now present.now online.now (meaning result) }
     {
         let ended = Asked::Ended(Answer::Ok(self.failed as i32));
         if self.max <= count(online) {
@@ -80,8 +73,9 @@ impl Boot {
 
     /// Goes on past the walk that `next` asked for: `answer` is that walk's.
     ///
-    /// Fewer walks failed than a journal has room for, as is so of any journal. Takes no memory. After
-    /// `bringup_nonboot_cpus` of `kernel/cpu.c`; that it counts the failures is this project's own.
+    /// Fewer walks failed than a journal has room for, as is so of any journal. Takes no memory.
+    /// After `bringup_nonboot_cpus` of `kernel/cpu.c`; that it counts the failures is this
+    /// project's own.
     pub fn took(&mut self, answer: Answer)
         requires failed { self.old.failed < MAX_EVENTS }
         requires turned_back { self.old.turned_back < MAX_EVENTS }

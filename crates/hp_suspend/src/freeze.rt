@@ -1,27 +1,24 @@
 //! The walks of a freeze.
 
-ghost use Rattle.std.specs.Prelude.{◌≡◌, ℤ, ℕ, List, [], ◌∷◌, ◌++◌, ◌≤◌, length, filter, slice_get, slice_index_or, false, not, ◌&&◌, ◌==◌, Some};
+ghost use Rattle.std.specs.Prelude.{◌≡◌, ℕ, List, [], ◌∷◌, ◌++◌, ◌≤◌, length, filter, slice_get, slice_index_or, false, Some};
 ghost use Rattle.hp_event.specs.declared.op.Op.TheVariants as op;
 ghost use Rattle.hp_event.specs.declared.head.Head.{Head};
 ghost use Rattle.hp_event.specs.declared.event.Event.{Event};
-ghost use Rattle.hp_event.specs.declared.event.Event.TheVariants.{Enter, WalkEnd};
+ghost use Rattle.hp_event.specs.declared.event.Event.TheVariants.{Enter};
 ghost use Rattle.hp_model.specs.Lists.{among, numbers};
-ghost use Rattle.hp_model.specs.Sequence.{first_of, primary_of, next as next_of};
-ghost use Rattle.hp_model.specs.Walks.{walking};
-ghost use Rattle.hp_model.specs.MapLock.{Operation, operation};
-ghost use Rattle.hp_model.specs.Suspend.{wakeup_pending};
-ghost use Rattle.hp_model.specs.Lawful.{IsLawful};
+ghost use Rattle.hp_model.specs.Sequence.{first_of, primary_of};
 ghost use Rattle.hp_suspend.specs.Asked.{meaning};
 ghost use Rattle.hp_suspend.specs.Tables.{AreOnline};
-ghost use Rattle.hp_suspend.specs.Freezing.{IsFreezing};
+ghost use Rattle.hp_suspend.specs.Freezing.{IsFreezing, FreezeTook};
 ghost use Rattle.hp_suspend.specs.ByLists.{next_of_freeze, freeze_after, online_but};
+ghost use Rattle.hp_suspend.specs.ByJournal.{IsNextOfFreeze};
 
 use crate::asked::{Asked, WalkAsk};
 use hp_event::Answer;
 use hp_states::{EBUSY, MAX_CPUS, OFFLINE};
 
-/// A freeze on its way over the processors: the one that it leaves online, and the answer that ended
-/// it early, if one did.
+/// A freeze on its way over the processors: the one that it leaves online, and the answer that
+/// ended it early, if one did.
 ///
 /// It is plain data and takes no memory. After `freeze_secondary_cpus` of `kernel/cpu.c`.
 #[derive(Clone, Copy)]
@@ -31,12 +28,12 @@ pub struct Freeze {
 }
 
 impl Freeze {
-    /// The freeze that has just entered, with no walk behind it. It leaves processor `primary` online
-    /// where that is online, and else the lowest one that is.
+    /// The freeze that has just entered, with no walk behind it. It leaves processor `primary`
+    /// online where that is online, and else the lowest one that is.
     ///
     /// `online` says of each possible processor whether it is online, which some processor is: of a
-    /// list without one, processor 0 would be left. Any number may be asked for. Takes no memory, and
-    /// a time linear in the list. After `freeze_secondary_cpus` of `kernel/cpu.c`.
+    /// list without one, processor 0 would be left. Any number may be asked for. Takes no memory,
+    /// and a time linear in the list. After `freeze_secondary_cpus` of `kernel/cpu.c`.
     pub fn begin(primary: i32, online: &[bool]) -> Freeze
         requires { length online.now ≤ MAX_CPUS }
         ensures { (head : Head) (before : List Event) (seat : ℕ) → AreOnline head before online.now →
@@ -63,11 +60,7 @@ impl Freeze {
     pub fn next(&self, online: &[bool], wakeup: bool) -> Asked
         requires { length online.now ≤ MAX_CPUS }
         ensures by_lists { meaning result ≡ next_of_freeze self.now online.now wakeup }
-        ensures by_journal { (head : Head) (events : List Event) (o : Operation) (primary : ℤ) → IsLawful head events →
-            operation events ≡ Some o → o.op ≡ op.Freeze primary → walking events ≡ [] →
-            IsFreezing head o.before events primary self.now →
-            AreOnline head events online.now → wakeup ≡ wakeup_pending events →
-            meaning result ≡ next_of head events o.before o.op }
+        ensures by_journal { IsNextOfFreeze self.now online.now wakeup (meaning result) }
     {
         if let Some(answer) = self.ended {
             return Asked::Ended(answer);
@@ -84,9 +77,7 @@ impl Freeze {
     /// The first answer that isn't Ok ends the freeze, and what comes after it changes nothing.
     /// Takes no memory. After `freeze_secondary_cpus` of `kernel/cpu.c`.
     pub fn took(&mut self, answer: Answer)
-        ensures freezing { (head : Head) (entered events : List Event) (primary : ℤ) (seat cpu : ℕ) →
-            IsFreezing head entered events primary self.old →
-            IsFreezing head entered (events ++ WalkEnd seat cpu answer ∷ []) primary self.new }
+        ensures freezing { FreezeTook self.old answer self.new }
         ensures kept { self.new ≡ freeze_after self.old answer }
     {
         if self.ended.is_none() && !answer.is_ok() {

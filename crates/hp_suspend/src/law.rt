@@ -15,7 +15,7 @@ ghost use Rattle.hp_suspend.specs.Quiet.{is_quiet, is_walk_begin};
 ghost use Rattle.hp_suspend.specs.Freezing.{IsFreezing};
 ghost use Rattle.hp_suspend.specs.Thawing.{IsThawing};
 ghost use Rattle.hp_suspend.specs.Booting.{IsBooting};
-ghost use Rattle.hp_suspend.specs.Batching.{IsBatching};
+ghost use Rattle.hp_suspend.specs.Batching.{IsBatching, LeavesBatch};
 
 use hp_event::{Event, Head};
 
@@ -29,8 +29,7 @@ pub fn others_change_nothing(event: &Event)
         IsThawing events t → IsThawing (events ++ event.now ∷ []) t }
     ensures boot { (max : ℕ) (events : List AnEvent) (b : ABoot) →
         IsBooting max events b → IsBooting max (events ++ event.now ∷ []) b }
-    ensures batch { is_walk_begin event.now ≡ false → (head : AHead) (entered events : List AnEvent) (set : CpuSet) (b : ABatch) →
-        IsBatching head entered events set b → IsBatching head entered (events ++ event.now ∷ []) set b }
+    ensures batch { is_walk_begin event.now ≡ false → LeavesBatch event.now }
 {}
 
 /// After a lawful journal the record of the last freeze is in rising number, and of possible
@@ -40,7 +39,8 @@ pub fn record_rises(head: &Head, events: &[Event])
         frozen events.now ≡ filter (λ c. among c (frozen events.now)) (numbers head.now.possible) }
 {}
 
-/// After any journal no more walks of a thaw, a boot or an upmany have failed than there are events.
+/// After any journal no more walks of a thaw, a boot or an upmany have failed than there are
+/// events.
 pub fn failures_are_few(events: &[Event])
     ensures thaw { (t : AThaw) → IsThawing events.now t → t.failed ≤ length events.now }
     ensures boot { (max : ℕ) (b : ABoot) → IsBooting max events.now b →

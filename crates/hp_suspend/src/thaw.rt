@@ -1,19 +1,13 @@
 //! The walks of a thaw.
 
-ghost use Rattle.std.specs.Prelude.{◌≡◌, ℕ, ◌+◌, ◌<◌, ◌≤◌, Some, List, [], ◌∷◌, ◌++◌, length, filter, slice_get, slice_index, slice_index_or, nat_lt, false, ◌&&◌};
+ghost use Rattle.std.specs.Prelude.{◌≡◌, ℕ, ◌+◌, ◌<◌, ◌≤◌, Some, List, [], ◌∷◌, ◌++◌, length, slice_get};
 ghost use Rattle.hp_event.specs.declared.op.Op.TheVariants as op;
-ghost use Rattle.hp_event.specs.declared.head.Head.{Head};
 ghost use Rattle.hp_event.specs.declared.event.Event.{Event};
 ghost use Rattle.hp_event.specs.declared.event.Event.TheVariants.{Enter, WalkEnd};
-ghost use Rattle.hp_model.specs.Lists.{numbers};
-ghost use Rattle.hp_model.specs.Walks.{walking};
-ghost use Rattle.hp_model.specs.MapLock.{Operation, operation};
-ghost use Rattle.hp_model.specs.Sequence.{next as next_of};
-ghost use Rattle.hp_model.specs.Lawful.{IsLawful};
 ghost use Rattle.hp_suspend.specs.Asked.{meaning};
-ghost use Rattle.hp_suspend.specs.Tables.{AreFrozen, AreSettled};
 ghost use Rattle.hp_suspend.specs.Thawing.{IsThawing};
 ghost use Rattle.hp_suspend.specs.ByLists.{next_of_thaw, thaw_after, frozen_below};
+ghost use Rattle.hp_suspend.specs.ByJournal.{IsNextOfThaw};
 
 use crate::asked::{Asked, WalkAsk};
 use hp_event::Answer;
@@ -43,22 +37,20 @@ impl Thaw {
     /// `frozen` says of each possible processor whether it is in the record of the last freeze, and
     /// `settled` where it stands now. No more walks failed than a journal has room for. Of any such
     /// lists the answers are:
-    /// - `Walk` to ONLINE of the lowest processor of the record that is below ONLINE, past as many of
-    ///   these as walks failed;
+    /// - `Walk` to ONLINE of the lowest processor of the record that is below ONLINE, past as many
+    ///   of these as walks failed;
     /// - `Ended(Ok)` with the number of walks that failed, where there is none.
     ///
-    /// While the thaw is in flight in a lawful journal and nothing walks, it is what the journal says:
-    /// those that are passed over were walked already. Takes no memory, and a time linear in the lists. After `thaw_secondary_cpus` of `kernel/cpu.c`;
-    /// that it answers how many walks failed is this project's own.
+    /// While the thaw is in flight in a lawful journal and nothing walks, it is what the journal
+    /// says: those that are passed over were walked already. Takes no memory, and a time linear in
+    /// the lists. After `thaw_secondary_cpus` of `kernel/cpu.c`; that it answers how many walks
+    /// failed is this project's own.
     pub fn next(&self, frozen: &[bool], settled: &[u32]) -> Asked
         requires few { length frozen.now ≤ MAX_CPUS }
         requires as_long { length settled.now ≡ length frozen.now }
         requires failed { self.now.failed ≤ MAX_EVENTS }
         ensures by_lists { meaning result ≡ next_of_thaw self.now frozen.now settled.now }
-        ensures by_journal { (head : Head) (events : List Event) (o : Operation) → IsLawful head events →
-            operation events ≡ Some o → o.op ≡ op.Thaw → walking events ≡ [] → IsThawing events self.now →
-            AreFrozen head events frozen.now → AreSettled head events settled.now →
-            meaning result ≡ next_of head events o.before o.op }
+        ensures by_journal { IsNextOfThaw self.now frozen.now settled.now (meaning result) }
     {
         match first_left(self.failed, frozen, settled) {
             None => Asked::Ended(Answer::Ok(self.failed as i32)),
@@ -68,8 +60,9 @@ impl Thaw {
 
     /// Goes on past the walk that `next` asked for: `answer` is that walk's.
     ///
-    /// Fewer walks failed than a journal has room for, as is so of any journal. Takes no memory. After
-    /// `thaw_secondary_cpus` of `kernel/cpu.c`; that it counts the failures is this project's own.
+    /// Fewer walks failed than a journal has room for, as is so of any journal. Takes no memory.
+    /// After `thaw_secondary_cpus` of `kernel/cpu.c`; that it counts the failures is this project's
+    /// own.
     pub fn took(&mut self, answer: Answer)
         requires { self.old.failed < MAX_EVENTS }
         ensures thawing { (events : List Event) (seat cpu : ℕ) → IsThawing events self.old →

@@ -10,8 +10,8 @@ use std::marker::Model;
 
 /// The processors with whose walks the seat of an upmany goes on, in the order of their turns.
 ///
-/// Contracts see them, and for how many there is room (`Queue`). After a round-robin run queue; this
-/// project's own.
+/// Contracts see them, and for how many there is room (`Queue`). After a round-robin run queue;
+/// this project's own.
 #[derive(Drop)]
 pub struct Turns {
     cpus: VecDeque<u32>,
@@ -49,12 +49,12 @@ impl Turns {
         self.cpus.front().copied()
     }
 
-    /// An event was made of the walk of a processor: takes that processor from the front, if it stands
-    /// there, and puts it at the end where the next event of its walk is the seat's own.
+    /// An event was made of the walk of a processor: takes that processor from the front, if it
+    /// stands there, and puts it at the end where the next event of its walk is the seat's own.
     ///
     /// Where it is put at the end there is room for it, as in a queue with room for each possible
-    /// processor of a lawful journal. The order of the others stays. Takes no memory, and a constant
-    /// time. This project's own.
+    /// processor of a lawful journal. The order of the others stays. Takes no memory, and a
+    /// constant time. This project's own.
     pub fn moved(&mut self, cpu: u32, own: bool)
         requires { own ≡ true → length (from_front cpu self.old.cpus) < self.old.room }
         ensures cpus { self.new.cpus ≡ at_end own cpu (from_front cpu self.old.cpus) }

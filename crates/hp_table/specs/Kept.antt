@@ -1,13 +1,14 @@
--- What contracts see of a record: its subsystem, which callbacks it has, and what its hook has counted; of a hook that is lent, as it was
--- lent. After the fields of `struct cpuhp_step` of `kernel/cpu.c`; that one hook with a plan stands for both callbacks is this project's
--- own.
+-- What contracts see of a record: its subsystem, which callbacks it has, and what its hook has counted; of a hook that
+-- is lent, as it was lent. After the fields of `struct cpuhp_step` of `kernel/cpu.c`; that one hook with a plan stands
+-- for both callbacks is this project's own.
 use Rattle.std.specs.Prelude.{ℕ, Bool, true, false, Option, Some, None, List, []}
 use Rattle.hp_states.specs.declared.plan.Rule.{Rule}
 use Rattle.hp_states.specs.Rules.{Site}
 use Rattle.std.specs.declared.snapshot.Snapshot.{Snapshot}
 use Rattle.hp_hook.specs.Counted.{Counts, answer_to, counted, loaded as loaded_with}
 
--- the subsystem's number, whether it has an instance list, a startup and a teardown, whether its hook is there, and what that has counted
+-- the subsystem's number, whether it has an instance list, a startup and a teardown, whether its hook is there, and
+-- what that has counted
 pub record Kept : Type 0 where
   pub sub : ℕ
   pub multi : Bool

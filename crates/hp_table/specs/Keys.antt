@@ -1,5 +1,5 @@
--- The keys of states, and how many they are. A key is a state and an instance: a state with an instance list has a key for each
--- instance, a state without one has a key of its own. After `cpuhp_invoke_callback` of `kernel/cpu.c`.
+-- The keys of states, and how many they are. A key is a state and an instance: a state with an instance list has a key
+-- for each instance, a state without one has a key of its own. After `cpuhp_invoke_callback` of `kernel/cpu.c`.
 use Rattle.std.specs.Prelude.{ℕ, ◌+◌, if◌then◌else◌, Option, Some, None, List, [], ◌∷◌, length, take, drop, sum_by}
 use Rattle.hp_table.specs.Step.{Step, step_at}
 

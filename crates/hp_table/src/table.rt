@@ -126,8 +126,8 @@ impl<H: Hook> Table<H> {
     /// - `Busy` exactly where it is between them and has a name, built in or registered.
     ///
     /// There is no other answer. A refusal hands the record back, and the table is as before. The
-    /// record's hook is there. Takes no memory. After `cpuhp_store_callbacks` of `kernel/cpu.c`, and `cpuhp_cb_check` for
-    /// the first refusal.
+    /// record's hook is there. Takes no memory. After `cpuhp_store_callbacks` of `kernel/cpu.c`,
+    /// and `cpuhp_cb_check` for the first refusal.
     pub fn install(&mut self, state: u32, rec: Record<H>) -> Result<(), (TableError, Record<H>)>
         requires { rec.home ≡ true }
         ensures ok { IsOk result ↔ ((OFFLINE < state) × (state < ONLINE) × (is_named self.old state ≡ false)) }
@@ -154,9 +154,9 @@ impl<H: Hook> Table<H> {
     /// - `Invalid` exactly where nothing is registered there, which is so of a state above 200.
     /// - `Busy` exactly where it is registered and has instances left.
     ///
-    /// There is no other answer. After a refusal the table is as before. The hook of the state is not
-    /// lent. Takes no memory. After `__cpuhp_remove_state_cpuslocked` of `kernel/cpu.c`, which warns where instances are left;
-    /// the refusals are this project's own.
+    /// There is no other answer. After a refusal the table is as before. The hook of the state is
+    /// not lent. Takes no memory. After `__cpuhp_remove_state_cpuslocked` of `kernel/cpu.c`, which
+    /// warns where instances are left; the refusals are this project's own.
     pub fn uninstall(&mut self, state: u32) -> Result<Record<H>, TableError>
         requires { is_home (step_at self.old state) ≡ true }
         ensures ok { IfOk result (λ rec. step_at self.old state ≡ Some (bare rec)) }
@@ -206,8 +206,9 @@ impl<H: Hook> Table<H> {
     /// what it answers. All else stays.
     ///
     /// The state is registered, its hook is not lent, and the hook's `made` is below 1,048,576, the
-    /// most events of a journal. `inst` is 0 at a state without an instance list. Takes no memory, and a time that
-    /// doesn't grow with the table. After `cpuhp_invoke_callback` of `kernel/cpu.c`.
+    /// most events of a journal. `inst` is 0 at a state without an instance list. Takes no memory,
+    /// and a time that doesn't grow with the table. After `cpuhp_invoke_callback` of
+    /// `kernel/cpu.c`.
     pub fn call(&mut self, state: u32, cpu: u32, inst: u32, dir: Dir) -> u32
         requires registered { IsSome (step_at self.old state) }
         requires home { is_home (step_at self.old state) ≡ true }
@@ -225,8 +226,8 @@ impl<H: Hook> Table<H> {
 
     /// Loads the hook of a state with a plan, which begins its counts again at 0. All else stays.
     ///
-    /// The state is registered, and its hook is not lent. Takes no memory. That a hook has a plan is
-    /// this project's own.
+    /// The state is registered, and its hook is not lent. Takes no memory. That a hook has a plan
+    /// is this project's own.
     pub fn load(&mut self, state: u32, plan: HookPlan)
         requires registered { IsSome (step_at self.old state) }
         requires home { is_home (step_at self.old state) ≡ true }
@@ -250,8 +251,8 @@ impl<H: Hook> Table<H> {
         }
     }
 
-    /// Lends the hook of a state: it is out of the table until `restore`. All else stays, and of the
-    /// hook contracts see what it was as it was lent.
+    /// Lends the hook of a state: it is out of the table until `restore`. All else stays, and of
+    /// the hook contracts see what it was as it was lent.
     ///
     /// None exactly where nothing is registered at the state, or its hook is lent; then nothing has
     /// changed. Takes no memory. That hooks are lent is this project's own.

@@ -11,6 +11,7 @@ use Rattle.hp_model.specs.Faults.{Faulty, faults}
 use Rattle.hp_model.specs.Plan.{direction, plan}
 use Rattle.hp_model.specs.Shown.{shown_after}
 use Rattle.hp_model.proofs.NextSlot.{Tree, step, back_tree, walk_tree}
+use Rattle.hp_model.proofs.Cursor.{runs_more}
 use Rattle.hp_model.proofs.Path.{far_opposite}
 use Rattle.hp_walk.specs.declared.position.Position.{Position}
 use Rattle.hp_walk.specs.declared.position.Position.TheVariants.{Forward, UndoingPart, Back, RedoingPart, Ended}
@@ -20,7 +21,7 @@ use Rattle.hp_walk.specs.Asked.{asked, slot_of, entry_of}
 use Rattle.hp_walk.specs.After.{tree_at, tree_of, HasFaults, IsAt, IsWithin, IsAfter}
 use Rattle.hp_walk.specs.Took.{Took, IsNextOnTheWay, IsNextInRollback}
 use Rattle.hp_walk.proofs.Crossed.{IsBetween, some_key, crossed_ahead, crossed_behind, plan_next, plan_ahead_none, plan_behind_none, plan_behind_same}
-use Rattle.hp_walk.proofs.Steps.{runs_more, depth_below}
+use Rattle.hp_walk.proofs.Steps.{depth_below}
 use Rattle.hp_walk.proofs.Seen.{fault_at, faults_more, shown_more}
 
 -- the walk at another position, with another state shown

@@ -1,4 +1,4 @@
--- One entry more on the way down the tree of a plan, and how deep its trees are.
+-- What stands on the way down the tree of a plan, and how deep its trees are.
 use Rattle.std.proofs.Common.{◌≡◌, ℕ, zero, suc, ◌+◌, ◌*◌, ◌<◌, ◌≤◌, Bool, true, false, cond, List, [], ◌∷◌, ◌++◌, length, take, drop, refl, arith, length-append}
 use Rattle.std.specs.Prelude.{slice_index, sum_by}
 use Rattle.std.proofs.lemmas.List.{drop_more, take_more, length-take, get_or-take}
@@ -8,23 +8,13 @@ use Rattle.hp_states.specs.declared.dir.Dir.TheVariants.{Up, Down}
 use Rattle.hp_states.specs.declared.place.Place.{Place}
 use Rattle.hp_states.specs.declared.place.Place.TheVariants.{Forward, Back, Part}
 use Rattle.hp_states.specs.Sections.{opposite}
-use Rattle.hp_event.specs.declared.event.Event.{Event}
-use Rattle.hp_model.specs.Crossing.{Slot, Fits}
-use Rattle.hp_model.proofs.NextSlot.{with_fails, Tree, stop, dead, step, visit_tree, part_tree, back_tree, walk_tree}
-use Rattle.hp_model.proofs.Cursor.{Runs}
+use Rattle.hp_model.specs.Crossing.{Slot}
+use Rattle.hp_model.proofs.NextSlot.{Tree, stop, dead, step, visit_tree, part_tree, back_tree, walk_tree}
 use Rattle.hp_walk.specs.Left.{depth}
 
 pub opposite_opposite : (d : Dir) → opposite (opposite d) ≡ d
 opposite_opposite Up = refl
 opposite_opposite Down = refl
-
--- an entry that fits the slot of the step leads to what follows it
-pub runs_more : (t : Tree) (es : List Event) (s : Slot) (a b : Tree) (fails : Bool) (e : Event) → Runs t es (step s a b) →
-    Fits (with_fails s fails) e → Runs t (es ++ e ∷ []) (cond fails b a)
-runs_more t [] s a b fails e r f = rw r (fails, f, refl)
-runs_more stop (x ∷ es) s a b fails e r f = elim r [ ]
-runs_more dead (x ∷ es) s a b fails e r f = elim r [ ]
-runs_more (step z l m) (x ∷ es) s a b fails e r f = (r.0, r.1, runs_more (cond r.0 m l) es s a b fails e r.2 f)
 
 -- a visit that has come to a key
 pub visit_at : (c : ℕ) (p : Place) (d : Dir) (s : ℕ) (b : Bool) (xs : List ℕ) (k : ℕ) (then : Tree) (else : List ℕ → Tree) →

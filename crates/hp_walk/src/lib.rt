@@ -7,8 +7,8 @@
 //!
 //! Its contract: however the entries are made, if only each is made in a way that fits its place,
 //! the entries that `next` asks for are a walk along the plan of the table, as `WalkShape.antt` of
-//! hp_model defines it, and at its end `next` gives that walk's answer. `specs/After.antt` says what it means that a walk stands after some
-//! entries, `specs/Asked.antt` what it asks for next.
+//! hp_model defines it, and at its end `next` gives that walk's answer. `specs/After.antt` says
+//! what it means that a walk stands after some entries, `specs/Asked.antt` what it asks for next.
 #![tactic(auto)]
 
 mod position;

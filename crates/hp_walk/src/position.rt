@@ -15,8 +15,8 @@ pub enum Position {
         state: u32,
         key: u32,
     },
-    /// A key of the state faulted on the way to the target: the first `keys` of its keys, which come
-    /// before that one, are undone.
+    /// A key of the state faulted on the way to the target: the first `keys` of its keys, which
+    /// come before that one, are undone.
     UndoingPart {
         state: u32,
         key: u32,

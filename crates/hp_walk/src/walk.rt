@@ -118,9 +118,10 @@ impl Walk {
 
     /// Goes on past the entry that `next` asks for: `how` says how it was made.
     ///
-    /// `next` asks for an entry, and `how` fits its place: the entry is done, or it is a fault where
-    /// one may come. The keys of the table are those at `begin`. Takes no memory, and time for the
-    /// states up to the next with a key. After `cpuhp_invoke_callback_range` of `kernel/cpu.c`.
+    /// `next` asks for an entry, and `how` fits its place: the entry is done, or it is a fault
+    /// where one may come. The keys of the table are those at `begin`. Takes no memory, and time
+    /// for the states up to the next with a key. After `cpuhp_invoke_callback_range` of
+    /// `kernel/cpu.c`.
     pub fn took<H: Hook>(&mut self, table: &Table<H>, how: How)
         requires within { IsWithin (keys_by table.now) self.old }
         requires asked { FitsStep (asked (keys_by table.now) self.old) how }
@@ -155,8 +156,9 @@ impl Walk {
         self.shown
     }
 
-    /// The state that the processor's `target` file shows: where the walk goes to, and from its first
-    /// fault on where it began. Takes no memory. What the file shows in flight is this project's own.
+    /// The state that the processor's `target` file shows: where the walk goes to, and from its
+    /// first fault on where it began. Takes no memory. What the file shows in flight is this
+    /// project's own.
     pub fn target(&self) -> u32
         ensures { (keys : ℕ → List ℕ) (entries : List Event) → IsAfter keys entries self.now →
             result ≡ heading self.now.from self.now.to entries }
@@ -332,8 +334,8 @@ fn call<H: Hook>(
     }
 }
 
-/// Where a walk to a target stands that has reached a state: at the next state with a key, or at its
-/// end.
+/// Where a walk to a target stands that has reached a state: at the next state with a key, or at
+/// its end.
 fn next_on_the_way<H: Hook>(table: &Table<H>, dir: Dir, reached: u32, to: u32) -> Position
     requires { (reached ≤ ONLINE) × (to ≤ ONLINE) }
     ensures { IsNextOnTheWay (keys_by table.now) dir reached to result }

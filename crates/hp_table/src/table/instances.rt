@@ -80,8 +80,8 @@ impl<H: Hook> Table<H> {
         }
     }
 
-    /// The instance of a key of a state: the key's place is counted from 0 at the newest instance. A
-    /// state that is registered without an instance list has the instance 0.
+    /// The instance of a key of a state: the key's place is counted from 0 at the newest instance.
+    /// A state that is registered without an instance list has the instance 0.
     ///
     /// The state has more than `key` keys. Takes no memory, and a time that doesn't grow with the
     /// table. The order is that of the instance list of `struct cpuhp_step` of `kernel/cpu.c`.
@@ -157,8 +157,8 @@ impl<H: Hook> Table<H> {
 
     /// Whether a state, or the table, has as many instances as it may have: 256, or 4,096.
     ///
-    /// There is no condition; a state that isn't registered has none. Takes no memory, and a time that
-    /// doesn't grow with the table. The limits are this project's own.
+    /// There is no condition; a state that isn't registered has none. Takes no memory, and a time
+    /// that doesn't grow with the table. The limits are this project's own.
     pub fn has_no_room(&self, state: u32) -> bool
         ensures { result ≡ has_no_room self.now state }
     {
@@ -209,9 +209,9 @@ impl<H: Hook> Table<H> {
     /// Takes all instances out of a state, whose record stays. All other states stay.
     ///
     /// There is no condition: where nothing is registered, or there are no instances, nothing
-    /// changes. Takes no memory, and a time that doesn't grow with the table. A state with instances
-    /// isn't removed (`__cpuhp_remove_state_cpuslocked` of `kernel/cpu.c`); that they can be taken out
-    /// at once, where a table is given up, is this project's own.
+    /// changes. Takes no memory, and a time that doesn't grow with the table. A state with
+    /// instances isn't removed (`__cpuhp_remove_state_cpuslocked` of `kernel/cpu.c`); that they can
+    /// be taken out at once, where a table is given up, is this project's own.
     pub fn clear_instances(&mut self, state: u32)
         ensures { self.new ≡ changed_at self.old state (λ step. bare step.kept) }
     {

@@ -3,10 +3,10 @@ use Rattle.std.proofs.Common.{length, arith}
 use Rattle.hp_play.proofs.Scripts.{plays, enough}
 use Rattle.hp_play.proofs.commands.text_of_script.Goals as goal
 
-pub play-requires-clause-script : goal.play-requires-clause-script
-play-requires-clause-script g c = plays _ _ _ c.in-Ok.ensures.found
+pub text_played-requires-clause-script : goal.text_played-requires-clause-script
+text_played-requires-clause-script g c = plays _ _ _ c.in-Ok.ensures.found
 
-pub play-requires-clause-hooks : goal.play-requires-clause-hooks
-play-requires-clause-hooks g c =
+pub text_played-requires-clause-hooks : goal.text_played-requires-clause-hooks
+text_played-requires-clause-hooks g c =
     enough c.min-hooks.result (length c.args.rack.now.hooks.items) c.args.bytes.now c.in-Ok.script c.in-Ok.ensures.found
     (omega (arith, c.min-hooks.ensures, c.len.ensures))

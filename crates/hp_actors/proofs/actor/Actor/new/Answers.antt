@@ -1,15 +1,15 @@
 -- Each setup takes the last hook.
-use Rattle.std.proofs.Common.{◌≡◌, ◌+◌, is_some, ap, sym, subst, take, ◌∙◌, [], ◌∷◌, ◌++◌, map, arith}
+use Rattle.std.proofs.Common.{◌≡◌, is_some, ap, sym, subst, length, ◌∙◌, [], ◌∷◌, ◌++◌, map, arith}
 use Rattle.std.specs.Prelude.{slice_index_or}
 use Rattle.std.proofs.lemmas.List.{map-append}
 use Rattle.std.proofs.lemmas.List.Elements.{All-push}
 use Rattle.hp_event.specs.declared.op.Op.TheVariants.{Up}
-use Rattle.hp_ledger.specs.TableChanges.{is_setup}
-use Rattle.hp_script.specs.Playable.{setups_in}
+use Rattle.hp_account.specs.TableChanges.{is_setup}
 use Rattle.hp_actors.specs.Positions.{op_of}
-use Rattle.hp_actors.specs.Racks.{AreLoaded}
-use Rattle.hp_actors.proofs.Loading.{asks_taken}
-use Rattle.hp_actors.proofs.Taking.{setups_left, setups_met, take_at, rack_left, takes_more, counted_one, counted_same}
+use Rattle.hp_actors.specs.Actors.{AreLoaded, IsAgenda, agenda, wait_at}
+use Rattle.hp_actors.proofs.Agendas.{later_behind, same_place}
+use Rattle.hp_actors.proofs.Loading.{dealt_more}
+use Rattle.hp_actors.proofs.Taking.{setups_left, take_at, rack_left, counted_one, counted_same}
 use Rattle.hp_actors.proofs.actor.Actor.new.Goals as goal
 
 pub hook_for-hook-requires : goal.hook_for-hook-requires
@@ -37,12 +37,15 @@ loop-op-preserved g c =
           let left = setups_left c.args.ops.now c.loop-op.op-index (Up 0) c.loop-op-test.true in
           let r = rack_left c.loop-op.rack.hooks.items c.hook_for-hook.new.rack.hooks.items c.hook_for-hook.result e.last e.none in
           omega (arith, left, r, count, i.left);
-      taken =
-          takes_more c.args.rack.now.hooks.items c.loop-op.rack.hooks.items c.hook_for-hook.new.rack.hooks.items
-          c.hook_for-hook.result (setups_in (take c.loop-op.op-index c.args.ops.now))
-          (setups_in (take (c.loop-op.op-index + 1) c.args.ops.now)) i.taken e.last e.none
-          (setups_met c.args.ops.now c.loop-op.op-index (Up 0) c.loop-op-test.true ∙ ap (λ n. setups_in (take c.loop-op.op-index c.args.ops.now) + n) (sym count));
-      hooks =
-          asks_taken g.H.Hook.counts c.args.rack.now.hooks.items c.loop-op.rack.hooks.items c.hook_for-hook.new.rack.hooks.items
-          c.loop-op.asks.items c.push.new.self.items (record { op = op; hook = c.hook_for-hook.result }) i.hooks e.last e.none pushed;
+      dealt =
+          dealt_more c.args.rack.now.hooks.items c.loop-op.rack.hooks.items c.hook_for-hook.new.rack.hooks.items c.loop-op.asks.items
+          c.push.new.self.items (record { op = op; hook = c.hook_for-hook.result }) i.dealt e.last e.none pushed;
     }
+
+pub invariant_of-result : goal.invariant_of-result
+invariant_of-result g c =
+    let asks = c.loop-op.asks.items in
+    let first = same_place asks 0 (omega arith) (later_behind asks c.loop-op.invariant.loaded) in
+    let waits : c.first_wait-waits.result ≡ wait_at 0 (length asks) =
+    c.first_wait-waits.ensures ∙ ap (wait_at 0) (c.len.ensures ∙ c.loop-op.asks.ok.0) in
+    subst (λ w. IsAgenda (agenda asks 0 w)) (sym waits) first

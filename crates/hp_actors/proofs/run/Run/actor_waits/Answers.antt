@@ -7,7 +7,7 @@ use Rattle.hp_model.specs.MapLock.{Operation, operation, is_map_held}
 use Rattle.hp_model.specs.Processors.{present}
 use Rattle.hp_model.specs.ScriptTurns.{turn}
 use Rattle.hp_actors.specs.Positions.{Position, ops_of, progress_of}
-use Rattle.hp_actors.proofs.Knowing.{passed_over, passed_by, known_held, known_until}
+use Rattle.hp_actors.proofs.Knowing.{passed_over, passed_by, known_forever, known_held, known_until}
 use Rattle.hp_actors.proofs.run.Run.actor_waits.Given as given
 use Rattle.hp_actors.proofs.run.Run.actor_waits.Goals as goal
 use Rattle.hp_actors.proofs.run.Run.actor_waits.Goals.{In-Some}
@@ -52,7 +52,8 @@ returns-in-WhileMapHeld g c = λ yes.
     some_held (operation b.events) (ap is_some (sym c.holder.ensures) ∙ (sym c.is_some.ensures ∙ yes)) in
     subst (λ (p : Position). turn p.head p.actors p.progress (length (present p.head) + place) ≡ p.progress) c.self.view_is
     (passed_over b threads place seat actors c.in-Some.actor.now c.self.invariant.playing here at
-    (known_held b threads c.self.inside.last_end place actors c.in-Some.actor.now c.self.invariant.waits at c.in-WhileMapHeld.is held))
+    (known_held b threads c.self.inside.last_end place actors c.in-Some.actor.now c.self.invariant.waits at
+    (sym c.waits.ensures ∙ c.in-WhileMapHeld.is) held))
 
 pub returns-in-UntilEnd : goal.returns-in-UntilEnd
 returns-in-UntilEnd g c = λ yes.
@@ -66,4 +67,18 @@ returns-in-UntilEnd g c = λ yes.
     subst (λ (p : Position). turn p.head p.actors p.progress (length (present p.head) + place) ≡ p.progress) c.self.view_is
     (passed_over b threads place seat actors c.in-Some.actor.now c.self.invariant.playing here at
     (known_until b threads c.self.inside.last_end place c.in-UntilEnd.end actors c.in-Some.actor.now c.self.invariant.waits at
-    c.in-UntilEnd.is (eqb-true c.in-UntilEnd.end c.self.inside.last_end yes)))
+    (sym c.waits.ensures ∙ c.in-UntilEnd.is) (eqb-true c.in-UntilEnd.end c.self.inside.last_end yes)))
+
+pub returns-in-Forever : goal.returns-in-Forever
+returns-in-Forever g c = λ yes.
+    let threads : ℕ = c.self.inside.threads in
+    let place : ℕ = c.args.place in
+    let actors = c.self.inside.actors.items in
+    let b = c.self.inside.board in
+    let seat : ℕ = length (present c.self.inside.board.head) + place in
+    let here : threads + place ≡ seat = ap (λ n. n + place) c.self.invariant.playing.threads_are in
+    let at = looked_up g (goal.at.returns-in-Forever g c).In-Some in
+    subst (λ (p : Position). turn p.head p.actors p.progress (length (present p.head) + place) ≡ p.progress) c.self.view_is
+    (passed_over b threads place seat actors c.in-Some.actor.now c.self.invariant.playing here at
+    (known_forever b threads c.self.inside.last_end place actors c.in-Some.actor.now c.self.invariant.waits at
+    (sym c.waits.ensures ∙ c.in-Forever.is)))

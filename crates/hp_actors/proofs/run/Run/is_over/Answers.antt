@@ -41,7 +41,7 @@ returns-then-not-is_done g c =
     let at : slice_get actors c.loop-actor.actor-index ≡ Some c.actor-item.result =
     slice_get_read actors (length actors) c.loop-actor.actor-index c.actor-item.result refl c.loop-actor-test.true c.actor-item.is in
     let some : is_none (asked c.actor-item.result) ≡ false =
-    pending (slice_get c.actor-item.result.asks.items c.actor-item.result.answered) c.is_done.result c.is_done.ensures.1 c.if-not-is_done.true in
+    pending (slice_get c.actor-item.result.asks c.actor-item.result.answered) c.is_done.result c.is_done.ensures.1 c.if-not-is_done.true in
     let many : length c.args.self.now.actors ≡ length actors = ap length (sym i.ops) ∙ length-map actors ops_of in
     sym (not_over c.args.self.now.actors c.args.self.now.progress.answers c.loop-actor.actor-index (length c.args.self.now.actors)
     (omega (arith, many, c.loop-actor-test.true))

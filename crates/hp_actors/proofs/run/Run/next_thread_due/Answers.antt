@@ -1,6 +1,6 @@
 -- An entry that is due is of a processor of the machine.
 use Rattle.std.proofs.Common.{◌≤◌, IfSome, IfNone, subst}
-use Rattle.hp_ledger.specs.UnderWay.{IsThreadDue, NoThreadDue}
+use Rattle.hp_account.specs.UnderWay.{IsThreadDue, NoThreadDue}
 use Rattle.hp_actors.specs.Positions.{Position}
 use Rattle.hp_actors.proofs.ThreadSeats.{due_possible}
 use Rattle.hp_actors.proofs.run.Run.next_thread_due.Goals as goal

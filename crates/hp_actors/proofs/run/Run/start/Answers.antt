@@ -1,6 +1,6 @@
 -- The run is at its start.
 use Rattle.std.proofs.Common.{[], length, map, replicate, ap, ◌∙◌}
-use Rattle.hp_ledger.specs.TableChanges.{is_setup}
+use Rattle.hp_account.specs.TableChanges.{is_setup}
 use Rattle.hp_model.specs.Processors.{present}
 use Rattle.hp_model.specs.Admissions.{admissions}
 use Rattle.hp_board.proofs.Homes.{none_home}
@@ -29,7 +29,7 @@ invariant_of-result g c =
           opened_playing c.in_ok-board.board c.present_count-threads.result c.in_ok-actors.actors.items c.args.script.now.head
           c.args.script.now.actors o;
       waits =
-          none_known c.in_ok-board.board c.present_count-threads.result c.in_ok-actors.actors.items c.in_ok-actors.ensures.unmarked;
+          none_known c.in_ok-board.board c.present_count-threads.result c.in_ok-actors.actors.items c.in_ok-actors.ensures.fresh;
       home = none_home c.in_ok-board.board.places c.in_ok-board.ensures.none;
     }
 

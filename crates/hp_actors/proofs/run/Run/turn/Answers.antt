@@ -8,7 +8,7 @@ use Rattle.hp_actors.proofs.Knowing.{turn_knows}
 use Rattle.hp_actors.proofs.Playing.{lawful_of, allowed_of, turn_playing_at, turn_position_at, failed_position, no_seat}
 use Rattle.hp_model.specs.Pending.{IsAllowed}
 use Rattle.hp_model.specs.Processors.{present}
-use Rattle.hp_actors.specs.Asking.{HasHooks}
+use Rattle.hp_actors.specs.Asking.{HasHook}
 use Rattle.hp_actors.specs.Hooks.{KeepsHooks, turned}
 use Rattle.hp_actors.specs.Positions.{Position, position_of, ops_of}
 use Rattle.hp_actors.proofs.run.Run.turn.Goals as goal
@@ -26,8 +26,8 @@ returns-then-place-len-clause-ok g c =
     (none_stands (position_of g.H.Hook.counts b actors) c.args.seat place here beyond
     (no_seat b threads actors c.args.seat c.self.invariant.playing past))
 
-pub turn-requires-clause-allowed : goal.turn-requires-clause-allowed
-turn-requires-clause-allowed g c =
+pub step-requires-clause-allowed : goal.step-requires-clause-allowed
+step-requires-clause-allowed g c =
     let threads : ℕ = c.self.inside.threads in
     let place : ℕ = c.args.seat - threads in
     let actors = c.self.inside.actors.items in
@@ -39,8 +39,8 @@ turn-requires-clause-allowed g c =
     subst (λ (k : ℕ). IsAllowed c.self.inside.board.head c.self.inside.board.events (record { seat = k; op = ask.op })) here
     (allowed_of c.self.inside.board threads actors place c.index_mut.result.now ask c.self.invariant.playing at asks)
 
-pub turn-requires-clause-hooks : goal.turn-requires-clause-hooks
-turn-requires-clause-hooks g c =
+pub step-requires-clause-hook : goal.step-requires-clause-hook
+step-requires-clause-hook g c =
     let threads : ℕ = c.self.inside.threads in
     let place : ℕ = c.args.seat - threads in
     let actors = c.self.inside.actors.items in
@@ -48,11 +48,11 @@ turn-requires-clause-hooks g c =
     let here : threads + place ≡ c.args.seat = omega arith in
     let at : slice_get actors place ≡ Some c.index_mut.result.now =
     slice_get_read actors (length actors) place c.index_mut.result.now refl below c.index_mut.ensures.value in
-    subst (λ (k : ℕ). HasHooks c.self.inside.board.events k c.index_mut.result.now) here
+    subst (λ (k : ℕ). HasHook c.self.inside.board.events k c.index_mut.result.now) here
     (c.self.invariant.playing.hooks place c.index_mut.result.now at)
 
-pub turn-requires-clause-lawful : goal.turn-requires-clause-lawful
-turn-requires-clause-lawful g c = lawful_of c.self.inside.board c.self.inside.threads c.self.inside.actors.items c.self.invariant.playing
+pub step-requires-clause-lawful : goal.step-requires-clause-lawful
+step-requires-clause-lawful g c = lawful_of c.self.inside.board c.self.inside.threads c.self.inside.actors.items c.self.invariant.playing
 
 pub invariant_of-self : goal.invariant_of-self
 invariant_of-self g c =
@@ -65,14 +65,14 @@ invariant_of-self g c =
     slice_get_read actors (length actors) place c.index_mut.result.now refl below c.index_mut.ensures.value in
     record {
       playing =
-          turn_playing_at c.turn.result c.self.inside.board c.turn.new.board actors threads place c.args.seat c.index_mut.result.now
-          c.turn.new.self here c.self.invariant.playing at c.turn.ensures.head c.turn.ensures.events c.turn.ensures.answered c.turn.ensures.ops
-          c.turn.ensures.hooks c.turn.ensures.kept c.turn.ensures.err;
+          turn_playing_at c.step.result c.self.inside.board c.step.new.board actors threads place c.args.seat c.index_mut.result.now
+          c.step.new.actor here c.self.invariant.playing at c.step.ensures.head c.step.ensures.events c.step.ensures.answered c.step.ensures.ops
+          c.step.ensures.hook c.step.ensures.kept c.step.ensures.err;
       waits =
-          turn_knows c.turn.result c.self.inside.board c.turn.new.board actors threads c.self.inside.last_end c.turn.new.last_end place
-          c.args.seat c.index_mut.result.now c.turn.new.self here c.turn.ensures.head c.turn.ensures.events c.turn.ensures.err
-          c.turn.ensures.last_end c.turn.ensures.ends c.turn.ensures.waits c.self.invariant.waits;
-      home = c.turn.ensures.home;
+          turn_knows c.step.result c.self.inside.board c.step.new.board actors threads c.self.inside.last_end c.step.new.last_end place
+          c.args.seat c.index_mut.result.now c.step.new.actor here at c.step.ensures.head c.step.ensures.events c.step.ensures.err
+          c.step.ensures.still c.step.ensures.last_end c.step.ensures.ends c.step.ensures.waits c.self.invariant.waits;
+      home = c.step.ensures.home;
     }
 
 pub returns-clause-ok : goal.returns-clause-ok
@@ -87,12 +87,12 @@ returns-clause-ok g c =
     let b = c.self.inside.board in
     let seated : c.args.seat ≡ length (present b.head) + place = omega (arith, here, c.self.invariant.playing.threads_are) in
     subst (λ (z : Position).
-    OnOk c.turn.result (position_of g.H.Hook.counts c.turn.new.board (set actors place c.turn.new.self) ≡ turned z c.args.seat)) c.self.view_is
-    (turn_turned c.turn.result g.H.Hook.counts b c.turn.new.board actors c.args.seat place c.index_mut.result.now c.turn.new.self seated at
-    c.turn.ensures.own_hooks
-    (turn_position_at c.turn.result g.H.Hook.counts b c.turn.new.board actors threads place c.args.seat c.index_mut.result.now
-    c.turn.new.self here c.self.invariant.playing at c.turn.ensures.head c.turn.ensures.events c.turn.ensures.answered c.turn.ensures.ops
-    c.turn.ensures.hooks c.turn.ensures.kept))
+    OnOk c.step.result (position_of g.H.Hook.counts c.step.new.board (set actors place c.step.new.actor) ≡ turned z c.args.seat)) c.self.view_is
+    (turn_turned c.step.result g.H.Hook.counts b c.step.new.board actors c.args.seat place c.index_mut.result.now c.step.new.actor seated at
+    c.step.ensures.own_hooks
+    (turn_position_at c.step.result g.H.Hook.counts b c.step.new.board actors threads place c.args.seat c.index_mut.result.now
+    c.step.new.actor here c.self.invariant.playing at c.step.ensures.head c.step.ensures.events c.step.ensures.answered c.step.ensures.ops
+    c.step.ensures.hook c.step.ensures.kept))
 
 pub returns-clause-kept : goal.returns-clause-kept
 returns-clause-kept g c =
@@ -104,11 +104,11 @@ returns-clause-kept g c =
     slice_get_read actors (length actors) place c.index_mut.result.now refl below c.index_mut.ensures.value in
     let b = c.self.inside.board in
     subst (λ (z : Position).
-    KeepsHooks z (position_of g.H.Hook.counts c.turn.new.board (set actors place c.turn.new.self))) c.self.view_is
-    (turn_keeps c.turn.result g.H.Hook.counts b c.turn.new.board actors c.args.seat place c.index_mut.result.now c.turn.new.self at
-    c.turn.ensures.answered c.turn.ensures.own_hooks
-    (failed_position c.turn.result g.H.Hook.counts b c.turn.new.board actors place c.index_mut.result.now c.turn.new.self at
-    c.turn.ensures.ops c.turn.ensures.err c.turn.ensures.same_hooks))
+    KeepsHooks z (position_of g.H.Hook.counts c.step.new.board (set actors place c.step.new.actor))) c.self.view_is
+    (turn_keeps c.step.result g.H.Hook.counts b c.step.new.board actors c.args.seat place c.index_mut.result.now c.step.new.actor at
+    c.step.ensures.answered c.step.ensures.own_hooks
+    (failed_position c.step.result g.H.Hook.counts b c.step.new.board actors place c.index_mut.result.now c.step.new.actor at
+    c.step.ensures.err))
 
 pub returns-clause-err : goal.returns-clause-err
 returns-clause-err g c =
@@ -119,6 +119,6 @@ returns-clause-err g c =
     let here : threads + place ≡ c.args.seat = omega arith in
     let at : slice_get actors place ≡ Some c.index_mut.result.now =
     slice_get_read actors (length actors) place c.index_mut.result.now refl below c.index_mut.ensures.value in
-    subst (λ (z : Position). OnErr c.turn.result (position_of g.H.Hook.counts c.turn.new.board (set actors place c.turn.new.self) ≡ z)) c.self.view_is
-    (failed_position c.turn.result g.H.Hook.counts c.self.inside.board c.turn.new.board actors place c.index_mut.result.now
-    c.turn.new.self at c.turn.ensures.ops c.turn.ensures.err c.turn.ensures.same_hooks)
+    subst (λ (z : Position). OnErr c.step.result (position_of g.H.Hook.counts c.step.new.board (set actors place c.step.new.actor) ≡ z)) c.self.view_is
+    (failed_position c.step.result g.H.Hook.counts c.self.inside.board c.step.new.board actors place c.index_mut.result.now
+    c.step.new.actor at c.step.ensures.err)

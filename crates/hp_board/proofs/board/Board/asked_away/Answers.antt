@@ -1,7 +1,7 @@
 use Rattle.std.proofs.Common.{◌≡◌, ℕ, true, ap, Option, Some, None, IfNone, ◌∙◌, sym, subst}
 use Rattle.hp_model.specs.ApTurn.{IsApTurn}
 use Rattle.hp_table.specs.Step.{step_at, is_home}
-use Rattle.hp_ledger.specs.UnderWay.{hook_asked}
+use Rattle.hp_account.specs.UnderWay.{hook_asked}
 use Rattle.hp_board.specs.Contents.{Contents}
 use Rattle.hp_board.proofs.board.Board.asked_away.Goals as goal
 

@@ -6,7 +6,7 @@ use Rattle.hp_model.proofs.DueGives.{due_stands}
 use Rattle.hp_hook.specs.Counted.{counted}
 use Rattle.hp_table.specs.Kept.{answer_at}
 use Rattle.hp_table.specs.Step.{Step, is_home}
-use Rattle.hp_ledger.specs.Entries.{entry_event}
+use Rattle.hp_account.specs.Entries.{entry_event}
 use Rattle.hp_board.specs.Answered.{IsAnswered}
 use Rattle.hp_board.specs.Contents.{Contents}
 use Rattle.hp_board.specs.Loans.{loan}

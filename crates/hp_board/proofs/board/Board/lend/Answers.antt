@@ -6,7 +6,7 @@ use Rattle.hp_model.specs.NextEvent.{due_entry}
 use Rattle.hp_model.proofs.DueGives.{due_stands}
 use Rattle.hp_hook.specs.Counted.{Counts}
 use Rattle.hp_table.specs.Step.{Step, step_at, is_home}
-use Rattle.hp_ledger.specs.Entries.{entry_event}
+use Rattle.hp_account.specs.Entries.{entry_event}
 use Rattle.hp_board.specs.Answered.{aside_of}
 use Rattle.hp_board.specs.Contents.{Contents}
 use Rattle.hp_board.specs.Loans.{AreOut, can_lend, loan}

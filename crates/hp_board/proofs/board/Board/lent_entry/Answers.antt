@@ -1,7 +1,7 @@
 use Rattle.std.proofs.Common.{◌≡◌, true, sym, subst}
 use Rattle.hp_states.specs.CpuSets.{has}
 use Rattle.hp_model.specs.NextEvent.{due_entry}
-use Rattle.hp_ledger.specs.Entries.{entry_event}
+use Rattle.hp_account.specs.Entries.{entry_event}
 use Rattle.std.proofs.Common.{Some}
 use Rattle.hp_board.specs.Contents.{Contents}
 use Rattle.hp_board.proofs.LentEntries.{never_none, entry_found}

@@ -1,5 +1,5 @@
 use Rattle.std.proofs.Common.{◌≤◌, IfSome, IfNone, subst}
-use Rattle.hp_ledger.specs.UnderWay.{IsDueOn, NoneDue}
+use Rattle.hp_account.specs.UnderWay.{IsDueOn, NoneDue}
 use Rattle.hp_board.specs.Contents.{Contents}
 use Rattle.hp_board.proofs.board.Board.next_due.Goals as goal
 

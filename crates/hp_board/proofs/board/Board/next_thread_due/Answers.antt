@@ -1,5 +1,5 @@
 use Rattle.std.proofs.Common.{◌≤◌, IfSome, IfNone, subst}
-use Rattle.hp_ledger.specs.UnderWay.{IsThreadDue, NoThreadDue}
+use Rattle.hp_account.specs.UnderWay.{IsThreadDue, NoThreadDue}
 use Rattle.hp_board.specs.Contents.{Contents}
 use Rattle.hp_board.proofs.board.Board.next_thread_due.Goals as goal
 

@@ -2,9 +2,9 @@ use Rattle.std.proofs.Common.{◌≡◌, ◌∙◌, ℕ, true, Some, None, refl,
 use Rattle.hp_locks.specs.declared.why.Why.TheVariants.{HookOut}
 use Rattle.hp_model.specs.NextEvent.{due_entry}
 use Rattle.hp_model.proofs.DueGives.{due_stands}
-use Rattle.hp_ledger.specs.Entries.{entry_event}
-use Rattle.hp_ledger.specs.declared.entry.Entry.{Entry}
-use Rattle.hp_ledger.specs.declared.entry.Means.TheVariants.{Hook}
+use Rattle.hp_account.specs.Entries.{entry_event}
+use Rattle.hp_account.specs.declared.under_way.Entry.{Entry}
+use Rattle.hp_account.specs.declared.under_way.Means.TheVariants.{Hook}
 use Rattle.hp_table.specs.Step.{step_at, is_home}
 use Rattle.hp_board.specs.Contents.{Contents}
 use Rattle.hp_board.specs.Loans.{AreOut, CallsAway, loan}

@@ -5,8 +5,8 @@ use Rattle.hp_model.specs.Events.{answer_by}
 use Rattle.hp_model.specs.NextEvent.{next_event}
 use Rattle.hp_model.proofs.NextStands.{next_stands}
 use Rattle.hp_event.specs.declared.event.Event.{Event}
-use Rattle.hp_ledger.specs.Entries.{entry_event}
-use Rattle.hp_ledger.proofs.FullNone.{full_none}
+use Rattle.hp_account.specs.Entries.{entry_event}
+use Rattle.hp_machine.proofs.FullNone.{full_none}
 use Rattle.hp_board.specs.Contents.{Contents, with_event}
 use Rattle.hp_board.specs.Hooks.{has_hook, has_hook_after, leaves_hook}
 use Rattle.hp_board.specs.Turns.{IsTurn, IsHookOut, IsNotYet, goes_on as turn_goes_on}
@@ -15,7 +15,7 @@ use Rattle.hp_board.specs.declared.turn.Turn.TheVariants.{Made, Answered, NotYet
 use Rattle.hp_board.proofs.HookOuts.{one_wait, comes_unless, full_unless, waits_out, made_waits_not, kept_out_for}
 use Rattle.hp_event.specs.declared.answer.Answer.{Answer}
 use Rattle.hp_event.specs.declared.answer.Answer.TheVariants.{LogFull}
-use Rattle.hp_ledger.specs.Next.{IsKept}
+use Rattle.hp_machine.specs.Next.{IsKept}
 use Rattle.hp_locks.specs.declared.why.Why.{Why}
 use Rattle.hp_locks.specs.declared.why.Why.TheVariants.{HookOut}
 use Rattle.hp_model.specs.Lawful.{IsLawful}

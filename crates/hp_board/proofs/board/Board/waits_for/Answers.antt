@@ -4,8 +4,8 @@ use Rattle.hp_event.specs.declared.op.Op.{Op}
 use Rattle.hp_model.specs.ApTurn.{IsApTurn}
 use Rattle.hp_model.specs.Lawful.{IsLawful}
 use Rattle.hp_table.specs.Step.{step_at, is_home}
-use Rattle.hp_ledger.specs.Next.{IsKept}
-use Rattle.hp_ledger.specs.UnderWay.{hook_asked}
+use Rattle.hp_machine.specs.Next.{IsKept}
+use Rattle.hp_account.specs.UnderWay.{hook_asked}
 use Rattle.hp_locks.specs.declared.why.Why.TheVariants.{ApTurn}
 use Rattle.hp_board.specs.Contents.{Contents}
 use Rattle.hp_board.specs.Loans.{WaitsForThread}

@@ -4,7 +4,7 @@ use Rattle.hp_states.specs.Rules.{site_at}
 use Rattle.hp_hook.specs.Counted.{Counts, answer_to}
 use Rattle.hp_table.specs.Kept.{answer_at}
 use Rattle.hp_model.specs.How.{answer_at as answer_of_plan}
-use Rattle.hp_ledger.proofs.HookAnswers.{kept_answers, unkept_answers}
+use Rattle.hp_machine.proofs.HookAnswers.{kept_answers, unkept_answers}
 use Rattle.hp_table.specs.Step.{step_at, kept_of}
 use Rattle.hp_table.proofs.Placed.{home_of}
 use Rattle.hp_law.specs.Law.{Taken}

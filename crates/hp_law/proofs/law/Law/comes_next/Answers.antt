@@ -1,7 +1,7 @@
 use Rattle.std.proofs.Common.{None, ◌∙◌, ap, sym, subst}
 use Rattle.hp_model.specs.FirstEvent.{is_client}
 use Rattle.hp_model.specs.Subsystems.{names_sub}
-use Rattle.hp_ledger.specs.Next.{IsNext}
+use Rattle.hp_machine.specs.Next.{IsNext}
 use Rattle.hp_law.specs.Law.{Taken}
 use Rattle.hp_law.specs.RoomOf.{IsRoomOf}
 use Rattle.hp_law.proofs.Comes.{comes_other, not_client, not_named}
@@ -12,7 +12,7 @@ pub returns-then-not-is_client : goal.returns-then-not-is_client
 returns-then-not-is_client c =
     let l = c.self.inside.machine in
     let e = c.args.event.now in
-    let other = ap is_client (sym c.role-role.ensures) ∙ sym c.is_client.ensures ∙ c.if-not-is_client.true in
+    let other = sym c.is_client.ensures ∙ c.if-not-is_client.true in
     subst (λ (t : Taken). IsRoomOf t.head t.events e None) c.self.view_is
     (no_room l.head l.events e (not_client l.head l.events c.seat-seat.result e c.sound.ensures.lawful c.requires c.seat-seat.ensures other))
 

@@ -6,8 +6,8 @@ use Rattle.hp_model.specs.Events.{is_call, seat_of}
 use Rattle.hp_model.specs.Lawful.{Stands}
 use Rattle.hp_model.proofs.DueGives.{due_gives, due_stands}
 use Rattle.hp_table.specs.Step.{AllHome}
-use Rattle.hp_ledger.specs.Entries.{entry_event}
-use Rattle.hp_ledger.proofs.Homes.{home_after}
+use Rattle.hp_account.specs.Entries.{entry_event}
+use Rattle.hp_machine.proofs.Homes.{home_after}
 use Rattle.hp_machine.specs.Contents.{Contents, with_event}
 use Rattle.hp_law.specs.Law.{Taken}
 use Rattle.hp_law.proofs.law.Law.take_with_room.Goals as goal

@@ -1,9 +1,11 @@
-use Rattle.std.proofs.Common.{◌≡◌, ◌↔◌, ℕ, Some, subst}
-use Rattle.hp_model.specs.ApTurn.{IsApTurn}
-use Rattle.hp_machine.specs.Contents.{Contents}
+use Rattle.std.proofs.Common.{sym, subst}
+use Rattle.hp_account.specs.UnderWay.{IsUnderWay}
+use Rattle.hp_machine.proofs.ThreadsWaited.{coming_waits}
 use Rattle.hp_machine.proofs.machine.Machine.ap_turn.Goals as goal
 
-pub returns : goal.returns
-returns g c =
-    subst (λ (m : Contents). (cpu : ℕ) → IsApTurn m.head m.events c.args.seat cpu ↔ (c.ap_turn.result ≡ Some cpu)) c.self.view_is
-    c.ap_turn.ensures
+pub returns-in-Some : goal.returns-in-Some
+returns-in-Some g c =
+    let j = c.self.inside.journal in
+    let is = subst (IsUnderWay j.head j.events) c.in-Some.is c.self.invariant.under_way in
+    rw (sym c.self.view_is, c.waits_of.ensures)
+    (coming_waits j.head j.events c.in-Some.coming c.self.invariant.kept.lawful is c.args.seat)

@@ -1,33 +1,37 @@
 use Rattle.std.proofs.Common.{◌≡◌, ℕ, true, Option, None, List, IsSome, IfNone, ◌∙◌, ap, sym, subst}
 use Rattle.std.proofs.lemmas.Bool.{false≢true}
+use Rattle.hp_event.specs.Story.{Story}
 use Rattle.hp_model.specs.Lawful.{Stands}
 use Rattle.hp_table.specs.Step.{Step, step_at, changed_at, lent_step, is_home}
-use Rattle.hp_ledger.specs.Entries.{entry_event}
-use Rattle.hp_ledger.specs.Ledger.{Entries}
-use Rattle.hp_ledger.specs.Machine.{IsMachine}
-use Rattle.hp_ledger.specs.Table.{IsTableOf}
+use Rattle.hp_account.specs.Entries.{entry_event}
+use Rattle.hp_account.specs.declared.account.Account.{Account}
+use Rattle.hp_account.specs.declared.under_way.Coming.{Coming}
+use Rattle.hp_machine.specs.Machine.{IsMachine}
+use Rattle.hp_account.specs.Table.{IsTableOf}
 use Rattle.hp_machine.specs.Contents.{Contents}
 use Rattle.hp_machine.proofs.Below.{call_in_set}
 use Rattle.hp_machine.proofs.LentTable.{table_lent_or_not, lent_nothing}
 use Rattle.hp_machine.proofs.Made.{seen}
 use Rattle.hp_machine.proofs.machine.Machine.lend.Goals as goal
 
-lent_machine : (l : Entries) (places new : List (Option Step)) (s : ℕ) → IsMachine l places → new ≡ changed_at places s lent_step →
-    IsMachine l new
-lent_machine l places new s m is =
+lent_machine : (j : Story) (account : Account) (coming : Option Coming) (places new : List (Option Step)) (s : ℕ) →
+    IsMachine j account coming places → new ≡ changed_at places s lent_step → IsMachine j account coming new
+lent_machine j account coming places new s m is =
     record {
-      lawful = m.lawful;
-      table_is = subst (IsTableOf l.head l.events) (sym is) (table_lent_or_not l.head l.events places s m.table_is);
-      nothing_reserved = m.nothing_reserved;
+      kept = m.kept;
+      under_way = m.under_way;
+      table_is = subst (IsTableOf j.head j.events) (sym is) (table_lent_or_not j.head j.events places s m.table_is);
     }
 
 pub invariant_of-self : goal.invariant_of-self
 invariant_of-self g c =
-    lent_machine c.self.inside.ledger c.self.inside.table c.lend.new.self c.args.entry.now.key.state c.self.invariant c.lend.ensures.lent
+    let m = c.self.inside in
+    lent_machine m.journal m.account m.coming m.table c.lend.new.self c.args.entry.now.key.state c.self.invariant c.lend.ensures.lent
 
 pub invariant_of-self-2 : goal.invariant_of-self-2
 invariant_of-self-2 g c =
-    lent_machine c.self.inside.ledger c.self.inside.table c.lend.new.self c.args.entry.now.key.state c.self.invariant c.lend.ensures.lent
+    let m = c.self.inside in
+    lent_machine m.journal m.account m.coming m.table c.lend.new.self c.args.entry.now.key.state c.self.invariant c.lend.ensures.lent
 
 no_hook : {A : Type 0} (r : Option A) → r ≡ None → IsSome r → ⊥
 no_hook r none some = false≢true (subst (λ o. IsSome o) none some)
@@ -44,11 +48,11 @@ returns-in_err-hook-clause-none g c =
     no_hook c.lend.result c.in_err-hook.was (c.lend.ensures.some.1 h) in
     let same = c.lend.ensures.lent ∙ lent_nothing places s never in
     on_none c.from_residual.result _
-    (ap (λ p. seen c.self.inside.ledger p c.self.inside.lent) same ∙ c.self.view_is)
+    (ap (λ p. seen c.self.inside.journal p c.self.inside.lent) same ∙ c.self.view_is)
 
 pub put-requires : goal.put-requires
 put-requires g c =
-    let l = c.self.inside.ledger in
+    let j = c.self.inside.journal in
     let x = c.args.entry.now in
     let stands = subst (λ (m : Contents). Stands m.head m.events (entry_event m.head m.events x)) (sym c.self.view_is) c.requires in
-    call_in_set l.head l.events x.seat x.cpu x.key.state x.key.inst x.dir _ c.self.invariant.lawful stands.0
+    call_in_set j.head j.events x.seat x.cpu x.key.state x.key.inst x.dir _ c.self.invariant.kept.lawful stands.0

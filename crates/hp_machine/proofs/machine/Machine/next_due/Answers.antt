@@ -1,16 +1,16 @@
-use Rattle.std.proofs.Common.{◌≤◌, IfSome, IfNone, subst}
-use Rattle.hp_ledger.specs.UnderWay.{IsDueOn, NoneDue}
-use Rattle.hp_machine.specs.Contents.{Contents}
+use Rattle.std.proofs.Common.{sym, subst}
+use Rattle.hp_account.specs.UnderWay.{IsUnderWay}
+use Rattle.hp_machine.proofs.DueSaid.{beyond_some, beyond_none}
 use Rattle.hp_machine.proofs.machine.Machine.next_due.Goals as goal
 
-pub returns-clause-some : goal.returns-clause-some
-returns-clause-some g c =
-    subst
-    (λ (m : Contents). IfSome c.next_due.result
-    (λ due. (c.args.from ≤ due.0) × IsDueOn m.head m.events due.0 due.1 × NoneDue m.head m.events c.args.from due.0))
-    c.self.view_is c.next_due.ensures.some
+pub returns-in-Some-clause-some : goal.returns-in-Some-clause-some
+returns-in-Some-clause-some g c =
+    let j = c.self.inside.journal in
+    let is = subst (IsUnderWay j.head j.events) c.in-Some.is c.self.invariant.under_way in
+    rw (sym c.self.view_is, c.due_beyond.ensures) (beyond_some j.head j.events c.args.from c.in-Some.coming is)
 
-pub returns-clause-none : goal.returns-clause-none
-returns-clause-none g c =
-    subst (λ (m : Contents). IfNone c.next_due.result (NoneDue m.head m.events c.args.from m.head.possible)) c.self.view_is
-    c.next_due.ensures.none
+pub returns-in-Some-clause-none : goal.returns-in-Some-clause-none
+returns-in-Some-clause-none g c =
+    let j = c.self.inside.journal in
+    let is = subst (IsUnderWay j.head j.events) c.in-Some.is c.self.invariant.under_way in
+    rw (sym c.self.view_is, c.due_beyond.ensures) (beyond_none j.head j.events c.args.from j.head.possible c.in-Some.coming is)

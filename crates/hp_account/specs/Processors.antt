@@ -1,0 +1,48 @@
+-- Where processors stand and at which state they are armed, by number; and that this is what a journal says. After
+-- `st->state` and `st->fail` of `kernel/cpu.c`.
+use Rattle.std.specs.Prelude.{◌≡◌, ◌<◌, ◌≤◌, ℕ, Bool, if◌then◌else◌, Option, List, length, map, count_by, slice_index, slice_set}
+use Rattle.hp_states.specs.declared.limits.TheConstants.{MAX_CPUS, ONLINE}
+use Rattle.hp_states.specs.Sections.{is_online_state}
+use Rattle.hp_event.specs.declared.head.Head.{Head}
+use Rattle.hp_event.specs.declared.event.Event.{Event}
+use Rattle.hp_model.specs.Settled.{settled}
+use Rattle.hp_model.specs.Armed.{armed}
+use Rattle.hp_model.specs.Processors.{is_present}
+use Rattle.hp_account.specs.Flags.{AreFlags}
+use Rattle.hp_account.specs.Places.{at_place}
+
+-- what contracts see of the processors: the settled state of each, where it is armed, and whether it is present
+pub record Standing : Type 0 where
+  pub settled : List ℕ
+  pub armed : List (Option ℕ)
+  pub present : List Bool
+
+-- beside them stands which are online, and how many
+pub record IsSound (settled : List ℕ) (online : List Bool) (count : ℕ) : Type 0 where
+  pub few : length settled ≤ MAX_CPUS
+  pub online_is : online ≡ map is_online_state settled
+  pub counts : count ≡ count_by is_online_state settled
+
+abbrev pub one_if : Bool → ℕ
+one_if online = if online then 1 else 0
+
+abbrev pub online_flags : Standing → List Bool
+online_flags p = map is_online_state p.settled
+
+-- how many are online
+abbrev pub online_count : Standing → ℕ
+online_count p = count_by is_online_state p.settled
+
+abbrev pub with_settled : (cpu state : ℕ) → Standing → Standing
+with_settled c s p = record p { settled = slice_set p.settled c s }
+
+abbrev pub with_armed : (cpu : ℕ) → Option ℕ → Standing → Standing
+with_armed c s p = record p { armed = slice_set p.armed c s }
+
+pub record IsStanding (head : Head) (events : List Event) (p : Standing) : Type 0 where
+  pub cpus : length p.settled ≡ head.possible
+  pub settled_is : (c : ℕ) → c < head.possible → slice_index p.settled c ≡ settled c events
+  pub highest : (c : ℕ) → slice_index p.settled c ≤ ONLINE
+  pub armed_cpus : length p.armed ≡ head.possible
+  pub armed_is : (c : ℕ) → c < head.possible → at_place p.armed c ≡ armed c events
+  pub present_is : AreFlags (is_present head) head.possible p.present

@@ -1,0 +1,138 @@
+//! Who is in.
+
+ghost use Rattle.std.specs.Prelude.{◌≡◌, ◌<◌, ◌≤◌, None, Some, Option, List, [], ◌∷◌, ◌++◌, IfOk, OnOk, OnErr, length, replicate, slice_set};
+ghost use Rattle.hp_event.specs.declared.event.Role.{Role as ARole};
+ghost use Rattle.hp_account.specs.Places.{at_place};
+ghost use Rattle.hp_account.specs.Seats.{Roll, HasPlace, HasNoThread, clients_of, with_seat, without_seat};
+
+use hp_event::Role;
+use hp_states::{MAX_SEATS, NoMemory};
+use std::alloc::Global;
+use std::marker::Model;
+
+/// The seats of a machine: who is in with which role, and who is whose thread.
+///
+/// Contracts see both lists (`Roll`): the role of each seat that was admitted, by its number, none
+/// once it has left; and the seat of each possible processor's thread, if it is in.
+#[derive(Drop)]
+pub struct Seats {
+    roles: Vec<Option<Role>>,
+    threads: Vec<Option<u32>>,
+}
+
+impl Model for Seats {
+    ghost use Rattle.std.specs.Prelude.{◌≤◌, length};
+    ghost use Rattle.hp_states.specs.declared.limits.TheConstants.{MAX_SEATS};
+    ghost use Rattle.hp_account.specs.Seats.{Roll};
+
+    ghost Value = { Roll };
+
+    ghost view = { λ s. record { roles = s.roles.items; threads = s.threads.items } };
+
+    ghost invariant = { λ s. length s.roles.items ≤ MAX_SEATS };
+}
+
+impl Seats {
+    /// The seats of a machine with so many possible processors, before any came in. Takes memory for
+    /// a place for each processor.
+    pub fn new(alloc: Global, cpus: u32) -> Result<Seats, NoMemory>
+        ensures { IfOk result (λ s. s ≡ record { roles = []; threads = replicate cpus None }) }
+    {
+        Ok(Seats {
+            roles: Vec::new(alloc),
+            threads: vec![in alloc; None; cpus as usize]?,
+        })
+    }
+
+    /// Lets the next seat in.
+    ///
+    /// Fewer than `MAX_SEATS` were admitted before, and where it is a thread its processor is one of
+    /// the machine's. Takes memory; where that is wanting nothing has changed.
+    pub fn admit(&mut self, role: Role) -> Result<(), NoMemory>
+        requires few { length self.old.roles < MAX_SEATS }
+        requires place { HasPlace role (length self.old.threads) }
+        ensures ok { OnOk result (self.new ≡ with_seat role self.old) }
+        ensures err { OnErr result (self.new ≡ self.old) }
+    {
+        let seat = self.roles.len() as u32;
+        self.roles.push(Some(role))?;
+        if let Role::Ap(cpu) = role {
+            self.threads[cpu as usize] = Some(seat);
+        }
+        Ok(())
+    }
+
+    /// Takes back an admission of this role, after which nothing has changed. Takes no memory.
+    pub(crate) fn retract(&mut self, role: Role)
+        requires { HasPlace role (length self.old.threads) }
+        ensures { (before : Roll) → self.old ≡ with_seat role before → HasNoThread role before.threads →
+            self.new ≡ before }
+    {
+        drop_last(&mut self.roles);
+        if let Role::Ap(cpu) = role {
+            clear(&mut self.threads, cpu);
+        }
+    }
+
+    /// Lets a seat go, which is in. Takes no memory.
+    pub fn leave(&mut self, seat: u32)
+        requires { seat < length self.old.roles }
+        ensures { self.new ≡ without_seat seat self.old }
+    {
+        let role = self.role(seat);
+        self.roles[seat as usize] = None;
+        if let Some(Role::Ap(cpu)) = role {
+            if let Some(thread) = self.threads.get_mut(cpu as usize) {
+                *thread = None;
+            }
+        }
+    }
+
+    /// The role of a seat that is in. Takes no memory.
+    pub fn role(&self, seat: u32) -> Option<Role>
+        ensures { result ≡ at_place self.now.roles seat }
+    {
+        self.roles.get(seat as usize).copied().flatten()
+    }
+
+    /// The seat of a processor's thread, if it is in. Takes no memory.
+    pub fn thread(&self, cpu: u32) -> Option<u32>
+        ensures { result ≡ at_place self.now.threads cpu }
+    {
+        self.threads.get(cpu as usize).copied().flatten()
+    }
+
+    /// How many seats were ever admitted. Takes no memory.
+    pub fn admitted(&self) -> u32
+        ensures { result ≡ length self.now.roles }
+    {
+        self.roles.len() as u32
+    }
+
+    /// How many clients are in. Takes no memory, and time for the seats.
+    pub fn clients(&self) -> u32
+        ensures { result ≡ clients_of self.now }
+    {
+        self.roles
+            .iter()
+            .filter(|role| **role == Some(Role::Client))
+            .count() as u32
+    }
+}
+
+/// Nobody is the thread of a processor any more.
+fn clear(threads: &mut Vec<Option<u32>>, cpu: u32)
+    requires { cpu < length threads.old.items }
+    ensures { threads.new.items ≡ slice_set threads.old.items cpu None }
+{
+    threads[cpu as usize] = None;
+}
+
+/// Without the last role.
+fn drop_last(roles: &mut Vec<Option<Role>>)
+    ensures dropped { (before : List (Option ARole)) (last : Option ARole) → roles.old.items ≡ before ++ last ∷ [] →
+        roles.new.items ≡ before }
+    ensures few { length roles.new.items ≤ length roles.old.items }
+{
+    roles.pop();
+}

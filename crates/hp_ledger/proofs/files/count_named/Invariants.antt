@@ -1,6 +1,0 @@
-use Rattle.std.proofs.Common.{◌≡◌, ◌≤◌}
-use Rattle.hp_ledger.specs.NamedIn.{named_in}
-use Rattle.hp_ledger.proofs.files.count_named.Given as goal
-
-abbrev pub invariant-loop-state : goal.invariant-loop-state
-invariant-loop-state g l = (l.named ≡ named_in l.table l.state) × (l.named ≤ l.state)

@@ -1,5 +1,0 @@
-use Rattle.hp_ledger.proofs.ledger.Ledger.next.Goals as goal
-
-pub returns-then-is_busy : goal.returns-then-is_busy
-returns-then-is_busy g c =
-    c.goes_on.ensures c.args.op.now
