@@ -2,6 +2,7 @@
 use Rattle.std.proofs.Common.{◌≡◌, ◌≤◌, ℕ, false, not, ◌&&◌, Option, None, [], refl, ap, sym, ◌∙◌, arith}
 use Rattle.std.specs.Prelude.{replicate}
 use Rattle.std.proofs.lemmas.List.{length-replicate, get_or-replicate}
+use Rattle.hp_states.proofs.Basics.{none_some}
 use Rattle.hp_states.specs.CpuSets.{has}
 use Rattle.hp_event.specs.declared.head.Head.{Head}
 use Rattle.hp_model.specs.Lists.{among}
@@ -11,11 +12,10 @@ use Rattle.hp_model.specs.Registrations.{registration}
 use Rattle.hp_model.specs.Readers.{readers, reading_since}
 use Rattle.hp_model.specs.Seats.{admits, role_of, ap_seat}
 use Rattle.hp_model.specs.Suspend.{disabled, frozen, wakeup_pending}
-use Rattle.hp_model.proofs.Owners.{none_some}
 use Rattle.hp_suspend.specs.Turns.{Queue}
 use Rattle.hp_account.specs.declared.account.Account.{Account}
 use Rattle.hp_account.specs.Account.{IsAccount}
-use Rattle.hp_account.specs.declared.operation.Held.{Held}
+use Rattle.hp_account.specs.declared.operation.MapOperation.{MapOperation}
 use Rattle.hp_account.specs.BatchTurns.{IsTurns, is_batch}
 use Rattle.hp_account.specs.FlightChanges.{IsStill}
 use Rattle.hp_account.specs.Locks.{IsLocks}
@@ -85,5 +85,5 @@ account_none head p seats locks standing idle still unregistered suspended turns
   registration = rw unregistered none_registers;
   suspended = rw suspended (suspended_none head);
   turns = turns_none head p.turns turns;
-  awaited = λ c. awaited c ∙ sym (ap (λ (h : Option Held). is_batch h && (has p.flights.walking c && not (among c p.turns.cpus))) idle);
+  awaited = λ c. awaited c ∙ sym (ap (λ (h : Option MapOperation). is_batch h && (has p.flights.walking c && not (among c p.turns.cpus))) idle);
 }

@@ -1,6 +1,7 @@
 -- The account of a journal with one event more: each part has taken it, and the room that is given back is the journal's.
 use Rattle.std.proofs.Common.{◌≡◌, ℕ, ◌+◌, ◌-◌, Option, Some, None, inl, inr, List, [], ◌∷◌, ◌++◌, refl, sym, ap, ◌∙◌, subst, arith}
 use Rattle.std.specs.Prelude.{option_map}
+use Rattle.hp_states.proofs.Basics.{same_some}
 use Rattle.hp_event.specs.declared.answer.Answer.{Answer}
 use Rattle.hp_event.specs.declared.op.Op.{Op}
 use Rattle.hp_event.specs.declared.op.Op.TheVariants as op
@@ -16,16 +17,16 @@ use Rattle.hp_model.specs.StandsRegistrations.{RegEnds}
 use Rattle.hp_model.specs.Lawful.{Comes, Stands, IsLawful}
 use Rattle.hp_model.proofs.Laws.{registration_push}
 use Rattle.hp_model.proofs.OneNext.{owners}
-use Rattle.hp_model.proofs.Owners.{Owners, same_some}
+use Rattle.hp_model.proofs.Owners.{Owners}
 use Rattle.hp_model.proofs.EntryProcessors.{call_below}
 use Rattle.hp_table.specs.Step.{Step}
 use Rattle.hp_walk.specs.Keys.{keys_by}
-use Rattle.hp_account.specs.declared.operation.Held.{Held}
+use Rattle.hp_account.specs.declared.operation.MapOperation.{MapOperation}
 use Rattle.hp_account.specs.declared.registering.Registering.{Registering}
 use Rattle.hp_account.specs.declared.account.Account.{Account}
 use Rattle.hp_account.specs.Account.{IsAccount}
 use Rattle.hp_account.specs.After.{suspension_after}
-use Rattle.hp_account.specs.Appending.{IsOpOf, WentTo, Flew, Registered, left_by, Appended, room_of_walk}
+use Rattle.hp_account.specs.Appending.{IsOpOf, WentTo, WalksChanged, RegistrationChanged, left_by, Appended, room_of_walk}
 use Rattle.hp_account.specs.BatchTurns.{is_batch}
 use Rattle.hp_account.specs.Locks.{IsLocks}
 use Rattle.hp_account.specs.Operations.{IsHeldBy}
@@ -56,13 +57,13 @@ on_processor head es p to (Armed seat c value) lawful comes is there = armed_on 
 on_processor head es p to e lawful comes is there = tt
 
 -- the operation that holds the map lock is the one that is kept
-held_op : (head : Head) (es : List Event) (held : Option Held) (o : Operation) → IsHeldBy head es held → operation es ≡ Some o →
-    option_map (λ (h : Held). h.op) held ≡ Some o.op
+held_op : (head : Head) (es : List Event) (held : Option MapOperation) (o : Operation) → IsHeldBy head es held → operation es ≡ Some o →
+    option_map (λ (h : MapOperation). h.op) held ≡ Some o.op
 held_op head es None o is at = absurd (let n = sym is ∙ at in cc)
 held_op head es (Some h) o is at =
     ap Some (is.op_is ∙ ap (λ (x : Operation). x.op) (same_some is.of o (sym is.held ∙ at)))
 
-record UnderOp (head : Head) (es : List Event) (e : Event) (held : Option Held) : Type 0 where
+record UnderOp (head : Head) (es : List Event) (e : Event) (held : Option MapOperation) : Type 0 where
   asked : Op
   is_op : IsOpOf e held asked
   under : IsUnder head es asked e
@@ -71,7 +72,7 @@ over_op : (head : Head) (es : List Event) (seat : ℕ) (answer : Answer) → OpE
 over_op head es seat answer (inl h) = (h.of, h.held)
 over_op head es seat answer (inr h) = (h.begins.of, h.begins.held)
 
-under_op : (head : Head) (es : List Event) (e : Event) (held : Option Held) → IsLawful head es → Comes head es e → IsHeldBy head es held →
+under_op : (head : Head) (es : List Event) (e : Event) (held : Option MapOperation) → IsLawful head es → Comes head es e → IsHeldBy head es held →
     UnderOp head es e held
 under_op head es (WalkEnd seat c answer) held lawful comes is =
     let o = (owners head es lawful).walk_op c comes.of comes.in_flight in
@@ -102,7 +103,7 @@ registration_same head es e old new own comes is beside same =
     subst (IsRegisteringOf head (es ++ e ∷ [])) (sym same) (registration_stays head es old e own comes beside is)
 
 registration_after : (head : Head) (es : List Event) (needed freed : ℕ) (e : Event) (old new : Option Registering) →
-    Owners es → Comes head es e → needed ≡ taken (need head es e) → IsRegisteringOf head es old → Registered needed freed e old new →
+    Owners es → Comes head es e → needed ≡ taken (need head es e) → IsRegisteringOf head es old → RegistrationChanged needed freed e old new →
     IsRegisteringOf head (es ++ e ∷ []) new
 registration_after head es needed freed (RegBegin seat state asked) old None own comes n is went = elim (went.0) [ ]
 registration_after head es needed freed (RegBegin seat state asked) old (Some g) own comes n is went =
@@ -123,8 +124,8 @@ left_over head es seat answer None comes is = absurd (let n = sym is ∙ comes.i
 left_over head es seat answer (Some g) comes is = rw is.in_flight (ap (λ n. n - 1) is.left_is)
 
 freed_after : (head : Head) (es : List Event) (places : List (Option Step)) (room needed a b : ℕ) (e : Event) (p new : Account) →
-    Comes head es e → IsAccount head es p → Flew (keys_by places) room a e p.flights new.flights →
-    Registered needed b e p.registration new.registration → a + b ≡ given_back head es e
+    Comes head es e → IsAccount head es p → WalksChanged (keys_by places) room a e p.flights new.flights →
+    RegistrationChanged needed b e p.registration new.registration → a + b ≡ given_back head es e
 freed_after head es places room needed a b (WalkEnd seat c answer) p new comes is flew went =
     let g = (flights_end head es seat c answer a p.flights new.flights comes is.flights flew).1 in
     let none = went.1 in

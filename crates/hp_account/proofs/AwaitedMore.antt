@@ -1,6 +1,7 @@
 -- The processors of an upmany whose threads are awaited, after one event more that stands.
 use Rattle.std.proofs.Common.{◌≡◌, ℕ, Bool, true, false, not, ◌&&◌, ◌||◌, cond, eqb, ltb, is_some, Option, Some, None, List, [], ◌∷◌, ◌++◌, refl, ap, sym, ◌∙◌, arith}
 use Rattle.std.proofs.lemmas.Bool.{eqb-true}
+use Rattle.hp_states.proofs.Basics.{unequal_turned, none_some}
 use Rattle.hp_states.specs.CpuSets.{has}
 use Rattle.hp_states.specs.declared.cpu_set.CpuSet.{CpuSet}
 use Rattle.hp_event.specs.declared.how.How.{How}
@@ -18,7 +19,7 @@ use Rattle.hp_model.proofs.HeadlineProof.{lawful_more}
 use Rattle.hp_model.proofs.InFlight.{empty_of, walking_is}
 use Rattle.hp_model.proofs.Laws.{operation_push}
 use Rattle.hp_model.proofs.OneNext.{owners}
-use Rattle.hp_model.proofs.Owners.{none_some, flip, map_free, over_at_rest}
+use Rattle.hp_model.proofs.Owners.{map_free, over_at_rest}
 use Rattle.hp_model.proofs.PromisedParts.{begun_others}
 use Rattle.hp_model.proofs.QueueMoves.{own_among}
 use Rattle.hp_suspend.specs.Turns.{Queue}
@@ -26,9 +27,9 @@ use Rattle.hp_table.specs.Step.{Step}
 use Rattle.hp_walk.specs.Keys.{keys_by}
 use Rattle.hp_account.specs.declared.flights.Flight.{Flight}
 use Rattle.hp_account.specs.declared.flights.Flights.{Flights}
-use Rattle.hp_account.specs.declared.operation.Held.{Held}
-use Rattle.hp_account.specs.Appending.{Flew, WentOnIf}
-use Rattle.hp_account.specs.BatchTurns.{IsTurns, AreAwaited, asks_own, asks_thread, is_batch, Turned, Awaits, Awaited}
+use Rattle.hp_account.specs.declared.operation.MapOperation.{MapOperation}
+use Rattle.hp_account.specs.Appending.{WalksChanged, WalkWentOnIf}
+use Rattle.hp_account.specs.BatchTurns.{IsTurns, AreAwaited, asks_own, asks_thread, is_batch, TurnTaken, Awaits, Awaited}
 use Rattle.hp_account.specs.Flights.{IsFlights}
 use Rattle.hp_account.specs.Operations.{IsHeldBy}
 use Rattle.hp_account.specs.Places.{at_place}
@@ -75,16 +76,16 @@ none_flies head es f c lawful t free = t.walking_is c ∙ (walking_is c es ∙ g
     go None at = refl
     go (Some w) at = let p = (owners head es lawful).walk_op c w at in absurd (none_some p.0 (sym free ∙ p.1))
 
-went_on : (keys : ℕ → List ℕ) (v : Option Flight) (c d : ℕ) (how : How) (f new : Flights) → WentOnIf v keys c how f new →
+went_on : (keys : ℕ → List ℕ) (v : Option Flight) (c d : ℕ) (how : How) (f new : Flights) → WalkWentOnIf v keys c how f new →
     has new.walking d ≡ has f.walking d
 went_on keys None c d how f new h = ap (λ (x : Flights). has x.walking d) h
 went_on keys (Some g) c d how f new h = ap (λ z. has z d) h.walking_is
 
 -- an event that leaves the operation
-stays : (head : Head) (es : List Event) (places : List (Option Step)) (held newly : Option Held) (e : Event) (room freed : ℕ)
+stays : (head : Head) (es : List Event) (places : List (Option Step)) (held newly : Option MapOperation) (e : Event) (room freed : ℕ)
     (f new : Flights) (queue after : Queue) (set now : CpuSet) → IsLawful head es → Stands head es e → IsTableOf head (es ++ e ∷ []) places →
     IsHeldBy head es held → IsHeldBy head (es ++ e ∷ []) newly → IsFlights head (es ++ e ∷ []) new → IsTurns head (es ++ e ∷ []) after →
-    Flew (keys_by places) room freed e f new → Turned (keys_by places) (is_batch held) e new queue after →
+    WalksChanged (keys_by places) room freed e f new → TurnTaken (keys_by places) (is_batch held) e new queue after →
     Awaited (keys_by places) (is_batch held) e new set now → operation (es ++ e ∷ []) ≡ operation es →
     AreAwaited (is_batch held) f queue set → AreAwaited (is_batch newly) new after now
 stays head es places held newly e room freed f new queue after set now lawful stands table by newly_by t turns flew turned awaited same is =
@@ -123,9 +124,9 @@ stays head es places held newly e room freed f new queue after set now lawful st
         pick false e =
             was d
             ∙ (ap (λ z. z && not (among d queue.cpus)) (sym (still d e))
-            ∙ ap (λ z. has new.walking d && not z) (sym (ap (among d) moved ∙ among_moved own c d queue.cpus (flip d c e))))
+            ∙ ap (λ z. has new.walking d && not z) (sym (ap (among d) moved ∙ among_moved own c d queue.cpus (unequal_turned d c e))))
 
-    moves : (x : Event) → is_batch held ≡ true → Flew K room freed x f new → Turned K true x new queue after →
+    moves : (x : Event) → is_batch held ≡ true → WalksChanged K room freed x f new → TurnTaken K true x new queue after →
         Awaited K true x new set now → AreAwaited true f queue set → AreAwaited true new after now
     moves (WalkBegin seat c from to) u fl tu aw was =
         walked c u (λ d other. fl.0.walking_is d ∙ ap (λ b. b || has f.walking d) other) (asks_own K (at_place new.by_cpu.items c)) tu.cpus_are aw was
@@ -139,15 +140,15 @@ stays head es places held newly e room freed f new queue after set now lawful st
         ∙ (ap (λ (z : Flights). has z.walking d && not (among d queue.cpus)) (sym fl.0)
         ∙ ap (λ (z : Queue). has new.walking d && not (among d z.cpus)) (sym tu)))
 
-    go : (b : Bool) → is_batch held ≡ b → Turned K b e new queue after → Awaited K b e new set now → AreAwaited b f queue set →
+    go : (b : Bool) → is_batch held ≡ b → TurnTaken K b e new queue after → Awaited K b e new set now → AreAwaited b f queue set →
         AreAwaited b new after now
     go false u tu aw was = λ d. ap (λ z. has z d) aw ∙ was d
     go true u tu aw was = moves e u flew tu aw was
 
-pub awaited_more : (head : Head) (es : List Event) (places : List (Option Step)) (held newly : Option Held) (e : Event) (room freed : ℕ)
+pub awaited_more : (head : Head) (es : List Event) (places : List (Option Step)) (held newly : Option MapOperation) (e : Event) (room freed : ℕ)
     (f new : Flights) (queue after : Queue) (set now : CpuSet) → IsLawful head es → Stands head es e → IsTableOf head (es ++ e ∷ []) places →
     IsHeldBy head es held → IsHeldBy head (es ++ e ∷ []) newly → IsFlights head es f → IsFlights head (es ++ e ∷ []) new →
-    IsTurns head (es ++ e ∷ []) after → Flew (keys_by places) room freed e f new → Turned (keys_by places) (is_batch held) e new queue after →
+    IsTurns head (es ++ e ∷ []) after → WalksChanged (keys_by places) room freed e f new → TurnTaken (keys_by places) (is_batch held) e new queue after →
     Awaited (keys_by places) (is_batch held) e new set now → AreAwaited (is_batch held) f queue set →
     AreAwaited (is_batch newly) new after now
 awaited_more head es places held newly (Enter seat op) room freed f new queue after set now lawful stands table by newly_by t u turns flew
@@ -187,11 +188,11 @@ awaited_more head es places held newly e room freed f new queue after set now la
     (operation_push es e) is
 
 -- an event that leaves the walks, the queue and the set
-pub awaited_stay : (held newly : Option Held) (f new : Flights) (queue after : Queue) (set now : CpuSet) → newly ≡ held → new ≡ f → after ≡ queue →
+pub awaited_stay : (held newly : Option MapOperation) (f new : Flights) (queue after : Queue) (set now : CpuSet) → newly ≡ held → new ≡ f → after ≡ queue →
     now ≡ set → AreAwaited (is_batch held) f queue set → AreAwaited (is_batch newly) new after now
 awaited_stay held newly f new queue after set now h n a s is = λ d.
     ap (λ z. has z d) s
     ∙ (is d
-    ∙ (ap (λ (z : Option Held). is_batch z && (has f.walking d && not (among d queue.cpus))) (sym h)
+    ∙ (ap (λ (z : Option MapOperation). is_batch z && (has f.walking d && not (among d queue.cpus))) (sym h)
     ∙ (ap (λ (z : Flights). is_batch newly && (has z.walking d && not (among d queue.cpus))) (sym n)
     ∙ ap (λ (z : Queue). is_batch newly && (has new.walking d && not (among d z.cpus))) (sym a))))

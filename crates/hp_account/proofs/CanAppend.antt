@@ -1,6 +1,8 @@
 -- Each part of the account can take an event that stands.
 use Rattle.std.proofs.Common.{◌≡◌, ℕ, ℤ, ◌+◌, ◌<◌, ◌≤◌, Option, Some, None, IsSome, IfSome, List, [], ◌∷◌, ◌++◌, length, refl, sym, ◌∙◌, subst, arith}
 use Rattle.std.proofs.lemmas.Bool.{ltb-true}
+use Rattle.hp_states.proofs.Basics.{not_false}
+use Rattle.hp_model.proofs.EntryStays.{walk_kept}
 use Rattle.hp_states.specs.declared.limits.TheConstants.{MAX_EVENTS, ONLINE}
 use Rattle.hp_event.specs.declared.answer.Answer.{Answer}
 use Rattle.hp_event.specs.declared.op.Op.{Op}
@@ -15,7 +17,6 @@ use Rattle.hp_model.specs.Needs.{need, taken}
 use Rattle.hp_model.specs.StandsOperations.{WalkEnds}
 use Rattle.hp_model.specs.Lawful.{Comes, Stands, IsLawful}
 use Rattle.hp_model.proofs.Laws.{registration_push}
-use Rattle.hp_model.proofs.Operations.{there}
 use Rattle.hp_model.proofs.Passing.{passed, none_holds}
 use Rattle.hp_model.proofs.RoomKept.{event_fits}
 use Rattle.hp_model.proofs.EntryProcessors.{present_below, call_below}
@@ -25,23 +26,22 @@ use Rattle.hp_table.proofs.Places.{within_places}
 use Rattle.hp_walk.specs.Keys.{keys_by}
 use Rattle.hp_account.specs.declared.flights.Flight.{Flight}
 use Rattle.hp_account.specs.declared.flights.Flights.{Flights}
-use Rattle.hp_account.specs.declared.operation.Held.{Held}
-use Rattle.hp_account.specs.declared.operation.Sequence.{Sequence}
-use Rattle.hp_account.specs.declared.operation.Sequence.TheVariants.{Single, Freeze, Thaw, Boot, Batch, NoWalk}
+use Rattle.hp_account.specs.declared.operation.MapOperation.{MapOperation}
+use Rattle.hp_account.specs.declared.operation.Walks.{Walks}
+use Rattle.hp_account.specs.declared.operation.Walks.TheVariants.{Single, Freeze, Thaw, Boot, Batch, NoWalk}
 use Rattle.hp_account.specs.declared.account.Account.{Account}
 use Rattle.hp_account.specs.Account.{IsAccount}
-use Rattle.hp_account.specs.Appending.{CanLeave, CanEnd, HasPlaceFor, HasRoomFor, CanOperate, HasCountsIf, CanFly, CanRegister, CanAppend, room_of_walk}
+use Rattle.hp_account.specs.Appending.{CanLeave, CanEnd, HasPlaceFor, HasRoomFor, CanOperate, CountsFitIf, CanFly, CanRegister, CanAppend, room_of_walk}
 use Rattle.hp_account.specs.BatchTurns.{is_batch, HasPlaceInSet}
 use Rattle.hp_account.specs.FlightChanges.{IfFlies, IfWalks, CanGoOn}
 use Rattle.hp_account.specs.Flights.{IsFlights}
 use Rattle.hp_account.specs.Accounted.{NoAdmission}
-use Rattle.hp_account.specs.Operations.{IsSequence, IsHeldBy, HasCounts}
+use Rattle.hp_account.specs.Operations.{AreWalks, IsHeldBy, CountsFit}
 use Rattle.hp_account.specs.Places.{at_place}
-use Rattle.hp_account.specs.Seats.{Roll, IsRoll}
-use Rattle.hp_account.specs.Suspended.{Suspension, IsSuspended}
+use Rattle.hp_account.specs.Seats.{SeatsView, IsRoll}
+use Rattle.hp_account.specs.Suspended.{SuspendedView, IsSuspended}
 use Rattle.hp_account.specs.Table.{IsTableOf, HasRegistration}
 use Rattle.hp_account.proofs.FlightEntries.{can_enter}
-use Rattle.hp_account.proofs.FlightFacts.{walk_kept}
 use Rattle.hp_account.proofs.FlightSteps.{begin_idle, walker_idle, can_begin, can_end}
 use Rattle.hp_account.proofs.FlightsMore.{keys_begun, keys_called, room_is, flights_after}
 use Rattle.hp_account.proofs.TurnsMore.{can_turn}
@@ -50,7 +50,7 @@ use Rattle.hp_account.proofs.LocksCan.{locks_can}
 use Rattle.hp_account.proofs.PlaceLemmas.{at_place-within}
 use Rattle.hp_account.proofs.RegistrationMore.{registers}
 
-can_leave : (head : Head) (es : List Event) (r : Roll) (e : Event) → NoAdmission e → Comes head es e → IsRoll head es r → CanLeave e r
+can_leave : (head : Head) (es : List Event) (r : SeatsView) (e : Event) → NoAdmission e → Comes head es e → IsRoll head es r → CanLeave e r
 can_leave head es r (Admit seat role) other comes is = absurd (other seat role refl)
 can_leave head es r (Leave seat) other comes is =
     at_place-within r.roles seat comes.is_in.0 (sym (is.roles_are seat) ∙ comes.is_in.1)
@@ -61,7 +61,7 @@ pub armed_on : (head : Head) (es : List Event) (seat c : ℕ) (value : ℤ) → 
 armed_on head es seat c value comes =
     let p = passed head es seat (op.Arm c value) comes.free.idle comes.passes.not_waiting comes.passes.not_refused in
     let n = none_holds (refusals_at_once head es seat (op.Arm c value)) p.0 in
-    ltb-true c head.possible (there (is_possible head c) n.0)
+    ltb-true c head.possible (not_false (is_possible head c) n.0)
 
 -- a walk that ends is a present processor's
 pub ended_on : (head : Head) (es : List Event) (seat c : ℕ) (answer : Answer) → IsLawful head es → WalkEnds head es seat c answer →
@@ -86,7 +86,7 @@ placed head es p (Armed seat c value) lawful comes is =
     omega (arith, b, n)
 placed head es p e lawful comes is = tt
 
-can_suspend : (head : Head) (es : List Event) (s : Suspension) (e : Event) → IsLawful head es → Comes head es e → length es + 1 ≤ MAX_EVENTS →
+can_suspend : (head : Head) (es : List Event) (s : SuspendedView) (e : Event) → IsLawful head es → Comes head es e → length es + 1 ≤ MAX_EVENTS →
     IsSuspended head es s → HasRoomFor e s
 can_suspend head es s (WalkEnd seat c answer) lawful comes fits is =
     let b = ended_on head es seat c answer lawful comes in
@@ -96,8 +96,8 @@ can_suspend head es s (OpEnd seat answer) lawful comes fits is = let f = is.few 
 can_suspend head es s e lawful comes fits is = tt
 
 -- the walks of the operation that holds the map lock are fewer than the events
-counted : (head : Head) (entered es : List Event) (asked : Op) (s : Sequence) → length es + 1 ≤ MAX_EVENTS →
-    IsSequence head entered es asked s → HasCounts s
+counted : (head : Head) (entered es : List Event) (asked : Op) (s : Walks) → length es + 1 ≤ MAX_EVENTS →
+    AreWalks head entered es asked s → CountsFit s
 counted head entered es asked (Single w) fits is = tt
 counted head entered es asked (Freeze f) fits is = tt
 counted head entered es op.Thaw (Thaw t) fits is = let f = thawing_few es t is in omega (arith, f, fits)
@@ -113,11 +113,11 @@ counted head entered es asked (Thaw t) fits is = elim is [ ]
 counted head entered es asked (Boot b) fits is = elim is [ ]
 counted head entered es asked (Batch b) fits is = elim is [ ]
 
-counted_if : (head : Head) (es : List Event) (held : Option Held) → length es + 1 ≤ MAX_EVENTS → IsHeldBy head es held → HasCountsIf held
+counted_if : (head : Head) (es : List Event) (held : Option MapOperation) → length es + 1 ≤ MAX_EVENTS → IsHeldBy head es held → CountsFitIf held
 counted_if head es None fits is = tt
 counted_if head es (Some h) fits is = counted head is.of.before es is.of.op h.sequence fits is.sequence_is
 
-can_operate : (head : Head) (es : List Event) (held : Option Held) (e : Event) → IsLawful head es → Comes head es e →
+can_operate : (head : Head) (es : List Event) (held : Option MapOperation) (e : Event) → IsLawful head es → Comes head es e →
     length es + 1 ≤ MAX_EVENTS → IsHeldBy head es held → CanOperate e held
 can_operate head es held (Enter seat asked) lawful comes fits is = comes.takes_map
 can_operate head es held (WalkBegin seat cpu from to) lawful comes fits is =

@@ -1,6 +1,8 @@
 -- A registration that begins can be made in the table.
-use Rattle.std.proofs.Common.{◌≡◌, ℕ, ◌<◌, Bool, true, false, not, ◌||◌, eqb, leb, is_none, Option, Some, None, IsSome, List, [], ◌∷◌, length, refl, sym, ap, ◌∙◌, arith}
+use Rattle.std.proofs.Common.{◌≡◌, ℕ, ◌<◌, Bool, true, false, not, ◌||◌, eqb, leb, is_none, Option, Some, None, IsSome, List, [], length, refl, sym, ap, ◌∙◌, arith}
 use Rattle.std.proofs.lemmas.Bool.{true≢false, or_parts, leb-false}
+use Rattle.hp_model.proofs.InFlight.{empty_of}
+use Rattle.hp_states.proofs.Basics.{not_false, same_some, none_of}
 use Rattle.hp_states.specs.declared.limits.TheConstants.{ONLINE, MAX_INSTANCES, MAX_TABLE_INSTANCES}
 use Rattle.hp_states.specs.Sections.{is_dynamic}
 use Rattle.hp_event.specs.declared.op.Op.{Op}
@@ -16,7 +18,6 @@ use Rattle.hp_model.specs.RefusalsAtOnce.{refusals_at_once}
 use Rattle.hp_model.specs.Refusals.{refusals_after_waits, is_multi_state}
 use Rattle.hp_model.specs.StandsRegistrations.{RegBegins}
 use Rattle.hp_model.proofs.Passing.{passed, none_holds, setup_unnamed, above_0, begins_alone}
-use Rattle.hp_model.proofs.InFlight.{none_of}
 use Rattle.hp_table.specs.Step.{Step, step_at}
 use Rattle.hp_table.specs.Instances.{instances_at, is_multi, takes, has_no_room, has_instance}
 use Rattle.hp_table.specs.Sound.{IsSound}
@@ -28,27 +29,16 @@ use Rattle.hp_account.proofs.TableSays.{says, named_alike, none_alike, insts_ali
 pub begins_idle : (head : Head) (es : List Event) (seat state : ℕ) (op : Op) → RegBegins head es seat state op → registration es ≡ None
 begins_idle head es seat state op b = none_of (registration es) (begins_alone head es op state b.state_is b.passes.not_waiting).1
 
-same : {A : Type 0} (x y : A) → Some x ≡ Some y → x ≡ y
-same x y h = cc
-
 -- a setup's state is below the highest
 setup_below : (head : Head) (es : List Event) (asked state : ℕ) (b : Bool) → is_dynamic asked ≡ b → asked < ONLINE →
     resolved head es (Setup asked 0 (record { nocalls = false; locked = false })) ≡ Some state → state < ONLINE
 setup_below head es asked state true d below r = slot_below head es asked state d (rw d at r)
 setup_below head es asked state false d below r =
-    let is : asked ≡ state = same asked state (rw d at r) in omega (arith, is, below)
-
-not_among : (b : Bool) → not b ≡ false → b ≡ true
-not_among true h = refl
-not_among false h = absurd (true≢false h)
+    let is : asked ≡ state = same_some asked state (rw d at r) in omega (arith, is, below)
 
 some_there : (place : Option Step) → is_none place ≡ false → IsSome place
 some_there None h = absurd (true≢false h)
 some_there (Some step) h = refl
-
-empty_is : (xs : List ℕ) → not (is_empty xs) ≡ false → xs ≡ []
-empty_is [] h = refl
-empty_is (x ∷ xs) h = absurd (true≢false h)
 
 pub can_change : (head : Head) (es : List Event) (places : List (Option Step)) (seat : ℕ) (op : Op) (state : ℕ) →
     IsTableOf head es places → IsSound places → RegBegins head es seat state op → CanChange head op state places
@@ -70,11 +60,11 @@ can_change head es places seat (Remove s form) state t sound b =
     let idle = begins_idle head es seat state (Remove s form) b in
     let p = passed head es seat (Remove s form) b.free.idle b.passes.not_waiting b.passes.not_refused in
     let late = none_holds (refusals_after_waits head es (Remove s form)) p.1 in
-    let at : s ≡ state = same s state b.state_is in
+    let at : s ≡ state = same_some s state b.state_is in
     let is = says head es places s idle t in
     let there : is_none (step_at places s) ≡ false = sym (ap is_none is ∙ none_alike (step_at places s)) ∙ late.0 in
     let none : instances_at places s ≡ [] =
-    empty_is (instances_at places s)
+    empty_of (instances_at places s)
     (sym (ap (λ r. not (is_empty (instances r))) is ∙ ap (λ xs. not (is_empty xs)) (insts_alike (step_at places s))) ∙ late.1.0) in
     rw (← at) (some_there (step_at places s) there, none)
 can_change head es places seat (Add s inst form) state t sound b =
@@ -82,10 +72,10 @@ can_change head es places seat (Add s inst form) state t sound b =
     let p = passed head es seat (Add s inst form) b.free.idle b.passes.not_waiting b.passes.not_refused in
     let first = none_holds (refusals_at_once head es seat (Add s inst form)) p.0 in
     let late = none_holds (refusals_after_waits head es (Add s inst form)) p.1 in
-    let at : s ≡ state = same s state b.state_is in
+    let at : s ≡ state = same_some s state b.state_is in
     let is = says head es places s idle t in
     let multi : is_multi (step_at places s) ≡ true =
-    not_among (is_multi (step_at places s)) (sym (ap (λ r. not (is_multi_state r)) is ∙ ap not (multi_alike (step_at places s))) ∙ late.0) in
+    not_false (is_multi (step_at places s)) (sym (ap (λ r. not (is_multi_state r)) is ∙ ap not (multi_alike (step_at places s))) ∙ late.0) in
     let new : has_instance places s inst ≡ false =
     sym (ap (λ r. among inst (instances r)) is ∙ among_alike inst (step_at places s)) ∙ late.1.0 in
     let full : has_no_room places s ≡ false =
@@ -101,12 +91,12 @@ can_change head es places seat (Del s inst form) state t sound b =
     let idle = begins_idle head es seat state (Del s inst form) b in
     let p = passed head es seat (Del s inst form) b.free.idle b.passes.not_waiting b.passes.not_refused in
     let late = none_holds (refusals_after_waits head es (Del s inst form)) p.1 in
-    let at : s ≡ state = same s state b.state_is in
+    let at : s ≡ state = same_some s state b.state_is in
     let is = says head es places s idle t in
     let multi : is_multi (step_at places s) ≡ true =
-    not_among (is_multi (step_at places s)) (sym (ap (λ r. not (is_multi_state r)) is ∙ ap not (multi_alike (step_at places s))) ∙ late.0) in
+    not_false (is_multi (step_at places s)) (sym (ap (λ r. not (is_multi_state r)) is ∙ ap not (multi_alike (step_at places s))) ∙ late.0) in
     let has : has_instance places s inst ≡ true =
-    not_among (has_instance places s inst)
+    not_false (has_instance places s inst)
     (sym (ap (λ r. not (among inst (instances r))) is ∙ ap not (among_alike inst (step_at places s))) ∙ late.1.0) in
     rw (← at, multi, has) refl
 can_change head es places seat op state t sound b = absurd (cc)

@@ -2,6 +2,7 @@
 use Rattle.std.proofs.Common.{◌≡◌, ℕ, ◌-◌, Bool, true, false, eqb, Option, Some, None, List, [], ◌∷◌, ◌++◌, length, length-append, length-set, refl, ap, sym, subst, ◌∙◌, inl, inr, arith}
 use Rattle.std.specs.Prelude.{option_map}
 use Rattle.std.proofs.lemmas.Bool.{eq-eqb}
+use Rattle.hp_states.proofs.Basics.{none_some}
 use Rattle.hp_states.specs.CpuSets.{has}
 use Rattle.hp_states.specs.declared.dir.Dir.{Dir}
 use Rattle.hp_states.specs.declared.place.Place.{Place}
@@ -21,7 +22,6 @@ use Rattle.hp_model.proofs.Induction.{kept}
 use Rattle.hp_model.proofs.Kept.{RegistrationKept}
 use Rattle.hp_model.proofs.Laws.{walk_push, walk_entries_push, walking_push, registered_push}
 use Rattle.hp_model.proofs.OneEntry.{one_walk_entry}
-use Rattle.hp_model.proofs.Owners.{none_some}
 use Rattle.hp_model.proofs.WalkGives.{gives_by_caller}
 use Rattle.hp_table.specs.Step.{Step}
 use Rattle.hp_walk.specs.declared.step.Step.{Step as Ask}
@@ -35,7 +35,7 @@ use Rattle.hp_account.specs.declared.flights.Flight.{Flight}
 use Rattle.hp_account.specs.declared.flights.Flights.{Flights}
 use Rattle.hp_account.specs.Places.{at_place}
 use Rattle.hp_account.specs.Flights.{IsFlight, IsFlightOf, IsFlights}
-use Rattle.hp_account.specs.FlightChanges.{CanGoOn, WentOn}
+use Rattle.hp_account.specs.FlightChanges.{CanGoOn, WalkWentOn}
 use Rattle.hp_account.proofs.PlaceLemmas.{at_place-within}
 use Rattle.hp_account.proofs.FlightFacts.{flight_at, keys_at_begin}
 use Rattle.hp_account.proofs.WalkEntries.{entry_asked, end_gives, walk_fits}
@@ -138,7 +138,7 @@ went_on head xs places seat cpu state inst dir how f g b has a seat_is took left
 
 pub flights_entry : (head : Head) (xs : List Event) (places : List (Option Step)) (seat cpu state inst : ℕ) (dir : Dir) (how : How)
     (old new : Flights) → IsLawful head xs → Calls head xs seat cpu state inst dir how → IsFlights head xs old →
-    HasKeys head xs places → WentOn (keys_by places) cpu how old new →
+    HasKeys head xs places → WalkWentOn (keys_by places) cpu how old new →
     IsFlights head (xs ++ Call seat cpu state inst dir how ∷ []) new
 flights_entry head xs places seat cpu state inst dir how old new lawful h t table went =
     record {

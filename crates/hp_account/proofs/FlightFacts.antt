@@ -2,6 +2,8 @@
 use Rattle.std.proofs.Common.{◌≡◌, ℕ, zero, suc, ◌<◌, ◌≤◌, Bool, true, false, cond, eqb, is_some, Option, Some, None, List, [], ◌∷◌, ◌++◌, ◌+◌, length, get_or, refl, ap, sym, subst, ◌∙◌, arith}
 use Rattle.std.proofs.lemmas.Bool.{true≢false, eq-eqb}
 use Rattle.std.proofs.lemmas.Bool.Decides.{nat_tests}
+use Rattle.hp_model.proofs.EntryStays.{walk_kept}
+use Rattle.hp_model.proofs.RegistrationSteps.{del_once}
 use Rattle.hp_event.specs.declared.head.Head.{Head}
 use Rattle.hp_states.specs.CpuSets.{has}
 use Rattle.hp_event.specs.declared.event.Event.{Event}
@@ -16,9 +18,7 @@ use Rattle.hp_model.specs.Registrations.{registration}
 use Rattle.hp_model.specs.Suspend.{held_by}
 use Rattle.hp_model.specs.Walks.{Walk, walk, walking, walking_step}
 use Rattle.hp_model.proofs.Counts.{occurs-append}
-use Rattle.hp_model.proofs.Induction.{kept}
 use Rattle.hp_model.proofs.InFlight.{walking_is}
-use Rattle.hp_model.proofs.Kept.{WalkKept}
 use Rattle.hp_model.proofs.ListLemmas.{is_among, occurs-without, once_in, none_among}
 use Rattle.hp_model.proofs.OneNext.{owners}
 use Rattle.hp_model.proofs.WaitLemmas.{first_among}
@@ -34,7 +34,7 @@ use Rattle.hp_account.specs.Places.{at_place}
 use Rattle.hp_account.specs.Flights.{IsFlight, IsFlightOf, IsFlights}
 use Rattle.hp_account.specs.FlightChanges.{IfWalks}
 use Rattle.hp_account.specs.Table.{registered_by, IsTableOf}
-use Rattle.hp_account.specs.Walking.{IsOneOf}
+use Rattle.hp_account.specs.Walking.{IsFlightIn}
 use Rattle.hp_account.proofs.PlaceLemmas.{at_place-within}
 
 -- what is read at a place
@@ -50,7 +50,7 @@ flight_at head events flights c f t is = subst (IsFlightOf head events c) is (t.
 
 -- and it is one of the journal's
 pub one_of : (head : Head) (events : List Event) (flights : Flights) (c : ℕ) (f : Flight) → IsFlights head events flights →
-    at_place flights.by_cpu.items c ≡ Some f → (cpu_of f.walk ≡ c) × IsOneOf head events f
+    at_place flights.by_cpu.items c ≡ Some f → (cpu_of f.walk ≡ c) × IsFlightIn head events f
 one_of head events flights c f t is =
     let b = flight_at head events flights c f t is in
     let P : ℕ → Type 0 = λ n. at_place flights.by_cpu.items n ≡ Some f in
@@ -59,10 +59,6 @@ one_of head events flights c f t is =
 pub no_flight_at : (head : Head) (events : List Event) (flights : Flights) (c : ℕ) → IsFlights head events flights →
     at_place flights.by_cpu.items c ≡ None → walk c events ≡ None
 no_flight_at head events flights c t is = subst (IsFlightOf head events c) is (t.each c)
-
-pub walk_kept : (head : Head) (events : List Event) (c : ℕ) (w : Walk) → IsLawful head events → walk c events ≡ Some w →
-    WalkKept head c w events
-walk_kept head events c w lawful at = let k = (kept head events lawful).at c in rw at at k.kept
 
 -- while a processor walks no registration is in flight
 pub no_registration : (head : Head) (events : List Event) (c : ℕ) (f : Flight) → IsLawful head events → IsFlight head events c f →
@@ -98,14 +94,10 @@ keys_same head events places c f b s lawful t =
 once_more : (cpu d n : ℕ) → n ≤ 1 → cond (eqb d cpu) 0 n + (cond (eqb cpu d) 1 0 + 0) ≤ 1
 once_more cpu d n h = grind (arith, nat_tests)
 
-once_less : (b : Bool) (n : ℕ) → n ≤ 1 → cond b 0 n ≤ 1
-once_less true n h = omega arith
-once_less false n h = h
-
 once_step : (ws : List ℕ) (before : List Event) (e : Event) → ((d : ℕ) → occurs d ws ≤ 1) → (d : ℕ) → occurs d (walking_step ws before e) ≤ 1
 once_step ws before (WalkBegin seat cpu from to) h d =
     rw (occurs-append d (without cpu ws) (cpu ∷ []), occurs-without cpu d ws) (once_more cpu d (occurs d ws) (h d))
-once_step ws before (WalkEnd seat cpu answer) h d = rw (occurs-without cpu d ws) (once_less (eqb d cpu) (occurs d ws) (h d))
+once_step ws before (WalkEnd seat cpu answer) h d = rw (occurs-without cpu d ws) (del_once (eqb d cpu) (occurs d ws) (h d))
 once_step ws before e h d = h d
 
 once_from : (ws : List ℕ) (before es : List Event) → ((d : ℕ) → occurs d ws ≤ 1) → (d : ℕ) → occurs d (over_from walking_step ws before es) ≤ 1

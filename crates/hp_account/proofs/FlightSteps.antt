@@ -3,6 +3,8 @@ use Rattle.std.proofs.Common.{◌≡◌, ◌≢◌, ℕ, ◌-◌, ◌<◌, ◌�
 use Rattle.std.specs.Prelude.{slice_set}
 use Rattle.std.proofs.lemmas.List.{length-replicate}
 use Rattle.std.proofs.lemmas.Bool.{true≢false, eqb-true, eq-eqb}
+use Rattle.hp_model.proofs.EntryStays.{walk_kept}
+use Rattle.hp_states.proofs.Basics.{none_of, none_some}
 use Rattle.hp_states.specs.declared.limits.TheConstants.{MAX_CPU_SET, ONLINE}
 use Rattle.hp_event.specs.declared.answer.Answer.{Answer}
 use Rattle.hp_event.specs.declared.head.Head.{Head}
@@ -20,11 +22,10 @@ use Rattle.hp_model.specs.Walks.{walk, walk_entries, walking}
 use Rattle.hp_model.proofs.EntryBounds.{walk_bound}
 use Rattle.hp_model.proofs.Induction.{kept}
 use Rattle.hp_model.proofs.WaitLemmas.{walks_alone}
-use Rattle.hp_model.proofs.InFlight.{none_of, among-in, among-out}
+use Rattle.hp_model.proofs.InFlight.{among-in, among-out}
 use Rattle.hp_model.proofs.Kept.{RegistrationKept}
 use Rattle.hp_model.proofs.Laws.{walk_push, walk_entries_push, walking_push, registered_push}
 use Rattle.hp_model.proofs.OneNext.{owners}
-use Rattle.hp_model.proofs.Owners.{none_some}
 use Rattle.hp_table.specs.Step.{Step}
 use Rattle.hp_walk.specs.Keys.{keys_by}
 use Rattle.hp_walk.proofs.Alike.{after_alike}
@@ -33,9 +34,9 @@ use Rattle.hp_account.specs.declared.flights.Flights.{Flights}
 use Rattle.hp_account.specs.Places.{at_place}
 use Rattle.hp_account.specs.Flights.{IsFlight, IsFlightOf, IsFlights}
 use Rattle.hp_account.specs.Table.{IsTableOf}
-use Rattle.hp_account.specs.FlightChanges.{IsStill, Begun, IfWalks, Ended}
+use Rattle.hp_account.specs.FlightChanges.{IsStill, WalkBegan, IfWalks, WalkEnded}
 use Rattle.hp_account.proofs.PlaceLemmas.{at_place-none, at_place-set, at_place-within}
-use Rattle.hp_account.proofs.FlightFacts.{flight_at, no_flight_at, walk_kept, no_registration, keys_there, flight_of}
+use Rattle.hp_account.proofs.FlightFacts.{flight_at, no_flight_at, no_registration, keys_there, flight_of}
 use Rattle.hp_account.proofs.WalkMoves.{walk_begins}
 
 -- what the table has is what is registered
@@ -178,7 +179,7 @@ can_begin head xs seat cpu from to need old lawful h t most n =
 
 pub flights_begin : (head : Head) (xs : List Event) (places : List (Option Step)) (seat cpu from to need : ℕ) (old new : Flights) →
     IsLawful head xs → WalkBegins head xs seat cpu from to → IsFlights head xs old → HasKeys head xs places →
-    Begun (keys_by places) seat cpu from to need old new → need ≡ walk_need head xs from to →
+    WalkBegan (keys_by places) seat cpu from to need old new → need ≡ walk_need head xs from to →
     IsFlights head (xs ++ WalkBegin seat cpu from to ∷ []) new
 flights_begin head xs places seat cpu from to need old new lawful h t has b n =
     record {
@@ -241,7 +242,7 @@ can_end head xs seat cpu answer old lawful h t =
 
 -- the walk ends, and gives back what is left of its room
 pub flights_end : (head : Head) (xs : List Event) (seat cpu : ℕ) (answer : Answer) (freed : ℕ) (old new : Flights) →
-    WalkEnds head xs seat cpu answer → IsFlights head xs old → Ended cpu freed old new →
+    WalkEnds head xs seat cpu answer → IsFlights head xs old → WalkEnded cpu freed old new →
     IsFlights head (xs ++ WalkEnd seat cpu answer ∷ []) new × (freed ≡ given_back head xs (WalkEnd seat cpu answer))
 flights_end head xs seat cpu answer freed old new h t ended = (
   record {

@@ -15,8 +15,8 @@ use Rattle.hp_table.specs.Step.{Step}
 use Rattle.hp_walk.specs.Keys.{keys_by}
 use Rattle.hp_account.specs.declared.flights.Flight.{Flight}
 use Rattle.hp_account.specs.declared.flights.Flights.{Flights}
-use Rattle.hp_account.specs.declared.operation.Held.{Held}
-use Rattle.hp_account.specs.Appending.{Flew, WentOnIf, room_of_walk}
+use Rattle.hp_account.specs.declared.operation.MapOperation.{MapOperation}
+use Rattle.hp_account.specs.Appending.{WalksChanged, WalkWentOnIf, room_of_walk}
 use Rattle.hp_account.specs.BatchTurns.{is_batch}
 use Rattle.hp_account.specs.Flights.{IsFlights}
 use Rattle.hp_account.specs.Operations.{IsHeldBy}
@@ -42,7 +42,7 @@ keys_called head es places seat c st i d how t idle = λ s.
     ∙ has_keys head (es ++ e ∷ []) places t (registration_push es e ∙ idle) s
 
 -- a walk that begins has the room that it needs
-pub room_is : (head : Head) (es : List Event) (places : List (Option Step)) (held : Option Held) (needed seat cpu from to : ℕ) →
+pub room_is : (head : Head) (es : List Event) (places : List (Option Step)) (held : Option MapOperation) (needed seat cpu from to : ℕ) →
     IsHeldBy head es held → HasKeys head es places → needed ≡ taken (need head es (WalkBegin seat cpu from to)) →
     room_of_walk (keys_by places) (is_batch held) needed (WalkBegin seat cpu from to) ≡ walk_need head es from to
 room_is head es places held needed seat cpu from to is has n = go (is_batch held) refl
@@ -56,10 +56,10 @@ pub flights_same : (head : Head) (es : List Event) (e : Event) (old new : Flight
 flights_same head es e old new lawful comes is leaves same =
     subst (IsFlights head (es ++ e ∷ [])) (sym same) (flights_stay head es e old lawful comes is leaves)
 
-pub flights_after : (head : Head) (es : List Event) (places : List (Option Step)) (held : Option Held) (needed freed : ℕ) (e : Event)
+pub flights_after : (head : Head) (es : List Event) (places : List (Option Step)) (held : Option MapOperation) (needed freed : ℕ) (e : Event)
     (old new : Flights) → IsLawful head es → Comes head es e → needed ≡ taken (need head es e) →
     IsTableOf head (es ++ e ∷ []) places → IsHeldBy head es held → IsFlights head es old →
-    Flew (keys_by places) (room_of_walk (keys_by places) (is_batch held) needed e) freed e old new → IsFlights head (es ++ e ∷ []) new
+    WalksChanged (keys_by places) (room_of_walk (keys_by places) (is_batch held) needed e) freed e old new → IsFlights head (es ++ e ∷ []) new
 flights_after head es places held needed freed (WalkBegin seat cpu from to) old new lawful comes n t by is flew =
     let has = keys_begun head es places seat cpu from to t (begin_idle head es seat cpu from to lawful comes) in
     let room = room_of_walk (keys_by places) (is_batch held) needed (WalkBegin seat cpu from to) in
@@ -68,7 +68,7 @@ flights_after head es places held needed freed (WalkBegin seat cpu from to) old 
 flights_after head es places held needed freed (Call seat c s i d how) old new lawful comes n t by is flew =
     go (at_place old.by_cpu.items c) refl flew.0
   where
-    go : (o : Option Flight) → at_place old.by_cpu.items c ≡ o → WentOnIf o (keys_by places) c how old new →
+    go : (o : Option Flight) → at_place old.by_cpu.items c ≡ o → WalkWentOnIf o (keys_by places) c how old new →
         IsFlights head (es ++ Call seat c s i d how ∷ []) new
     go None none same = flights_same head es (Call seat c s i d how) old new lawful comes is none same
     go (Some f) walks went =

@@ -3,6 +3,7 @@ use Rattle.std.proofs.Common.{◌≡◌, ℕ, ℤ, zero, suc, pos, ◌<◌, Bool
 use Rattle.std.specs.Prelude.{slice_get, slice_index, map, option_map}
 use Rattle.std.proofs.lemmas.Bool.{ltb-true}
 use Rattle.std.proofs.lemmas.Option.{slice_get-get_or}
+use Rattle.hp_states.proofs.Basics.{not_false}
 use Rattle.hp_states.specs.declared.cpu_set.CpuSet.{CpuSet}
 use Rattle.hp_states.specs.Sections.{is_online_state}
 use Rattle.hp_event.specs.declared.answer.Answer.{Answer}
@@ -22,7 +23,7 @@ use Rattle.hp_model.specs.Sequence.{walks, ends, answers, failures, single_next,
 use Rattle.hp_model.specs.Lawful.{IsLawful}
 use Rattle.hp_model.specs.StandsOperations.{Enters}
 use Rattle.hp_model.proofs.Induction.{held_from, held_none}
-use Rattle.hp_model.proofs.Operations.{EnteredBy, there}
+use Rattle.hp_model.proofs.Operations.{EnteredBy}
 use Rattle.hp_model.proofs.Passing.{passed, none_holds}
 use Rattle.hp_suspend.specs.Tables.{AreAll, AreOnline, AreSettled}
 use Rattle.hp_account.specs.declared.operation.OneWalk.{OneWalk}
@@ -35,10 +36,10 @@ use Rattle.hp_suspend.specs.Batching.{IsBatching}
 use Rattle.hp_suspend.specs.Freezing.{IsFreezing}
 use Rattle.hp_suspend.specs.Thawing.{IsThawing}
 use Rattle.hp_suspend.specs.Booting.{IsBooting}
-use Rattle.hp_account.specs.declared.operation.Sequence.TheVariants.{Single, Freeze, Thaw, Boot, Batch, NoWalk}
-use Rattle.hp_account.specs.declared.operation.Held.{Held}
-use Rattle.hp_account.specs.Operations.{IsSingle, IsSequence, IsHeld, single_by}
-use Rattle.hp_account.specs.Processors.{Standing, IsStanding, online_flags}
+use Rattle.hp_account.specs.declared.operation.Walks.TheVariants.{Single, Freeze, Thaw, Boot, Batch, NoWalk}
+use Rattle.hp_account.specs.declared.operation.MapOperation.{MapOperation}
+use Rattle.hp_account.specs.Operations.{IsSingle, AreWalks, IsHeld, single_by}
+use Rattle.hp_account.specs.Processors.{ProcessorsView, IsStanding, online_flags}
 
 -- flags are a list with a place for each
 pub flags_all : (head : Head) (test : ℕ → Bool) (flags : List Bool) → AreFlags test head.possible flags → AreAll head test flags
@@ -49,7 +50,7 @@ flags_all head test flags h =
       each = λ c below. slice_get-get_or flags c false (omega (arith, n, below)) ∙ ap Some (h.each c below);
     }
 
-pub settled_all : (head : Head) (es : List Event) (p : Standing) → IsStanding head es p → AreSettled head es p.settled
+pub settled_all : (head : Head) (es : List Event) (p : ProcessorsView) → IsStanding head es p → AreSettled head es p.settled
 settled_all head es p h =
     let n = h.cpus in
     record {
@@ -66,7 +67,7 @@ map_length : (xs : List ℕ) → length (map is_online_state xs) ≡ length xs
 map_length [] = refl
 map_length (x ∷ xs) = ap suc (map_length xs)
 
-pub online_all : (head : Head) (es : List Event) (p : Standing) → IsStanding head es p → AreOnline head es (online_flags p)
+pub online_all : (head : Head) (es : List Event) (p : ProcessorsView) → IsStanding head es p → AreOnline head es (online_flags p)
 online_all head es p h =
     record {
       length_is = map_length p.settled ∙ h.cpus;
@@ -80,7 +81,7 @@ entered head es o lawful held =
     (rw held at k).enters
 
 -- what one walk asks for, by the journal
-one_next : (head : Head) (es : List Event) (p : Standing) (cpu to : ℕ) (w : OneWalk) → cpu < head.possible → IsStanding head es p →
+one_next : (head : Head) (es : List Event) (p : ProcessorsView) (cpu to : ℕ) (w : OneWalk) → cpu < head.possible → IsStanding head es p →
     IsSingle cpu to es w → single_by w.cpu w.to (slice_index p.settled w.cpu) w.answer ≡ single_next cpu to (settled cpu es) (answers es)
 one_next head es p cpu to w below standing is =
     rw (is.cpu_is, is.to_is, standing.settled_is cpu below, is.answer_is) (go (answers es))
@@ -90,25 +91,25 @@ one_next head es p cpu to w below standing is =
     go (x ∷ xs) = refl
 
 -- so what comes next is what the journal says, whose processor is a possible one
-pub single_is : (head : Head) (es : List Event) (p : Standing) (o : Operation) (w : OneWalk) → IsLawful head es → operation es ≡ Some o →
-    IsStanding head es p → IsSequence head o.before es o.op (Single w) →
+pub single_is : (head : Head) (es : List Event) (p : ProcessorsView) (o : Operation) (w : OneWalk) → IsLawful head es → operation es ≡ Some o →
+    IsStanding head es p → AreWalks head o.before es o.op (Single w) →
     single_by w.cpu w.to (slice_index p.settled w.cpu) w.answer ≡ next head es o.before o.op
 single_is head es p o w lawful held standing is =
     let e = entered head es o lawful held in
     let q = passed head o.before o.seat o.op e.free.idle e.passes.not_waiting e.passes.not_refused in
     go o.op q.0 is
   where
-    go : (asked : Op) → first_that_holds (refusals_at_once head o.before o.seat asked) ≡ None → IsSequence head o.before es asked (Single w) →
+    go : (asked : Op) → first_that_holds (refusals_at_once head o.before o.seat asked) ≡ None → AreWalks head o.before es asked (Single w) →
         single_by w.cpu w.to (slice_index p.settled w.cpu) w.answer ≡ next head es o.before asked
     go (op.Up c) h is =
         let n = none_holds (refusals_at_once head o.before o.seat (op.Up c)) h in
-        one_next head es p c 200 w (ltb-true c head.possible (there (is_possible head c) n.1.0)) standing is
+        one_next head es p c 200 w (ltb-true c head.possible (not_false (is_possible head c) n.1.0)) standing is
     go (op.Down c) h is =
         let n = none_holds (refusals_at_once head o.before o.seat (op.Down c)) h in
-        one_next head es p c 0 w (ltb-true c head.possible (there (is_possible head c) n.1.0)) standing is
+        one_next head es p c 0 w (ltb-true c head.possible (not_false (is_possible head c) n.1.0)) standing is
     go (op.Target c v) h is =
         let n = none_holds (refusals_at_once head o.before o.seat (op.Target c v)) h in
-        one_next head es p c (target_of v) w (ltb-true c head.possible (there (is_possible head c) n.1.0)) standing is
+        one_next head es p c (target_of v) w (ltb-true c head.possible (not_false (is_possible head c) n.1.0)) standing is
     go asked h is = elim is [ ]
 
 -- each other sequence is its operation's
@@ -117,18 +118,18 @@ pub record OfFreeze (head : Head) (es : List Event) (o : Operation) (f : AFreeze
   pub op_is : o.op ≡ op.Freeze primary
   pub is : IsFreezing head o.before es primary f
 
-pub freeze_is : (head : Head) (es : List Event) (o : Operation) (f : AFreeze) → IsSequence head o.before es o.op (Freeze f) → OfFreeze head es o f
+pub freeze_is : (head : Head) (es : List Event) (o : Operation) (f : AFreeze) → AreWalks head o.before es o.op (Freeze f) → OfFreeze head es o f
 freeze_is head es o f is = go o.op refl is
   where
-    go : (asked : Op) → o.op ≡ asked → IsSequence head o.before es asked (Freeze f) → OfFreeze head es o f
+    go : (asked : Op) → o.op ≡ asked → AreWalks head o.before es asked (Freeze f) → OfFreeze head es o f
     go (op.Freeze p) e is = record { primary = p; op_is = e; is = is }
     go asked e is = elim is [ ]
 
-pub thaw_is : (head : Head) (es : List Event) (o : Operation) (t : AThaw) → IsSequence head o.before es o.op (Thaw t) →
+pub thaw_is : (head : Head) (es : List Event) (o : Operation) (t : AThaw) → AreWalks head o.before es o.op (Thaw t) →
     (o.op ≡ op.Thaw) × IsThawing es t
 thaw_is head es o t is = go o.op refl is
   where
-    go : (asked : Op) → o.op ≡ asked → IsSequence head o.before es asked (Thaw t) → (o.op ≡ op.Thaw) × IsThawing es t
+    go : (asked : Op) → o.op ≡ asked → AreWalks head o.before es asked (Thaw t) → (o.op ≡ op.Thaw) × IsThawing es t
     go op.Thaw e is = (e, is)
     go asked e is = elim is [ ]
 
@@ -137,10 +138,10 @@ pub record OfBoot (es : List Event) (o : Operation) (b : ABoot) : Type 0 where
   pub op_is : o.op ≡ op.Boot max
   pub is : IsBooting max es b
 
-pub boot_is : (head : Head) (es : List Event) (o : Operation) (b : ABoot) → IsSequence head o.before es o.op (Boot b) → OfBoot es o b
+pub boot_is : (head : Head) (es : List Event) (o : Operation) (b : ABoot) → AreWalks head o.before es o.op (Boot b) → OfBoot es o b
 boot_is head es o b is = go o.op refl is
   where
-    go : (asked : Op) → o.op ≡ asked → IsSequence head o.before es asked (Boot b) → OfBoot es o b
+    go : (asked : Op) → o.op ≡ asked → AreWalks head o.before es asked (Boot b) → OfBoot es o b
     go (op.Boot n) e is = record { max = n; op_is = e; is = is }
     go asked e is = elim is [ ]
 
@@ -149,10 +150,10 @@ pub record OfBatch (head : Head) (es : List Event) (o : Operation) (b : ABatch) 
   pub op_is : o.op ≡ op.UpMany set
   pub is : IsBatching head o.before es set b
 
-pub batch_is : (head : Head) (es : List Event) (o : Operation) (b : ABatch) → IsSequence head o.before es o.op (Batch b) → OfBatch head es o b
+pub batch_is : (head : Head) (es : List Event) (o : Operation) (b : ABatch) → AreWalks head o.before es o.op (Batch b) → OfBatch head es o b
 batch_is head es o b is = go o.op refl is
   where
-    go : (asked : Op) → o.op ≡ asked → IsSequence head o.before es asked (Batch b) → OfBatch head es o b
+    go : (asked : Op) → o.op ≡ asked → AreWalks head o.before es asked (Batch b) → OfBatch head es o b
     go (op.UpMany set) e is = record { set = set; op_is = e; is = is }
     go asked e is = elim is [ ]
 
@@ -197,20 +198,20 @@ batch_ends_next head es o set b held asked is still h =
     (sym still)
     ∙ ap (next head es o.before) (sym asked)
 
-pub none_is : (head : Head) (es : List Event) (o : Operation) → IsSequence head o.before es o.op NoWalk →
+pub none_is : (head : Head) (es : List Event) (o : Operation) → AreWalks head o.before es o.op NoWalk →
     ends (Ok (pos 0)) ≡ next head es o.before o.op
 none_is head es o is = go o.op is
   where
-    go : (asked : Op) → IsSequence head o.before es asked NoWalk → ends (Ok (pos 0)) ≡ next head es o.before asked
+    go : (asked : Op) → AreWalks head o.before es asked NoWalk → ends (Ok (pos 0)) ≡ next head es o.before asked
     go op.Disable is = refl
     go op.Enable is = refl
     go asked is = elim is [ ]
 
 -- of the operation that holds the lock
-pub of_held : (head : Head) (es : List Event) (h : Held) (o : Operation) → IsHeld head es h → operation es ≡ Some o →
-    IsSequence head o.before es o.op h.sequence
+pub of_held : (head : Head) (es : List Event) (h : MapOperation) (o : Operation) → IsHeld head es h → operation es ≡ Some o →
+    AreWalks head o.before es o.op h.sequence
 of_held head es h o is held =
-    subst (λ x. IsSequence head x.before es x.op h.sequence) (same is.of o (sym is.held ∙ held)) is.sequence_is
+    subst (λ x. AreWalks head x.before es x.op h.sequence) (same is.of o (sym is.held ∙ held)) is.sequence_is
   where
     same : (a b : Operation) → Some a ≡ Some b → a ≡ b
     same a b e = cc

@@ -2,6 +2,7 @@
 use Rattle.std.proofs.Common.{◌≡◌, ℕ, Bool, true, false, Option, Some, None, List, refl, ap, sym, ◌∙◌, inl, inr}
 use Rattle.std.specs.Prelude.{IfSome, option_map, is_some}
 use Rattle.std.proofs.lemmas.Bool.{true≢false}
+use Rattle.hp_states.proofs.Basics.{none_some}
 use Rattle.hp_states.specs.declared.dir.Dir.{Dir}
 use Rattle.hp_states.specs.declared.place.Place.{Place}
 use Rattle.hp_event.specs.declared.key.Key.{Key}
@@ -10,8 +11,8 @@ use Rattle.hp_event.specs.declared.head.Head.{Head}
 use Rattle.hp_event.specs.declared.event.Event.{Event}
 use Rattle.hp_model.specs.How.{how_in_walk, how_answered, answer_at}
 use Rattle.hp_model.specs.StandsCalls.{WalkEntry}
-use Rattle.hp_account.specs.declared.under_way.Means.{Means}
-use Rattle.hp_account.specs.declared.under_way.Means.TheVariants.{Presumed, Empty, Injected, Hook}
+use Rattle.hp_account.specs.declared.under_way.MadeBy.{MadeBy}
+use Rattle.hp_account.specs.declared.under_way.MadeBy.TheVariants.{Presumed, Empty, Injected, Hook}
 use Rattle.hp_model.specs.How.{how_in_registration, is_nocalls}
 use Rattle.hp_model.specs.StandsCalls.{RegistrationEntry}
 use Rattle.hp_model.proofs.OneRegistration.{same_registration_entry, registration_ended}
@@ -19,7 +20,7 @@ use Rattle.hp_reg.specs.Asked.{asked as reg_asked}
 use Rattle.hp_reg.specs.Concerned.{key_at, cpus_at}
 use Rattle.hp_reg.specs.declared.step.RegStep.TheVariants as regstep
 use Rattle.hp_account.specs.declared.registering.Registering.{Registering}
-use Rattle.hp_account.specs.Processors.{Standing, IsStanding}
+use Rattle.hp_account.specs.Processors.{ProcessorsView, IsStanding}
 use Rattle.hp_account.specs.Registering.{IsRegistering}
 use Rattle.hp_account.specs.RegistrationMeans.{means_of}
 use Rattle.hp_account.specs.Table.{IsTableOf}
@@ -41,11 +42,10 @@ use Rattle.hp_model.specs.Registered.{keys}
 use Rattle.hp_model.proofs.OneEntry.{one_walk_entry}
 use Rattle.hp_walk.proofs.Alike.{asked_alike}
 use Rattle.hp_account.specs.declared.flights.Flight.{Flight}
-use Rattle.hp_account.specs.Coming.{means_in_walk}
-use Rattle.hp_account.specs.Walking.{IsOneOf, IsBeside}
+use Rattle.hp_account.specs.NextStep.{means_in_walk}
+use Rattle.hp_account.specs.Walking.{IsFlightIn, IsSceneOf}
 use Rattle.hp_model.specs.ApTurn.{IsApTurn, IsEntryOf}
 use Rattle.hp_model.specs.Lawful.{IsLawful}
-use Rattle.hp_model.proofs.Owners.{none_some}
 use Rattle.hp_model.proofs.SomeMoves.{some_of}
 use Rattle.hp_model.proofs.WalkGives.{gives_by_caller}
 use Rattle.hp_account.specs.declared.flights.Flights.{Flights}
@@ -57,11 +57,11 @@ use Rattle.hp_account.proofs.WalkComing.{flight_means}
 use Rattle.hp_account.proofs.TableMore.{answered_called}
 
 -- an entry calls the hook where that makes it
-pub hook_made : (s code : ℕ) (may_fail : Bool) (by : Means) (how : How) → how_of_means by (how_answered may_fail code) ≡ how →
+pub hook_made : (s code : ℕ) (may_fail : Bool) (by : MadeBy) (how : How) → how_of_means by (how_answered may_fail code) ≡ how →
     hook_by s by ≡ hook_asked s how
 hook_made s code may_fail by how is = go by ∙ ap (hook_asked s) is
   where
-    go : (m : Means) → hook_by s m ≡ hook_asked s (how_of_means m (how_answered may_fail code))
+    go : (m : MadeBy) → hook_by s m ≡ hook_asked s (how_of_means m (how_answered may_fail code))
     go Presumed = refl
     go Empty = refl
     go Injected = refl
@@ -69,13 +69,13 @@ hook_made s code may_fail by how is = go by ∙ ap (hook_asked s) is
 
 -- of the walk of a flight
 pub flight_asks : (head : Head) (events : List Event) (f : Flight) (places : List (Option Step)) (armed_at thread : Option ℕ) (key : Key)
-    (d : Dir) (place : Place) (first : Bool) (means : Means) → IsOneOf head events f →
-    IsBeside head events places (cpu_of f.walk) armed_at thread → ask.Call key d place first ≡ asked (keys_by places) f.walk →
+    (d : Dir) (place : Place) (first : Bool) (made_by : MadeBy) → IsFlightIn head events f →
+    IsSceneOf head events places (cpu_of f.walk) armed_at thread → ask.Call key d place first ≡ asked (keys_by places) f.walk →
     IsWithin (keys_by places) f.walk →
-    IfSome (step_at places key.state) (λ step. means ≡ means_in_walk step.kept armed_at key.state d place first) →
+    IfSome (step_at places key.state) (λ step. made_by ≡ means_in_walk step.kept armed_at key.state d place first) →
     (s i : ℕ) (dir : Dir) (how : How) → WalkEntry head events (cpu_of f.walk) s i dir how →
-    hook_by key.state means ≡ hook_asked s how
-flight_asks head events f places armed_at thread key d place first means one beside is within by s i dir how entry =
+    hook_by key.state made_by ≡ hook_asked s how
+flight_asks head events f places armed_at thread key d place first made_by one beside is within by s i dir how entry =
     let c : ℕ = cpu_of f.walk in
     let b = flight_at head events one.flights c f one.flights_are one.there in
     let K = keys head b.of.before in
@@ -83,13 +83,13 @@ flight_asks head events f places armed_at thread key d place first means one bes
     let e = entry_asked head events c f key d place first b (asked_alike K (keys_by places) same f.walk ∙ sym is) in
     let made : How = how_in_walk head events c key.state key.inst d place first in
     let alike = one_walk_entry head events c s key.state i key.inst dir d how made entry e.0 in
-    hook_made key.state (answer_at head events c key.state key.inst d) (can_fail d key.state place) means made
-    (flight_means head events f places armed_at thread key d place first means one beside is within by)
+    hook_made key.state (answer_at head events c key.state key.inst d) (can_fail d key.state place) made_by made
+    (flight_means head events f places armed_at thread key d place first made_by one beside is within by)
     ∙ rw (alike.state_same, alike.how_same) refl
 
 -- a walk that is at its end has no entry
 pub flight_over : (head : Head) (events : List Event) (f : Flight) (places : List (Option Step)) (armed_at thread : Option ℕ)
-    (answer : Answer) → IsOneOf head events f → IsBeside head events places (cpu_of f.walk) armed_at thread →
+    (answer : Answer) → IsFlightIn head events f → IsSceneOf head events places (cpu_of f.walk) armed_at thread →
     ask.Ended answer ≡ asked (keys_by places) f.walk →
     (s i : ℕ) (dir : Dir) (how : How) → WalkEntry head events (cpu_of f.walk) s i dir how → ⊥
 flight_over head events f places armed_at thread answer one beside is s i dir how entry =
@@ -116,9 +116,9 @@ not_there None h = refl
 not_there (Some f) h = absurd (true≢false h)
 
 -- of a registration in flight
-pub registration_asks : (head : Head) (es : List Event) (places : List (Option Step)) (p : Standing) (g : Registering)
+pub registration_asks : (head : Head) (es : List Event) (places : List (Option Step)) (p : ProcessorsView) (g : Registering)
     (r : IsRegistering head es g) → IsTableOf head es places → IsStanding head es p → (c : ℕ) (key : Key) (d : Dir) (place : Place)
-    (by : Means) → key.state ≡ g.reg.state →
+    (by : MadeBy) → key.state ≡ g.reg.state →
     regstep.Call c key d place ≡ reg_asked (key_at places g.reg) (cpus_at p.settled head.absent g.reg) g.reg →
     IfSome (step_at places key.state) (λ step. by ≡ means_of (is_nocalls g.reg.op) step.kept d) →
     (on s i : ℕ) (dir : Dir) (how : How) → RegistrationEntry head es on s i dir how → hook_by key.state by ≡ hook_asked s how
@@ -130,7 +130,7 @@ registration_asks head es places p g r t standing c key d place by at asks means
     (registration_means head es places g r t c key d place by at means_are)
     ∙ rw (alike.state_same, alike.how_same) refl
 
-pub registration_over : (head : Head) (es : List Event) (places : List (Option Step)) (p : Standing) (g : Registering) →
+pub registration_over : (head : Head) (es : List Event) (places : List (Option Step)) (p : ProcessorsView) (g : Registering) →
     IsRegistering head es g → IsTableOf head es places → IsStanding head es p → (answer : Answer) →
     regstep.Ended answer ≡ reg_asked (key_at places g.reg) (cpus_at p.settled head.absent g.reg) g.reg →
     (on s i : ℕ) (dir : Dir) (how : How) → RegistrationEntry head es on s i dir how → ⊥

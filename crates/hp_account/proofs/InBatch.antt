@@ -4,6 +4,8 @@ use Rattle.std.specs.Prelude.{find, slice_get}
 use Rattle.std.specs.Option.{option_or}
 use Rattle.std.proofs.lemmas.Bool.{true≢false, false≢true, ltb-true, ltb-false, and_parts}
 use Rattle.std.proofs.lemmas.List.Folds.{find-append}
+use Rattle.hp_model.proofs.EntryStays.{walk_kept}
+use Rattle.hp_states.proofs.Basics.{none_some, same_some}
 use Rattle.hp_states.specs.declared.cpu_set.CpuSet.{CpuSet}
 use Rattle.hp_states.specs.CpuSets.{IsLowestFrom}
 use Rattle.hp_event.specs.declared.op.Op.{Op}
@@ -23,7 +25,6 @@ use Rattle.hp_model.specs.Suspend.{held_by}
 use Rattle.hp_model.specs.Walks.{Walk, walk, walking, is_walking}
 use Rattle.hp_model.proofs.InFlight.{walking_is}
 use Rattle.hp_model.proofs.OneNext.{owners}
-use Rattle.hp_model.proofs.Owners.{same_some, none_some}
 use Rattle.hp_model.proofs.SomeMoves.{some_of}
 use Rattle.hp_model.proofs.TurnQueue.{queue_turn}
 use Rattle.hp_model.proofs.WaitLemmas.{first_among}
@@ -31,29 +32,29 @@ use Rattle.hp_suspend.specs.declared.batch.Batch.{Batch as ABatch}
 use Rattle.hp_suspend.specs.Batching.{IsBatching}
 use Rattle.hp_suspend.specs.Turns.{Queue}
 use Rattle.hp_account.specs.declared.flights.Flights.{Flights}
-use Rattle.hp_account.specs.declared.operation.Held.{Held}
-use Rattle.hp_account.specs.declared.operation.Sequence.{Sequence}
-use Rattle.hp_account.specs.declared.operation.Sequence.TheVariants.{Batch}
+use Rattle.hp_account.specs.declared.operation.MapOperation.{MapOperation}
+use Rattle.hp_account.specs.declared.operation.Walks.{Walks}
+use Rattle.hp_account.specs.declared.operation.Walks.TheVariants.{Batch}
 use Rattle.hp_account.specs.Batches.{batch_by, batch_of, IsKnown, IsUpmanyAt}
 use Rattle.hp_account.specs.BatchTurns.{is_batch, IsTurns}
 use Rattle.hp_account.specs.Flights.{IsFlights}
-use Rattle.hp_account.specs.Operations.{IsSequence, IsHeldBy}
+use Rattle.hp_account.specs.Operations.{AreWalks, IsHeldBy}
 use Rattle.hp_account.specs.Places.{at_place}
-use Rattle.hp_account.specs.Seats.{Roll, IsRoll}
-use Rattle.hp_account.proofs.FlightFacts.{walk_kept, flown}
+use Rattle.hp_account.specs.Seats.{SeatsView, IsRoll}
+use Rattle.hp_account.proofs.FlightFacts.{flown}
 use Rattle.hp_account.proofs.PlaceLemmas.{at_place-within}
 
-batch_op : (head : Head) (entered es : List Event) (asked : Op) (b : ABatch) → IsSequence head entered es asked (Batch b) →
+batch_op : (head : Head) (entered es : List Event) (asked : Op) (b : ABatch) → AreWalks head entered es asked (Batch b) →
     (set : CpuSet) × (asked ≡ op.UpMany set) × IsBatching head entered es set b
 batch_op head entered es (op.UpMany set) b q = (set, refl, q)
 batch_op head entered es asked b q = elim q [ ]
 
-pub of_batch : (head : Head) (es : List Event) (h : Option Held) (k : ℕ) (b : ABatch) → IsHeldBy head es h →
+pub of_batch : (head : Head) (es : List Event) (h : Option MapOperation) (k : ℕ) (b : ABatch) → IsHeldBy head es h →
     batch_of h ≡ Some (k, b) → IsUpmanyAt head es k b
 of_batch head es None k b i e = absurd (none_some (k, b) e)
 of_batch head es (Some h) k b i e = go h.sequence i.sequence_is e
   where
-    made : (c : ABatch) → IsSequence head i.of.before es i.of.op (Batch c) → ◌≡◌ {A = ℕ × ABatch} (h.seat, c) (k, b) → IsUpmanyAt head es k b
+    made : (c : ABatch) → AreWalks head i.of.before es i.of.op (Batch c) → ◌≡◌ {A = ℕ × ABatch} (h.seat, c) (k, b) → IsUpmanyAt head es k b
     made c q s =
         let r = batch_op head i.of.before es i.of.op c q in
         record {
@@ -65,21 +66,21 @@ of_batch head es (Some h) k b i e = go h.sequence i.sequence_is e
           batching = subst (IsBatching head i.of.before es r.0) (ap (λ z. z.1) s) r.2;
         }
 
-    go : (s : Sequence) → IsSequence head i.of.before es i.of.op s → batch_by h.seat s ≡ Some (k, b) → IsUpmanyAt head es k b
+    go : (s : Walks) → AreWalks head i.of.before es i.of.op s → batch_by h.seat s ≡ Some (k, b) → IsUpmanyAt head es k b
     go (Batch c) q s = made c q (same_some (h.seat, c) (k, b) s)
     go s q n = absurd (none_some (k, b) n)
 
-pub not_batch : (head : Head) (es : List Event) (h : Option Held) → IsHeldBy head es h → batch_of h ≡ None →
+pub not_batch : (head : Head) (es : List Event) (h : Option MapOperation) → IsHeldBy head es h → batch_of h ≡ None →
     held_by is_upmany (operation es) ≡ false
 not_batch head es None i e = rw i refl
 not_batch head es (Some h) i e = ap (held_by is_upmany) i.held ∙ go i.of.op h.sequence i.sequence_is e
   where
-    go : (asked : Op) (s : Sequence) → IsSequence head i.of.before es asked s → batch_by h.seat s ≡ None → is_upmany asked ≡ false
+    go : (asked : Op) (s : Walks) → AreWalks head i.of.before es asked s → batch_by h.seat s ≡ None → is_upmany asked ≡ false
     go (op.UpMany set) (Batch c) q n = absurd (none_some (h.seat, c) (sym n))
     go (op.UpMany set) s q n = elim q [ ]
     go asked s q n = refl
 
-pub batch_is : (head : Head) (es : List Event) (h : Option Held) → IsHeldBy head es h → is_batch h ≡ held_by is_upmany (operation es)
+pub batch_is : (head : Head) (es : List Event) (h : Option MapOperation) → IsHeldBy head es h → is_batch h ≡ held_by is_upmany (operation es)
 batch_is head es None i = rw i refl
 batch_is head es (Some h) i = ap is_upmany i.op_is ∙ sym (ap (held_by is_upmany) i.held)
 
@@ -163,14 +164,14 @@ lowest_here head es flights c t l =
 same_cpu : (c d : ℕ) → Some (Ap c) ≡ Some (Ap d) → c ≡ d
 same_cpu c d h = cc
 
-pub thread_here : (head : Head) (es : List Event) (roll : Roll) (k d : ℕ) → IsLawful head es → IsRoll head es roll →
+pub thread_here : (head : Head) (es : List Event) (roll : SeatsView) (k d : ℕ) → IsLawful head es → IsRoll head es roll →
     at_place roll.roles k ≡ Some (Ap d) → (c : ℕ) → (ap_seat c es ≡ Some k) ↔ (Some d ≡ Some c)
 thread_here head es roll k d lawful r at c = (
   λ a. ap Some (same_cpu d c (sym at ∙ (sym (r.roles_are k) ∙ (owners head es lawful).ap_role c k a))),
   λ e. r.threads_are c ∙ r.sits k c (at ∙ ap (λ z. Some (Ap z)) (same_some d c e)),
 )
 
-pub no_thread_here : (head : Head) (es : List Event) (roll : Roll) (k : ℕ) → IsLawful head es → IsRoll head es roll →
+pub no_thread_here : (head : Head) (es : List Event) (roll : SeatsView) (k : ℕ) → IsLawful head es → IsRoll head es roll →
     ((c : ℕ) → at_place roll.roles k ≡ Some (Ap c) → ⊥) → (c : ℕ) → (ap_seat c es ≡ Some k) ↔ (None ≡ Some c)
 no_thread_here head es roll k lawful r none c = (
   λ a. absurd (none c (sym (r.roles_are k) ∙ (owners head es lawful).ap_role c k a)),

@@ -2,6 +2,7 @@
 use Rattle.std.proofs.Common.{◌≡◌, ℕ, Bool, true, false, is_some, inl, inr, ◌⊎◌, Option, Some, None, List, [], ◌∷◌, length, refl, sym, ap, ◌∙◌}
 use Rattle.std.specs.Prelude.{option_map}
 use Rattle.std.proofs.lemmas.Bool.{false≢true, or_parts}
+use Rattle.hp_states.proofs.Basics.{none_of}
 use Rattle.hp_event.specs.declared.answer.Answer.{Answer}
 use Rattle.hp_event.specs.declared.event.Role.{Role}
 use Rattle.hp_event.specs.declared.head.Head.{Head}
@@ -16,7 +17,7 @@ use Rattle.hp_model.specs.Readers.{readers}
 use Rattle.hp_model.specs.StandsOperations.{OpEnds, WalkBegins}
 use Rattle.hp_model.specs.Lawful.{Comes, IsLawful}
 use Rattle.hp_model.proofs.BatchLemmas.{walking_begun}
-use Rattle.hp_model.proofs.InFlight.{empty_of, none_of, walking_is}
+use Rattle.hp_model.proofs.InFlight.{empty_of, walking_is}
 use Rattle.hp_model.proofs.OneNext.{owners}
 use Rattle.hp_model.proofs.Owners.{Owners, map_free, alone_at, over_at_rest}
 use Rattle.hp_model.proofs.Passing.{begins_alone, begins_no_batch}

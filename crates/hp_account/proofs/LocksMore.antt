@@ -5,6 +5,7 @@ use Rattle.std.proofs.Math.ListN.{set}
 use Rattle.std.proofs.lemmas.Bool.{eqb-true, eqb-false, eq-eqb, false≢true, true≢false}
 use Rattle.std.proofs.lemmas.List.{length-set}
 use Rattle.std.proofs.lemmas.List.Sums.{sum_by-set, fold-append}
+use Rattle.hp_states.proofs.Basics.{same_some, not_false}
 use Rattle.hp_event.specs.declared.answer.Answer.{Answer}
 use Rattle.hp_event.specs.declared.op.Op.{Op}
 use Rattle.hp_event.specs.declared.op.Op.TheVariants.{Lock, Unlock}
@@ -24,10 +25,9 @@ use Rattle.hp_model.specs.RefusalsAtOnce.{refusals_at_once}
 use Rattle.hp_model.specs.Lawful.{Comes, IsLawful}
 use Rattle.hp_model.proofs.Laws.{operation_push, begun_push, walk_push, walking_push, registration_push, readers_push, reading_since_push, admits_push}
 use Rattle.hp_model.proofs.InFlight.{empty_of, walking_is, none_walking}
-use Rattle.hp_model.proofs.Operations.{there}
 use Rattle.hp_model.proofs.BatchLemmas.{walking_begun}
 use Rattle.hp_model.proofs.OneNext.{owners}
-use Rattle.hp_model.proofs.Owners.{Owners, owners_step, enters_at_rest, over_at_rest, map_free, same_some}
+use Rattle.hp_model.proofs.Owners.{Owners, owners_step, enters_at_rest, over_at_rest, map_free}
 use Rattle.hp_model.proofs.WaitLemmas.{first_among}
 use Rattle.hp_model.proofs.Passing.{passed, none_holds}
 use Rattle.hp_model.proofs.SeatLemmas.{no_reader, is_reader, reader_once}
@@ -304,7 +304,7 @@ reads_not head es seat comes =
 pub reads_now : (head : Head) (es : List Event) (seat : ℕ) → Comes head es (ReadUnlock seat) → is_reading seat es ≡ true
 reads_now head es seat comes =
     let p = passed head es seat Unlock comes.free.idle comes.passes.not_waiting comes.passes.not_refused in
-    there (is_reading seat es) (none_holds (refusals_at_once head es seat Unlock) p.0).0
+    not_false (is_reading seat es) (none_holds (refusals_at_once head es seat Unlock) p.0).0
 
 pub locks_more : (head : Head) (es : List Event) (h : Holders) (e : Event) → IsLawful head es → Comes head es e → IsLocks es h →
     IsLocks (es ++ e ∷ []) (holders_after (held_by is_upmany (operation es)) e h)
@@ -365,7 +365,3 @@ unwritten_still es h is free = go (walking es) refl
         let there : is_some (walk c es) ≡ true = sym (walking_is c es) ∙ (ap (among c) e ∙ first_among c cs) in
         let none : option_map (λ (w : Walk). w.seat) (walk c es) ≡ None = sym (ap (λ ds. writer_of ds es) e) ∙ (sym is.writer_is ∙ free) in
         absurd (some c (walk c es) refl there none)
-
-pub none_held : (o : Option ℕ) → is_some o ≡ false → o ≡ None
-none_held None h = refl
-none_held (Some k) h = absurd (true≢false h)

@@ -6,7 +6,7 @@ use Rattle.hp_event.specs.declared.head.Head.{Head}
 use Rattle.hp_event.specs.declared.event.Event.{Event}
 use Rattle.hp_model.specs.Registrations.{registration}
 use Rattle.hp_model.specs.Walks.{walking}
-use Rattle.hp_account.specs.declared.operation.Held.{Held}
+use Rattle.hp_account.specs.declared.operation.MapOperation.{MapOperation}
 use Rattle.hp_account.specs.declared.account.Account.{Account}
 use Rattle.hp_account.specs.Account.{IsAccount}
 use Rattle.hp_account.specs.BatchTurns.{is_batch}
@@ -28,7 +28,7 @@ none_walking p None h = λ head events account. inl (none_walks head events p.fl
 none_walking p (Some c) h = h
 
 -- where no processor of another operation walks, and no registration is in flight, nothing is under way but what an upmany walks
-pub nothing_walks : (head : Head) (events : List Event) (held : Option Held) → IsHeldBy head events held → registration events ≡ None →
+pub nothing_walks : (head : Head) (events : List Event) (held : Option MapOperation) → IsHeldBy head events held → registration events ≡ None →
     (walking events ≡ []) ⊎ (is_batch held ≡ true) → IsUnderWay head events None
 nothing_walks head events held by idle rests = go (walking events) refl rests
   where

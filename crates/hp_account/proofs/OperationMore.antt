@@ -5,6 +5,7 @@ use Rattle.hp_states.specs.declared.cpu_set.CpuSet.{CpuSet}
 use Rattle.hp_event.specs.declared.answer.Answer.{Answer}
 use Rattle.hp_event.specs.declared.answer.Answer.TheVariants.{Ok}
 use Rattle.std.proofs.lemmas.Bool.{false≢true}
+use Rattle.hp_states.proofs.Basics.{same_some}
 use Rattle.hp_event.specs.declared.op.Op.{Op}
 use Rattle.hp_event.specs.declared.op.Op.TheVariants as op
 use Rattle.hp_event.specs.declared.event.Event.{Event}
@@ -16,8 +17,7 @@ use Rattle.hp_model.specs.MapLock.{Operation, operation}
 use Rattle.hp_model.specs.Sequence.{answers, failures, target_of, batch_next, next, walks, ends, nothing}
 use Rattle.hp_model.specs.Walks.{is_walking}
 use Rattle.hp_model.proofs.Laws.{answers_push, operation_push}
-use Rattle.hp_model.proofs.Owners.{same_some}
-use Rattle.hp_suspend.proofs.Quiet.{batching_quiet}
+use Rattle.hp_suspend.proofs.Quiet.{batching_quiet, quiet_answers}
 use Rattle.hp_account.specs.declared.operation.OneWalk.{OneWalk}
 use Rattle.hp_suspend.specs.declared.freeze.Freeze.{Freeze as AFreeze}
 use Rattle.hp_suspend.specs.declared.thaw.Thaw.{Thaw as AThaw}
@@ -28,10 +28,10 @@ use Rattle.hp_suspend.specs.Freezing.{IsFreezing}
 use Rattle.hp_suspend.specs.Thawing.{IsThawing}
 use Rattle.hp_suspend.specs.Booting.{IsBooting, faults}
 use Rattle.hp_suspend.specs.Quiet.{is_quiet, is_walk_begin}
-use Rattle.hp_account.specs.declared.operation.Sequence.{Sequence}
-use Rattle.hp_account.specs.declared.operation.Sequence.TheVariants.{Single, Freeze, Thaw, Boot, Batch, NoWalk}
-use Rattle.hp_account.specs.declared.operation.Held.{Held}
-use Rattle.hp_account.specs.Operations.{IsSingle, IsSequence, IsHeld, IsHeldBy}
+use Rattle.hp_account.specs.declared.operation.Walks.{Walks}
+use Rattle.hp_account.specs.declared.operation.Walks.TheVariants.{Single, Freeze, Thaw, Boot, Batch, NoWalk}
+use Rattle.hp_account.specs.declared.operation.MapOperation.{MapOperation}
+use Rattle.hp_account.specs.Operations.{IsSingle, AreWalks, IsHeld, IsHeldBy}
 
 -- one walk that hasn't begun
 pub single_begins : (cpu to : ℕ) (before : List Event) (seat : ℕ) (op : Op) →
@@ -63,39 +63,39 @@ single_took cpu to events seat of answer old new is same_cpu same_to given = rec
 
 -- of an operation that walks once, and of each other kind, what is so of its walks is so of the operation's
 pub of_single : (head : Head) (entered events after : List Event) (op : Op) (old new : OneWalk) →
-    IsSequence head entered events op (Single old) →
-    ((cpu to : ℕ) → IsSingle cpu to events old → IsSingle cpu to after new) → IsSequence head entered after op (Single new)
+    AreWalks head entered events op (Single old) →
+    ((cpu to : ℕ) → IsSingle cpu to events old → IsSingle cpu to after new) → AreWalks head entered after op (Single new)
 of_single head entered events after (op.Up c) old new is more = more c 200 is
 of_single head entered events after (op.Down c) old new is more = more c 0 is
 of_single head entered events after (op.Target c v) old new is more = more c (target_of v) is
 of_single head entered events after o old new is more = elim is [ ]
 
 pub of_freeze : (head : Head) (entered events after : List Event) (op : Op) (old new : AFreeze) →
-    IsSequence head entered events op (Freeze old) →
-    ((p : ℤ) → IsFreezing head entered events p old → IsFreezing head entered after p new) → IsSequence head entered after op (Freeze new)
+    AreWalks head entered events op (Freeze old) →
+    ((p : ℤ) → IsFreezing head entered events p old → IsFreezing head entered after p new) → AreWalks head entered after op (Freeze new)
 of_freeze head entered events after (op.Freeze p) old new is more = more p is
 of_freeze head entered events after o old new is more = elim is [ ]
 
 pub of_thaw : (head : Head) (entered events after : List Event) (op : Op) (old new : AThaw) →
-    IsSequence head entered events op (Thaw old) → (IsThawing events old → IsThawing after new) → IsSequence head entered after op (Thaw new)
+    AreWalks head entered events op (Thaw old) → (IsThawing events old → IsThawing after new) → AreWalks head entered after op (Thaw new)
 of_thaw head entered events after op.Thaw old new is more = more is
 of_thaw head entered events after o old new is more = elim is [ ]
 
 pub of_boot : (head : Head) (entered events after : List Event) (op : Op) (old new : ABoot) →
-    IsSequence head entered events op (Boot old) → ((n : ℕ) → IsBooting n events old → IsBooting n after new) →
-    IsSequence head entered after op (Boot new)
+    AreWalks head entered events op (Boot old) → ((n : ℕ) → IsBooting n events old → IsBooting n after new) →
+    AreWalks head entered after op (Boot new)
 of_boot head entered events after (op.Boot n) old new is more = more n is
 of_boot head entered events after o old new is more = elim is [ ]
 
 pub of_batch : (head : Head) (entered events after : List Event) (op : Op) (old new : ABatch) →
-    IsSequence head entered events op (Batch old) →
+    AreWalks head entered events op (Batch old) →
     ((set : CpuSet) → IsBatching head entered events set old → IsBatching head entered after set new) →
-    IsSequence head entered after op (Batch new)
+    AreWalks head entered after op (Batch new)
 of_batch head entered events after (op.UpMany set) old new is more = more set is
 of_batch head entered events after o old new is more = elim is [ ]
 
-pub of_none : (head : Head) (entered events after : List Event) (op : Op) → IsSequence head entered events op NoWalk →
-    IsSequence head entered after op NoWalk
+pub of_none : (head : Head) (entered events after : List Event) (op : Op) → AreWalks head entered events op NoWalk →
+    AreWalks head entered after op NoWalk
 of_none head entered events after op.Disable is = tt
 of_none head entered events after op.Enable is = tt
 of_none head entered events after o is = elim is [ ]
@@ -109,14 +109,9 @@ single_stays cpu to events e w same is = record {
   answer_is = is.answer_is ∙ ap (λ xs. slice_get xs 0) (sym same);
 }
 
-quiet_answers : (events : List Event) (e : Event) → is_quiet e ≡ true → answers (events ++ e ∷ []) ≡ answers events
-quiet_answers events (Enter seat op) h = absurd (false≢true h)
-quiet_answers events (WalkEnd seat cpu answer) h = absurd (false≢true h)
-quiet_answers events e h = answers_push events e
-
-pub sequence_stays : (head : Head) (entered events : List Event) (op : Op) (s : Sequence) (e : Event) → is_quiet e ≡ true →
-    ((b : ABatch) → s ≡ Batch b → is_walk_begin e ≡ false) → IsSequence head entered events op s →
-    IsSequence head entered (events ++ e ∷ []) op s
+pub sequence_stays : (head : Head) (entered events : List Event) (op : Op) (s : Walks) (e : Event) → is_quiet e ≡ true →
+    ((b : ABatch) → s ≡ Batch b → is_walk_begin e ≡ false) → AreWalks head entered events op s →
+    AreWalks head entered (events ++ e ∷ []) op s
 sequence_stays head entered events op (Single w) e quiet begins is =
     of_single head entered events (events ++ e ∷ []) op w w is
     (λ cpu to h. single_stays cpu to events e w (quiet_answers events e quiet) h)
@@ -140,8 +135,8 @@ sequence_stays head entered events op (Batch b) e quiet begins is =
 sequence_stays head entered events op NoWalk e quiet begins is = of_none head entered events (events ++ e ∷ []) op is
 
 -- the operation that holds the lock: it has entered, a walk of it has ended, it has ended, or it stays
-pub held_enters : (head : Head) (es : List Event) (seat : ℕ) (asked : Op) (s : Sequence) →
-    IsSequence head es (es ++ Enter seat asked ∷ []) asked s →
+pub held_enters : (head : Head) (es : List Event) (seat : ℕ) (asked : Op) (s : Walks) →
+    AreWalks head es (es ++ Enter seat asked ∷ []) asked s →
     IsHeld head (es ++ Enter seat asked ∷ []) (record { seat = seat; op = asked; sequence = s })
 held_enters head es seat asked s is = record {
   of = record { seat = seat; op = asked; before = es };
@@ -151,9 +146,9 @@ held_enters head es seat asked s is = record {
   sequence_is = is;
 }
 
-pub held_walks : (head : Head) (es : List Event) (seat c : ℕ) (answer : Answer) (h : Held) (new : Sequence) →
-    ((entered : List Event) (asked : Op) → IsSequence head entered es asked h.sequence →
-    IsSequence head entered (es ++ WalkEnd seat c answer ∷ []) asked new) →
+pub held_walks : (head : Head) (es : List Event) (seat c : ℕ) (answer : Answer) (h : MapOperation) (new : Walks) →
+    ((entered : List Event) (asked : Op) → AreWalks head entered es asked h.sequence →
+    AreWalks head entered (es ++ WalkEnd seat c answer ∷ []) asked new) →
     IsHeld head es h → IsHeld head (es ++ WalkEnd seat c answer ∷ []) (record { seat = h.seat; op = h.op; sequence = new })
 held_walks head es seat c answer h new took is = record {
   of = is.of;
@@ -184,7 +179,7 @@ no_walk_begins : (e : Event) → ((seat c from to : ℕ) → e ≡ WalkBegin sea
 no_walk_begins (WalkBegin seat c from to) begins = absurd (begins seat c from to refl)
 no_walk_begins e begins = refl
 
-pub held_stays : (head : Head) (es : List Event) (e : Event) (held : Option Held) →
+pub held_stays : (head : Head) (es : List Event) (e : Event) (held : Option MapOperation) →
     ((seat : ℕ) (asked : Op) → e ≡ Enter seat asked → ⊥) → ((seat c from to : ℕ) → e ≡ WalkBegin seat c from to → ⊥) →
     ((seat c : ℕ) (answer : Answer) → e ≡ WalkEnd seat c answer → ⊥) →
     ((seat : ℕ) (answer : Answer) → e ≡ OpEnd seat answer → ⊥) → IsHeldBy head es held → IsHeldBy head (es ++ e ∷ []) held
@@ -207,7 +202,7 @@ none_walks_on head es seat c answer is = operation_push es (WalkEnd seat c answe
 pub none_begins : (es : List Event) (seat c from to : ℕ) → operation es ≡ None → operation (es ++ WalkBegin seat c from to ∷ []) ≡ None
 none_begins es seat c from to is = operation_push es (WalkBegin seat c from to) ∙ is
 
-pub single_walks : (head : Head) (es : List Event) (seat c from to : ℕ) (h : Held) → ((b : ABatch) → h.sequence ≡ Batch b → ⊥) →
+pub single_walks : (head : Head) (es : List Event) (seat c from to : ℕ) (h : MapOperation) → ((b : ABatch) → h.sequence ≡ Batch b → ⊥) →
     IsHeld head es h → IsHeld head (es ++ WalkBegin seat c from to ∷ []) h
 single_walks head es seat c from to h single is = record {
   of = is.of;
@@ -246,7 +241,7 @@ begins_first head es seat c from to o set comes held asked =
     ∙ first_of_batch (unbegun (batch head o.before (op.UpMany set)) es) (is_walking es) (Ok (pos (length (failures (answers es))))) c to
     gives
 
-pub batch_walks : (head : Head) (es : List Event) (seat c from to : ℕ) (h : Held) (b new : ABatch) → IsLawful head es →
+pub batch_walks : (head : Head) (es : List Event) (seat c from to : ℕ) (h : MapOperation) (b new : ABatch) → IsLawful head es →
     Comes head es (WalkBegin seat c from to) → h.sequence ≡ Batch b →
     ((o : Operation) (set : CpuSet) → operation es ≡ Some o → o.op ≡ op.UpMany set → IsBatching head o.before es set b →
     slice_get (to_begin head es) 0 ≡ Some c → IsBatching head o.before (es ++ WalkBegin seat c from to ∷ []) set new) →
@@ -257,10 +252,10 @@ batch_walks head es seat c from to h b new lawful comes batch began is = record 
   held = operation_push es (WalkBegin seat c from to) ∙ is.held;
   seat_is = is.seat_is;
   op_is = is.op_is;
-  sequence_is = go is.of.op refl (subst (IsSequence head is.of.before es is.of.op) batch is.sequence_is);
+  sequence_is = go is.of.op refl (subst (AreWalks head is.of.before es is.of.op) batch is.sequence_is);
 }
   where
-    go : (asked : Op) → is.of.op ≡ asked → IsSequence head is.of.before es asked (Batch b) →
-        IsSequence head is.of.before (es ++ WalkBegin seat c from to ∷ []) asked (Batch new)
+    go : (asked : Op) → is.of.op ≡ asked → AreWalks head is.of.before es asked (Batch b) →
+        AreWalks head is.of.before (es ++ WalkBegin seat c from to ∷ []) asked (Batch new)
     go (op.UpMany set) e q = began is.of set is.held e q (begins_first head es seat c from to is.of set comes is.held e)
     go asked e q = elim q [ ]

@@ -38,18 +38,18 @@ use Rattle.hp_reg.specs.declared.step.RegStep.TheVariants as regstep
 use Rattle.hp_reg.proofs.Callers.{concerned_processors, key_known}
 use Rattle.hp_account.specs.declared.registering.Registering.{Registering}
 use Rattle.hp_account.specs.declared.under_way.Entry.{Entry}
-use Rattle.hp_account.specs.declared.under_way.Means.{Means}
-use Rattle.hp_account.specs.declared.under_way.Means.TheVariants as means
-use Rattle.hp_account.specs.declared.under_way.Coming.TheVariants as coming
+use Rattle.hp_account.specs.declared.under_way.MadeBy.{MadeBy}
+use Rattle.hp_account.specs.declared.under_way.MadeBy.TheVariants as made_by
+use Rattle.hp_account.specs.declared.under_way.NextStep.TheVariants as coming
 use Rattle.hp_account.specs.declared.under_way.Ending.TheVariants as ending
 use Rattle.hp_account.specs.Entries.{entry_event, how_of_means}
-use Rattle.hp_account.specs.Coming.{IsComing, IsInFlightOf, has_callback_by}
+use Rattle.hp_account.specs.NextStep.{IsComing, IsInFlightOf, has_callback_by}
 use Rattle.hp_account.specs.Registering.{IsRegistering}
 use Rattle.hp_account.specs.RegistrationMeans.{means_of, seat_by}
 use Rattle.hp_account.specs.Table.{IsTableOf, IsStepOf, HasRegistration}
-use Rattle.hp_account.specs.Processors.{Standing, IsStanding}
+use Rattle.hp_account.specs.Processors.{ProcessorsView, IsStanding}
 use Rattle.hp_account.specs.Places.{at_place}
-use Rattle.hp_account.specs.Seats.{Roll, IsRoll}
+use Rattle.hp_account.specs.Seats.{SeatsView, IsRoll}
 use Rattle.hp_account.proofs.RegistrationNext.{EntryNext, entry_next, end_next}
 
 pub in_flight_of : (head : Head) (es : List Event) (places : List (Option Step)) (r : Registration) → registration es ≡ Some r →
@@ -57,7 +57,7 @@ pub in_flight_of : (head : Head) (es : List Event) (places : List (Option Step))
 in_flight_of head es places r is t = rw is at t.in_flight
 
 -- the cursor asks for the same by the table as by the journal
-pub asked_alike : (head : Head) (es : List Event) (places : List (Option Step)) (p : Standing) (g : Registering)
+pub asked_alike : (head : Head) (es : List Event) (places : List (Option Step)) (p : ProcessorsView) (g : Registering)
     (r : IsRegistering head es g) → IsTableOf head es places → IsStanding head es p →
     asked (key_at places g.reg) (cpus_at p.settled head.absent g.reg) g.reg
     ≡ asked (key_of head r.of) (processors head r.of.state r.of.before) g.reg
@@ -88,7 +88,7 @@ under_way_is head es g r e next = rw (r.no_walk, next) refl
 in_flight : (head : Head) (es : List Event) (g : Registering) → IsRegistering head es g → IsInFlightOf es g.seat
 in_flight head es g r = inr (r.of, r.in_flight, sym r.seat_is, r.no_walk)
 
-pub comes_to_end : (head : Head) (es : List Event) (places : List (Option Step)) (p : Standing) (g : Registering) →
+pub comes_to_end : (head : Head) (es : List Event) (places : List (Option Step)) (p : ProcessorsView) (g : Registering) →
     IsRegistering head es g → IsTableOf head es places → IsStanding head es p → (answer : Answer) →
     regstep.Ended answer ≡ asked (key_at places g.reg) (cpus_at p.settled head.absent g.reg) g.reg →
     IsComing head es (coming.End (ending.Registration g.seat answer))
@@ -115,7 +115,7 @@ made_so head es op c s i d place step k sub =
     rw (sub, callback_is head es s step k d) (go (is_nocalls op) (has_callback_by step.kept d) _)
   where
     go : (none has : Bool) (answered : How) →
-        how_of_means (cond none means.Presumed (cond has means.Hook means.Empty)) answered
+        how_of_means (cond none made_by.Presumed (cond has made_by.Hook made_by.Empty)) answered
         ≡ cond none how.Presumed (cond has answered how.Empty)
     go true has answered = refl
     go false true answered = refl
@@ -165,13 +165,13 @@ thread_turn head es r c key d place lawful there n by =
         go false other = refl
 
 -- the entry that it asks for, by who makes it
-abbrev pub entry_by : (cpu : ℕ) → Key → Dir → Place → Means → Option ℕ → Option Entry
+abbrev pub entry_by : (cpu : ℕ) → Key → Dir → Place → MadeBy → Option ℕ → Option Entry
 entry_by c key d place by seat =
-    option_map (λ k. record { seat = k; cpu = c; key = key; dir = d; place = place; means = by }) seat
+    option_map (λ k. record { seat = k; cpu = c; key = key; dir = d; place = place; made_by = by }) seat
 
 -- how the entry is made that it asks for, by what makes it
 pub registration_means : (head : Head) (es : List Event) (places : List (Option Step)) (g : Registering) (r : IsRegistering head es g) →
-    IsTableOf head es places → (c : ℕ) (key : Key) (d : Dir) (place : Place) (by : Means) → key.state ≡ g.reg.state →
+    IsTableOf head es places → (c : ℕ) (key : Key) (d : Dir) (place : Place) (by : MadeBy) → key.state ≡ g.reg.state →
     IfSome (step_at places key.state) (λ step. by ≡ means_of (is_nocalls g.reg.op) step.kept d) →
     how_of_means by (how_answered (can_fail d key.state place) (answer_at head es c key.state key.inst d))
     ≡ how_in_registration head es r.of.op c key.state key.inst d place
@@ -195,9 +195,9 @@ registration_means head es places g r t c key d place by at means_are =
     by_is : by ≡ means_of (is_nocalls g.reg.op) h.step.kept d
     by_is = rw there at means_are
 
-pub comes_by_entry : (head : Head) (es : List Event) (places : List (Option Step)) (p : Standing) (roll : Roll) (g : Registering) →
+pub comes_by_entry : (head : Head) (es : List Event) (places : List (Option Step)) (p : ProcessorsView) (roll : SeatsView) (g : Registering) →
     IsLawful head es → IsRegistering head es g → IsTableOf head es places → IsStanding head es p → IsRoll head es roll →
-    (c : ℕ) (key : Key) (d : Dir) (place : Place) (by : Means) → key.state ≡ g.reg.state →
+    (c : ℕ) (key : Key) (d : Dir) (place : Place) (by : MadeBy) → key.state ≡ g.reg.state →
     regstep.Call c key d place ≡ asked (key_at places g.reg) (cpus_at p.settled head.absent g.reg) g.reg →
     IfSome (step_at places key.state) (λ step. by ≡ means_of (is_nocalls g.reg.op) step.kept d) →
     IsComing head es
@@ -231,7 +231,7 @@ comes_by_entry head es places p roll g lawful r t standing seated c key d place 
     next = called (at_place roll.threads c) (sym (seated.threads_are c))
 
     only : (k : ℕ) → next_of_registration head es (registration es) ≡ Some (event_of k) →
-        under_way head es ≡ entry_event head es (record { seat = k; cpu = c; key = key; dir = d; place = place; means = by }) ∷ []
+        under_way head es ≡ entry_event head es (record { seat = k; cpu = c; key = key; dir = d; place = place; made_by = by }) ∷ []
     only k is =
         under_way_is head es g r (Some (event_of k)) is
         ∙ ap (λ x. event.Call k c key.state key.inst d x ∷ []) (sym how_is)

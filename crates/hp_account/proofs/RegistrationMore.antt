@@ -42,7 +42,7 @@ use Rattle.hp_reg.specs.After.{IsAfter}
 use Rattle.hp_reg.proofs.Callers.{processors_rise}
 use Rattle.hp_account.specs.declared.registering.Registering.{Registering}
 use Rattle.hp_account.specs.Registering.{IsRegistering, IsRegisteringOf}
-use Rattle.hp_account.specs.RegisteringChanges.{HasBegun, WentOnBy}
+use Rattle.hp_account.specs.RegisteringChanges.{RegistrationBegan, RegistrationWentOn}
 use Rattle.hp_account.proofs.RegistrationNext.{entry_next, end_next}
 
 pub registers : (head : Head) (es : List Event) (op : Op) (state : ℕ) → resolved head es op ≡ Some state → is_registration_op op ≡ true
@@ -54,7 +54,7 @@ registers head es op state h = absurd (cc)
 
 -- it begins
 pub registration_begins : (head : Head) (es : List Event) (seat : ℕ) (op : Op) (state need : ℕ) (g : Registering) →
-    RegBegins head es seat state op → HasBegun seat op state need g → need ≡ registration_need head →
+    RegBegins head es seat state op → RegistrationBegan seat op state need g → need ≡ registration_need head →
     IsRegistering head (es ++ RegBegin seat state op ∷ []) g
 registration_begins head es seat op state need g b begun needed =
     let e : Event = RegBegin seat state op in
@@ -135,7 +135,7 @@ asked_for head es g r seat c s i d how comes =
 
 -- it goes on past an entry
 pub registration_calls : (head : Head) (es : List Event) (g new : Registering) (seat c s i : ℕ) (d : Dir) (how : How) →
-    Calls head es seat c s i d how → IsRegistering head es g → WentOnBy c how g new →
+    Calls head es seat c s i d how → IsRegistering head es g → RegistrationWentOn c how g new →
     IsRegistering head (es ++ Call seat c s i d how ∷ []) new
 registration_calls head es g new seat c s i d how comes r went =
     let e : Event = Call seat c s i d how in

@@ -3,6 +3,7 @@ use Rattle.std.proofs.Common.{◌≡◌, ℕ, ◌+◌, ◌<◌, Bool, true, fals
 use Rattle.std.specs.Prelude.{slice_set}
 use Rattle.std.proofs.lemmas.Bool.{eqb-true, eqb-false, eq-eqb}
 use Rattle.std.proofs.lemmas.List.{length-set}
+use Rattle.hp_states.proofs.Basics.{same_some}
 use Rattle.hp_event.specs.declared.event.Role.{Role}
 use Rattle.hp_event.specs.declared.event.Role.TheVariants.{Client, Ap}
 use Rattle.hp_event.specs.declared.head.Head.{Head}
@@ -15,7 +16,7 @@ use Rattle.hp_model.proofs.Laws.{admits_push, role_push, ap_push}
 use Rattle.hp_model.proofs.Owners.{Owners}
 use Rattle.hp_model.proofs.EntryProcessors.{present_below}
 use Rattle.hp_account.specs.Places.{at_place}
-use Rattle.hp_account.specs.Seats.{Roll, IsRoll, with_seat, without_seat, with_thread, without_thread}
+use Rattle.hp_account.specs.Seats.{SeatsView, IsRoll, with_seat, without_seat, with_thread, without_thread}
 use Rattle.hp_account.specs.After.{roll_after}
 use Rattle.hp_account.proofs.PlaceLemmas.{at_place-push, at_place-set, at_place-within}
 
@@ -73,7 +74,7 @@ sits_more head es role roles threads can all are sat k c h =
     go true e h = new role can e h
     go false e h = old role can (sat k c h)
 
-admitted : (head : Head) (es : List Event) (r : Roll) (seat : ℕ) (role : Role) → Comes head es (Admit seat role) → IsRoll head es r →
+admitted : (head : Head) (es : List Event) (r : SeatsView) (seat : ℕ) (role : Role) → Comes head es (Admit seat role) → IsRoll head es r →
     IsRoll head (es ++ Admit seat role ∷ []) (with_seat role r)
 admitted head es r seat role comes is =
     let e : Event = Admit seat role in
@@ -101,9 +102,6 @@ same_role a b h = cc
 
 same_ap : (a b : ℕ) → Ap a ≡ Ap b → a ≡ b
 same_ap a b h = cc
-
-same_seat : (a b : ℕ) → Some a ≡ Some b → a ≡ b
-same_seat a b h = cc
 
 -- the thread of a processor, once a seat with a role has left
 left_thread : (seat c : ℕ) (role : Role) (roles : List (Option Role)) (threads : List (Option ℕ)) → at_place roles seat ≡ Some role →
@@ -163,7 +161,7 @@ sits_left seat role roles threads there sat k c h =
         other true e =
             let at : d ≡ c = eqb-true d c e in
             let both : Some seat ≡ Some k = sym (sat seat d there) ∙ ap (at_place threads) at ∙ sat k c h in
-            absurd (eqb-false seat k apart (same_seat seat k both))
+            absurd (eqb-false seat k apart (same_some seat k both))
         other false e = sat k c h
 
     go : (b : Bool) → eqb seat k ≡ b → cond b None (at_place roles k) ≡ Some (Ap c) →
@@ -171,7 +169,7 @@ sits_left seat role roles threads there sat k c h =
     go true e h = absurd (cc)
     go false e h = kept role there e h
 
-left : (head : Head) (es : List Event) (r : Roll) (seat : ℕ) → Owners es → Comes head es (Leave seat) → IsRoll head es r →
+left : (head : Head) (es : List Event) (r : SeatsView) (seat : ℕ) → Owners es → Comes head es (Leave seat) → IsRoll head es r →
     IsRoll head (es ++ Leave seat ∷ []) (without_seat seat r)
 left head es r seat owners comes is =
     let e : Event = Leave seat in
@@ -190,7 +188,7 @@ left head es r seat owners comes is =
           ap (λ x. at_place (without_thread x r.threads) c) there ∙ sits_left seat comes.is_in.0 r.roles r.threads there is.sits k c h;
     }
 
-pub roll_more : (head : Head) (es : List Event) (r : Roll) (e : Event) → Owners es → Comes head es e → IsRoll head es r →
+pub roll_more : (head : Head) (es : List Event) (r : SeatsView) (e : Event) → Owners es → Comes head es e → IsRoll head es r →
     IsRoll head (es ++ e ∷ []) (roll_after e r)
 roll_more head es r (Admit seat role) owners comes is = admitted head es r seat role comes is
 roll_more head es r (Leave seat) owners comes is = left head es r seat owners comes is

@@ -17,7 +17,7 @@ use Rattle.hp_model.specs.Walks.{walk}
 use Rattle.hp_model.specs.Settled.{settled, left_at}
 use Rattle.hp_model.specs.Armed.{armed, armed_by, disarmed_by}
 use Rattle.hp_model.proofs.Laws.{settled_push, armed_push}
-use Rattle.hp_account.specs.Processors.{Standing, IsStanding, with_settled, with_armed}
+use Rattle.hp_account.specs.Processors.{ProcessorsView, IsStanding, with_settled, with_armed}
 use Rattle.hp_account.specs.After.{standing_after, disarmed_after}
 use Rattle.hp_account.proofs.PlaceLemmas.{at_place-set}
 
@@ -43,7 +43,7 @@ read_set xs c v d below = go (eqb c d) refl
         let other : d ≢ c = λ same. eqb-false c d e (sym same) in get_or-set_other xs c d v 0 other
 
 -- the settled states after a walk
-walk_ends : (head : Head) (es : List Event) (p : Standing) (seat c to : ℕ) (answer : Answer) → EndsAt head es c to answer →
+walk_ends : (head : Head) (es : List Event) (p : ProcessorsView) (seat c to : ℕ) (answer : Answer) → EndsAt head es c to answer →
     IsStanding head es p → IsStanding head (es ++ WalkEnd seat c answer ∷ []) (with_settled c (leaves_at answer to (slice_index p.settled c)) p)
 walk_ends head es p seat c to answer ends is =
     let e : Event = WalkEnd seat c answer in
@@ -75,7 +75,7 @@ walk_ends head es p seat c to answer ends is =
     most d false = is.highest d
 
 -- a processor is armed, or not any more
-arms : (head : Head) (es : List Event) (p : Standing) (c : ℕ) (at : Option ℕ) (e : Event) → c < head.possible →
+arms : (head : Head) (es : List Event) (p : ProcessorsView) (c : ℕ) (at : Option ℕ) (e : Event) → c < head.possible →
     ((d : ℕ) → armed d (es ++ e ∷ []) ≡ cond (eqb c d) at (armed d es)) → ((d : ℕ) → settled d (es ++ e ∷ []) ≡ settled d es) →
     IsStanding head es p → IsStanding head (es ++ e ∷ []) (with_armed c at p)
 arms head es p c at e inside armed_now same is =
@@ -96,7 +96,7 @@ unarmed true how found h = h
 unarmed false how found h = refl
 
 -- nothing changes
-stays : (head : Head) (es : List Event) (p : Standing) (e : Event) → ((d : ℕ) → armed d (es ++ e ∷ []) ≡ armed d es) →
+stays : (head : Head) (es : List Event) (p : ProcessorsView) (e : Event) → ((d : ℕ) → armed d (es ++ e ∷ []) ≡ armed d es) →
     ((d : ℕ) → settled d (es ++ e ∷ []) ≡ settled d es) → IsStanding head es p → IsStanding head (es ++ e ∷ []) p
 stays head es p e armed_same same is = record {
   cpus = is.cpus;
@@ -107,13 +107,13 @@ stays head es p e armed_same same is = record {
   present_is = is.present_is;
 }
 
-unchanged : (head : Head) (es : List Event) (p : Standing) (seat c s i : ℕ) (d : Dir) (how : How) →
+unchanged : (head : Head) (es : List Event) (p : ProcessorsView) (seat c s i : ℕ) (d : Dir) (how : How) →
     ((found : Option ℕ) → disarmed_by how found ≡ found) → IsStanding head es p → IsStanding head (es ++ Call seat c s i d how ∷ []) p
 unchanged head es p seat c s i d how same is =
     let e : Event = Call seat c s i d how in
     stays head es p e (λ x. armed_push x es e ∙ unarmed (eqb c x) how (armed x es) (same (armed x es))) (λ x. settled_push x es e) is
 
-called : (head : Head) (es : List Event) (p : Standing) (seat c s i : ℕ) (d : Dir) (how : How) → c < head.possible → IsStanding head es p →
+called : (head : Head) (es : List Event) (p : ProcessorsView) (seat c s i : ℕ) (d : Dir) (how : How) → c < head.possible → IsStanding head es p →
     IsStanding head (es ++ Call seat c s i d how ∷ []) (disarmed_after how c p)
 called head es p seat c s i d Injected below is =
     let e : Event = Call seat c s i d Injected in
@@ -124,7 +124,7 @@ called head es p seat c s i d Empty below is = unchanged head es p seat c s i d 
 called head es p seat c s i d Presumed below is = unchanged head es p seat c s i d Presumed (λ f. refl) is
 called head es p seat c s i d (Overruled code) below is = unchanged head es p seat c s i d (Overruled code) (λ f. refl) is
 
-pub standing_more : (head : Head) (es : List Event) (p : Standing) (to : ℕ) (e : Event) → IsOnProcessor head es to e → IsStanding head es p →
+pub standing_more : (head : Head) (es : List Event) (p : ProcessorsView) (to : ℕ) (e : Event) → IsOnProcessor head es to e → IsStanding head es p →
     IsStanding head (es ++ e ∷ []) (standing_after to e p)
 standing_more head es p to (Call seat c s i d how) on is = called head es p seat c s i d how on is
 standing_more head es p to (WalkEnd seat c answer) on is = walk_ends head es p seat c to answer on is

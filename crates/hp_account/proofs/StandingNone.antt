@@ -3,6 +3,7 @@ use Rattle.std.proofs.Common.{◌≡◌, ℕ, zero, suc, ◌+◌, ◌<◌, ◌�
 use Rattle.std.specs.Prelude.{replicate, map, fold, slice_set, slice_index}
 use Rattle.std.proofs.lemmas.Bool.{ltb-true, ltb-false, ne_eqb}
 use Rattle.std.proofs.lemmas.List.{length-replicate, get_or_append_left, get_or_push}
+use Rattle.hp_model.proofs.Going.{none_counted}
 use Rattle.hp_states.specs.Sections.{is_online_state}
 use Rattle.hp_states.specs.declared.limits.TheConstants.{MAX_CPUS, ONLINE}
 use Rattle.hp_event.specs.declared.head.Head.{Head}
@@ -17,11 +18,6 @@ use Rattle.hp_account.proofs.PlaceLemmas.{at_place-none}
 offline_flags : (n : ℕ) → replicate n false ≡ map is_online_state (replicate n 0)
 offline_flags zero = refl
 offline_flags (suc n) = ap (λ xs. false ∷ xs) (offline_flags n)
-
-zero_at : (n c : ℕ) → ◌≡◌ {A = ℕ} (get_or (replicate n 0) c 0) 0
-zero_at zero c = refl
-zero_at (suc n) zero = refl
-zero_at (suc n) (suc c) = zero_at n c
 
 zero_more : (k : ℕ) → k + 0 ≡ k
 zero_more k = omega arith
@@ -42,12 +38,12 @@ sound_none (suc n) above few =
 
 stands_at : (n c : ℕ) → slice_index (slice_set (replicate (suc n) 0) 0 200) c ≡ cond (eqb c 0) 200 0
 stands_at n zero = refl
-stands_at n (suc c) = let far : eqb (suc c) 0 ≡ false = ne_eqb (suc c) 0 (λ same. absurd (omega (arith, same))) in rw far (zero_at n c)
+stands_at n (suc c) = let far : eqb (suc c) 0 ≡ false = ne_eqb (suc c) 0 (λ same. absurd (omega (arith, same))) in rw far (none_counted n c)
 
 first_at : (n c : ℕ) → slice_index (slice_set (replicate n 0) 0 200) c ≤ ONLINE
 first_at zero c = omega arith
 first_at (suc n) zero = omega arith
-first_at (suc n) (suc c) = rw (zero_at n c) (omega arith)
+first_at (suc n) (suc c) = rw (none_counted n c) (omega arith)
 
 pub standing_none : (head : Head) (present : List Bool) → IsHead head → AreFlags (is_present head) head.possible present →
     IsStanding head []

@@ -16,7 +16,7 @@ use Rattle.hp_model.specs.Suspend.{disabled, frozen, wakeup_pending, is_freeze, 
 use Rattle.hp_model.proofs.Laws.{disabled_push, frozen_push, wakeup_push}
 use Rattle.hp_model.proofs.Counts.{occurs-append}
 use Rattle.hp_account.specs.Flags.{AreFlags}
-use Rattle.hp_account.specs.Suspended.{Suspension, IsSuspended, none_frozen, once_entered, walked, ended}
+use Rattle.hp_account.specs.Suspended.{SuspendedView, IsSuspended, none_frozen, once_entered, walked, ended}
 use Rattle.hp_account.specs.After.{suspension_after}
 
 -- the operation that holds the map lock, where a walk or an operation ends, and the processor of the walk
@@ -72,13 +72,13 @@ same_flags n flags xs ys e h = record { places = h.places; each = λ c below. h.
 longer : (es : List Event) (e : Event) → length (es ++ e ∷ []) ≡ length es + 1
 longer es e = length-append es (e ∷ [])
 
-frozen_if : (head : Head) (es : List Event) (b : Bool) (s : Suspension) (xs : List ℕ) → AreFlags (λ c. among c xs) head.possible s.frozen →
+frozen_if : (head : Head) (es : List Event) (b : Bool) (s : SuspendedView) (xs : List ℕ) → AreFlags (λ c. among c xs) head.possible s.frozen →
     AreFlags (λ c. among c (cond b [] xs)) head.possible (cond b (none_frozen s.frozen) s.frozen)
 frozen_if head es true s xs h = none_are head.possible s.frozen (λ c. among c xs) h
 frozen_if head es false s xs h = h
 
 -- an operation begins
-enters : (head : Head) (es : List Event) (s : Suspension) (seat : ℕ) (op : Op) → IsSuspended head es s →
+enters : (head : Head) (es : List Event) (s : SuspendedView) (seat : ℕ) (op : Op) → IsSuspended head es s →
     IsSuspended head (es ++ Enter seat op ∷ []) (once_entered op s)
 enters head es s seat op is =
     let e : Event = Enter seat op in
@@ -96,7 +96,7 @@ enters head es s seat op is =
     fewer false n h = omega (arith, h)
 
 -- an operation ends
-ends : (head : Head) (es : List Event) (s : Suspension) (seat : ℕ) (answer : Answer) (op : Op) (o : Operation) → operation es ≡ Some o →
+ends : (head : Head) (es : List Event) (s : SuspendedView) (seat : ℕ) (answer : Answer) (op : Op) (o : Operation) → operation es ≡ Some o →
     o.op ≡ op → IsSuspended head es s → IsSuspended head (es ++ OpEnd seat answer ∷ []) (ended op s)
 ends head es s seat answer op o held same is =
     let e : Event = OpEnd seat answer in
@@ -118,7 +118,7 @@ ends head es s seat answer op o held same is =
     fewer false false n h = omega (arith, h)
 
 -- a walk ends
-walk_ends : (head : Head) (es : List Event) (s : Suspension) (seat c : ℕ) (answer : Answer) (op : Op) (o : Operation) →
+walk_ends : (head : Head) (es : List Event) (s : SuspendedView) (seat c : ℕ) (answer : Answer) (op : Op) (o : Operation) →
     operation es ≡ Some o → o.op ≡ op → c < head.possible → IsSuspended head es s →
     IsSuspended head (es ++ WalkEnd seat c answer ∷ []) (walked op c answer s)
 walk_ends head es s seat c answer op o held same below is =
@@ -147,7 +147,7 @@ walk_ends head es s seat c answer op o held same below is =
     go false fine h = so s.frozen (frozen es) is.frozen_is h
 
 -- nothing of it changes
-stays : (head : Head) (es : List Event) (s : Suspension) (e : Event) → disabled (es ++ e ∷ []) ≡ disabled es →
+stays : (head : Head) (es : List Event) (s : SuspendedView) (e : Event) → disabled (es ++ e ∷ []) ≡ disabled es →
     frozen (es ++ e ∷ []) ≡ frozen es → wakeup_pending (es ++ e ∷ []) ≡ wakeup_pending es → IsSuspended head es s →
     IsSuspended head (es ++ e ∷ []) s
 stays head es s e a b c is = record {
@@ -157,7 +157,7 @@ stays head es s e a b c is = record {
   wakeup_is = is.wakeup_is ∙ sym c;
 }
 
-pub suspension_more : (head : Head) (es : List Event) (s : Suspension) (op : Op) (e : Event) → IsUnder head es op e → IsSuspended head es s →
+pub suspension_more : (head : Head) (es : List Event) (s : SuspendedView) (op : Op) (e : Event) → IsUnder head es op e → IsSuspended head es s →
     IsSuspended head (es ++ e ∷ []) (suspension_after op e s)
 suspension_more head es s op (Enter seat asked) under is = enters head es s seat asked is
 suspension_more head es s op (WalkEnd seat c answer) under is =

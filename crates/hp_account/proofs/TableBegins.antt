@@ -115,7 +115,7 @@ setup_begins head es places seat asked number state form sub idle t found vacant
     }
 
 -- what is kept of a registered state whose registration begins by another operation than a setup
-kept_at : (head : Head) (es : List Event) (s : ℕ) (place : Option Step) (step : Step) → place ≡ Some step →
+pub kept_at : (head : Head) (es : List Event) (s : ℕ) (place : Option Step) (step : Step) → place ≡ Some step →
     IfSome place (IsStepOf head es s) → IsStepOf head es s step
 kept_at head es s place step some h = rw some at h
 

@@ -2,6 +2,8 @@
 use Rattle.std.proofs.Common.{◌≡◌, ℕ, Bool, true, false, not, cond, eqb, Option, Some, None, IfSome, List, [], ◌∷◌, ◌++◌, refl, sym, ap, ◌∙◌}
 use Rattle.std.specs.Prelude.{slice_set}
 use Rattle.std.proofs.lemmas.Bool.{eq-eqb, ne_eqb, false≢true}
+use Rattle.hp_account.proofs.TableBegins.{kept_at}
+use Rattle.hp_model.proofs.RegistrationSteps.{after_other}
 use Rattle.hp_event.specs.declared.op.Op.{Op}
 use Rattle.hp_event.specs.declared.op.Op.TheVariants.{Setup, Remove, Add, Del}
 use Rattle.hp_event.specs.Ops.{is_adding}
@@ -22,15 +24,6 @@ use Rattle.hp_table.proofs.Places.{within_places, at_each}
 use Rattle.hp_account.specs.Table.{IsTableOf, IsStepOf, HasOf, HasRegistration, registered_by, registered_in_flight}
 use Rattle.hp_account.specs.TableChanges.{place_without, place_left, takes_out}
 use Rattle.hp_account.proofs.TableMore.{step_same}
-
--- what an answer makes of what is registered at another state, and at the state
-other_after : (head : Head) (s : ℕ) (answer : Answer) (r : Registration) (found : Option Registered) → eqb r.state s ≡ false →
-    after_answer head s answer (Some r) found ≡ found
-other_after head s (answered.Ok value) r found apart = rw apart refl
-other_after head s (answered.Refused errno) r found apart = refl
-other_after head s (answered.Fault code) r found apart = refl
-other_after head s (answered.Stuck first second stays) r found apart = refl
-other_after head s answered.LogFull r found apart = refl
 
 same_after : (head : Head) (s : ℕ) (answer : Answer) (r : Registration) (found : Option Registered) → eqb r.state s ≡ true →
     after_answer head s answer (Some r) found ≡ cond (is_ok answer) (applied head r.op found) found
@@ -86,10 +79,6 @@ without_counted head es state inst step k = record {
   counts_are = k.counts_are;
 }
 
-step_there : (head : Head) (es : List Event) (s : ℕ) (place : Option Step) (step : Step) → place ≡ Some step →
-    IfSome place (IsStepOf head es s) → IsStepOf head es s step
-step_there head es s place step some h = rw some at h
-
 pub table_ends : (head : Head) (es : List Event) (places : List (Option Step)) (seat : ℕ) (answer : Answer) (r : Registration) →
     registration es ≡ Some r → is_registration_op r.op ≡ true → IsTableOf head es places → (h : HasRegistration head es places r) →
     IsTableOf head (es ++ RegEnd seat answer ∷ []) (slice_set places r.state (place_left r.op answer h.step))
@@ -98,7 +87,7 @@ table_ends head es places seat answer r flies registers t h =
     let step = h.step in
     let place = place_left r.op answer step in
     let below = within_places places r.state step h.place_is in
-    let k = step_there head es r.state (step_at places r.state) step h.place_is (t.steps r.state) in
+    let k = kept_at head es r.state (step_at places r.state) step h.place_is (t.steps r.state) in
     let self : eqb r.state r.state ≡ true = eq-eqb r.state r.state refl in
     let multi : is_multi head step.kept.sub ≡ step.kept.multi = rw k.sub_is (sym k.multi_is) in
     let here : registered head r.state es ≡ registered_in_flight r.op (Some step) =
@@ -116,7 +105,7 @@ table_ends head es places seat answer r flies registers t h =
           (λ s other.
           let apart : eqb r.state s ≡ false = ne_eqb r.state s other in
           let found_is : registered head s es ≡ registered_by (step_at places s) = rw (flies, apart) at (t.registered_is s) in
-          after_is s ∙ other_after head s answer r (registered head s es) apart ∙ found_is)
+          after_is s ∙ after_other head s answer r (registered head s es) apart ∙ found_is)
           s);
       steps =
           at_each (λ s p. IfSome p (IsStepOf head (es ++ e ∷ []) s)) places r.state place below

@@ -2,6 +2,7 @@
 use Rattle.std.proofs.Common.{◌≡◌, ℕ, true, false, Option, Some, None, OnOk, Ok, Err, IfSome, List, [], ◌∷◌, ◌++◌, refl, sym, ap, ◌∙◌, subst}
 use Rattle.std.specs.Prelude.{Result, option_map}
 use Rattle.std.proofs.lemmas.Bool.{true≢false}
+use Rattle.hp_states.proofs.Basics.{none_some}
 use Rattle.hp_event.specs.declared.op.Op.{Op}
 use Rattle.hp_event.specs.declared.answer.Answer.{Answer}
 use Rattle.hp_event.specs.declared.head.Head.{Head}
@@ -25,9 +26,6 @@ on_ok (Err e) P Q h f = tt
 pub always : {T E : Type 0} (r : Result T E) (Q : Type 0) → Q → OnOk r Q
 always (Ok x) Q h = h
 always (Err e) Q h = tt
-
-none_some : {X : Type 0} (x : X) → None ≡ Some x → ⊥
-none_some x h = cc
 
 -- the registration in flight, by what the account says of it
 pub record Flies (es : List Event) (op : Op) (state : ℕ) : Type 0 where

@@ -1,8 +1,9 @@
 -- What a journal says is registered, where no registration is in flight, as the table says it.
 use Rattle.std.proofs.Common.{◌≡◌, ℕ, zero, suc, ◌+◌, ◌-◌, ◌<◌, ◌≤◌, Bool, true, false, not, ◌||◌, cond, eqb, is_some, is_none, Option, Some, None, List, [], ◌∷◌, length, sum_by, refl, sym, ap, ◌∙◌, ⊎_elim, arith}
 use Rattle.std.specs.Prelude.{find}
-use Rattle.std.proofs.lemmas.Bool.{cases_lt, cases_eq, eqb-true}
+use Rattle.std.proofs.lemmas.Bool.{cases_eq, eqb-true}
 use Rattle.std.proofs.lemmas.List.Sums.{sum_by-cons}
+use Rattle.hp_states.proofs.Basics.{less_apart}
 use Rattle.hp_states.specs.declared.limits.TheConstants.{ONLINE, PREPARE_DYN, ONLINE_DYN}
 use Rattle.hp_states.specs.declared.section.Range.{Range}
 use Rattle.hp_states.specs.declared.section.Range.TheVariants.{Prepare, Online}
@@ -89,10 +90,6 @@ pub among_alike : (inst : ℕ) (place : Option Step) → among inst (instances (
 among_alike inst None = refl
 among_alike inst (Some step) = sym (among_any inst step.insts)
 
-apart : (a s : ℕ) → a ≤ s → (a ≡ s → ⊥) → a < s
-apart a s from other =
-    ⊎_elim (λ (lt : a < s). lt) (λ (ge : s ≤ a). absurd (other (omega (arith, ge, from)))) (cases_lt a s)
-
 -- the first of a row that passes a test
 find_first : (p : ℕ → Bool) (a n s : ℕ) → a ≤ s → s ≤ a + n → p s ≡ true → ((t : ℕ) → a ≤ t → t < s → p t ≡ false) →
     find p (a ∷ rising a n) ≡ Some s
@@ -104,7 +101,7 @@ find_first p a (suc n) s from to here before =
     ⊎_elim
     (λ (same : a ≡ s). let this : p a ≡ true = ap p same ∙ here in rw this (ap Some same))
     (λ (other : a ≡ s → ⊥).
-    let above = apart a s from other in
+    let above = less_apart a s from other in
     rw (before a (omega arith) above)
     (find_first p (suc a) n s (omega (arith, above)) (omega (arith, to)) here
     (λ t over under. before t (omega (arith, over)) under)))

@@ -2,6 +2,7 @@
 use Rattle.std.proofs.Common.{◌≡◌, ℕ, ◌<◌, ◌≤◌, Bool, true, false, not, cond, eqb, Option, Some, None, List, [], ◌∷◌, ◌++◌, length, length-append, refl, ap, sym, subst, ◌∙◌, arith}
 use Rattle.std.specs.Prelude.{option_map}
 use Rattle.std.proofs.lemmas.Bool.{true≢false, eqb-true, eq-eqb}
+use Rattle.hp_states.proofs.Basics.{none_some, same_some}
 use Rattle.hp_states.specs.declared.dir.Dir.{Dir}
 use Rattle.hp_states.specs.Sections.{is_ap_state}
 use Rattle.hp_event.specs.declared.how.How.{How}
@@ -25,7 +26,7 @@ use Rattle.hp_model.proofs.HeadlineProof.{lawful_more}
 use Rattle.hp_model.proofs.InFlight.{empty_of}
 use Rattle.hp_model.proofs.Laws.{operation_push, walk_push}
 use Rattle.hp_model.proofs.OneNext.{owners}
-use Rattle.hp_model.proofs.Owners.{Owners, same_some, none_some, map_free, over_at_rest}
+use Rattle.hp_model.proofs.Owners.{Owners, map_free, over_at_rest}
 use Rattle.hp_model.proofs.QueueMoves.{queue_moves, queue_none, queue_fits}
 use Rattle.hp_model.proofs.Stages.{ap_no_client}
 use Rattle.hp_model.proofs.WalkGives.{gives_by_caller}
@@ -39,8 +40,8 @@ use Rattle.hp_walk.specs.Keys.{keys_by}
 use Rattle.hp_walk.proofs.Alike.{asked_alike}
 use Rattle.hp_account.specs.declared.flights.Flight.{Flight}
 use Rattle.hp_account.specs.declared.flights.Flights.{Flights}
-use Rattle.hp_account.specs.declared.operation.Held.{Held}
-use Rattle.hp_account.specs.BatchTurns.{IsTurns, asks_by, asks_own, FliesWithin, is_batch, CanMove, CanTurn, Turned}
+use Rattle.hp_account.specs.declared.operation.MapOperation.{MapOperation}
+use Rattle.hp_account.specs.BatchTurns.{IsTurns, asks_by, asks_own, FliesWithin, is_batch, CanMove, CanTurn, TurnTaken}
 use Rattle.hp_account.specs.Flights.{IsFlight, IsFlights}
 use Rattle.hp_account.specs.Operations.{IsHeldBy}
 use Rattle.hp_account.specs.Places.{at_place}
@@ -134,7 +135,7 @@ can_move head es places e c new queue o lawful t is room held q = (within (at_pl
         let more = length-append (from_front c queue.cpus) (c ∷ []) in
         omega (arith, most, more, room)
 
-pub can_turn : (head : Head) (es : List Event) (places : List (Option Step)) (held : Option Held) (e : Event) (new : Flights)
+pub can_turn : (head : Head) (es : List Event) (places : List (Option Step)) (held : Option MapOperation) (e : Event) (new : Flights)
     (queue : Queue) → IsLawful head es → Stands head es e → IsTableOf head (es ++ e ∷ []) places → IsHeldBy head es held →
     IsTurns head es queue → IsFlights head (es ++ e ∷ []) new → CanTurn (keys_by places) (is_batch held) e new queue
 can_turn head es places held e new queue lawful stands t by turns is = go (is_batch held) refl
@@ -169,7 +170,7 @@ can_turn head es places held e new queue lawful stands t by turns is = go (is_ba
 
 -- what is moved is the queue of the journal
 turned_queue : (keys : ℕ → List ℕ) (own : ℕ → Bool) (e : Event) (f : Flights) (queue after : Queue) →
-    ((c : ℕ) → asks_own keys (at_place f.by_cpu.items c) ≡ own c) → Turned keys true e f queue after →
+    ((c : ℕ) → asks_own keys (at_place f.by_cpu.items c) ≡ own c) → TurnTaken keys true e f queue after →
     (after.cpus ≡ queue_after own queue.cpus e) × (after.room ≡ queue.room)
 turned_queue keys own (WalkBegin seat c from to) f queue after same h =
     (h.cpus_are ∙ ap (λ b. at_end b c (from_front c queue.cpus)) (same c), h.room_is)
@@ -194,16 +195,16 @@ at_rest head es queue rest t = go (held_by is_upmany (operation es)) refl
         none c k = rw rest refl
 
 -- an event that leaves the operation
-stays : (head : Head) (es : List Event) (places : List (Option Step)) (held : Option Held) (e : Event) (new : Flights)
+stays : (head : Head) (es : List Event) (places : List (Option Step)) (held : Option MapOperation) (e : Event) (new : Flights)
     (queue after : Queue) → IsLawful head es → Stands head es e → IsTableOf head (es ++ e ∷ []) places → IsHeldBy head es held →
     IsTurns head es queue → IsFlights head (es ++ e ∷ []) new → operation (es ++ e ∷ []) ≡ operation es →
-    Turned (keys_by places) (is_batch held) e new queue after → IsTurns head (es ++ e ∷ []) after
+    TurnTaken (keys_by places) (is_batch held) e new queue after → IsTurns head (es ++ e ∷ []) after
 stays head es places held e new queue after lawful stands t by turns is same turned = go (is_batch held) refl turned
   where
     ys : List Event
     ys = es ++ e ∷ []
 
-    go : (b : Bool) → is_batch held ≡ b → Turned (keys_by places) b e new queue after → IsTurns head ys after
+    go : (b : Bool) → is_batch held ≡ b → TurnTaken (keys_by places) b e new queue after → IsTurns head ys after
     go false b h =
         let single : held_by is_upmany (operation es) ≡ false = sym (batch_is head es held by) ∙ b in
         record {
@@ -248,9 +249,9 @@ emptied head es queue after same none room still =
       empty = λ m. empty;
     }
 
-pub turns_more : (head : Head) (es : List Event) (places : List (Option Step)) (held : Option Held) (e : Event) (new : Flights)
+pub turns_more : (head : Head) (es : List Event) (places : List (Option Step)) (held : Option MapOperation) (e : Event) (new : Flights)
     (queue after : Queue) → IsLawful head es → Stands head es e → IsTableOf head (es ++ e ∷ []) places → IsHeldBy head es held →
-    IsTurns head es queue → IsFlights head (es ++ e ∷ []) new → Turned (keys_by places) (is_batch held) e new queue after →
+    IsTurns head es queue → IsFlights head (es ++ e ∷ []) new → TurnTaken (keys_by places) (is_batch held) e new queue after →
     IsTurns head (es ++ e ∷ []) after
 turns_more head es places held (Enter seat op) new queue after lawful stands t by turns is turned =
     emptied head (es ++ e ∷ []) queue after (same (is_batch held) turned) (turns.empty (ap (held_by is_upmany) free)) turns.room
@@ -262,7 +263,7 @@ turns_more head es places held (Enter seat op) new queue after lawful stands t b
     free : operation es ≡ None
     free = map_free es op stands.0.takes_map stands.0.passes.not_waiting
 
-    same : (b : Bool) → Turned (keys_by places) b (Enter seat op) new queue after → after ≡ queue
+    same : (b : Bool) → TurnTaken (keys_by places) b (Enter seat op) new queue after → after ≡ queue
     same true h = h
     same false h = h
 
@@ -277,7 +278,7 @@ turns_more head es places held (OpEnd seat answer) new queue after lawful stands
     e : Event
     e = OpEnd seat answer
 
-    same : (b : Bool) → Turned (keys_by places) b (OpEnd seat answer) new queue after → after ≡ queue
+    same : (b : Bool) → TurnTaken (keys_by places) b (OpEnd seat answer) new queue after → after ≡ queue
     same true h = h
     same false h = h
 turns_more head es places held e new queue after lawful stands t by turns is turned =

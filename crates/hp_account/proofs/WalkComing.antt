@@ -3,6 +3,8 @@
 use Rattle.std.proofs.Common.{◌≡◌, ◌≢◌, ℕ, Bool, true, false, cond, Option, Some, None, IfSome, List, [], ◌∷◌, ◌++◌, ◌⊎◌, refl, ap, sym, subst, ◌∙◌, inl, inr}
 use Rattle.std.specs.Prelude.{option_map, option_to_list}
 use Rattle.std.specs.List.{cons_option}
+use Rattle.hp_model.proofs.EntryStays.{walk_kept}
+use Rattle.hp_states.proofs.Basics.{none_some, same_some}
 use Rattle.hp_states.specs.declared.dir.Dir.{Dir}
 use Rattle.hp_states.specs.declared.place.Place.{Place}
 use Rattle.hp_states.specs.Sections.{is_ap_state, can_fail}
@@ -14,12 +16,11 @@ use Rattle.hp_event.specs.declared.event.Event.{Event}
 use Rattle.hp_event.specs.declared.event.Event.TheVariants.{Call}
 use Rattle.hp_model.specs.ApTurn.{IsApTurn}
 use Rattle.hp_model.specs.Batch.{is_upmany}
-use Rattle.hp_model.specs.BatchTurn.{brings_up}
 use Rattle.hp_model.specs.Caller.{is_made_by_ap, caller}
 use Rattle.hp_model.specs.Events.{seat_of}
 use Rattle.hp_model.specs.How.{how_answered, answer_at, how_in_walk}
 use Rattle.hp_model.specs.Lawful.{IsLawful}
-use Rattle.hp_model.specs.MapLock.{Operation, operation}
+use Rattle.hp_model.specs.MapLock.{operation}
 use Rattle.hp_model.specs.Registered.{keys}
 use Rattle.hp_model.specs.Registrations.{registration}
 use Rattle.hp_model.specs.Seats.{ap_seat}
@@ -27,9 +28,8 @@ use Rattle.hp_model.specs.StandsCalls.{WalkEntry}
 use Rattle.hp_model.specs.Suspend.{held_by}
 use Rattle.hp_model.specs.UnderWay.{next_of_walk, under_way}
 use Rattle.hp_model.specs.Walks.{Walk, walk, walking}
-use Rattle.hp_model.proofs.NoUpmanyProof.{is_plain}
-use Rattle.hp_model.proofs.Owners.{same_some, none_some}
-use Rattle.hp_model.proofs.TurnLemmas.{single_brings, single_held_up}
+use Rattle.hp_model.proofs.NoUpmanyProof.{is_plain, none_brings}
+use Rattle.hp_model.proofs.TurnLemmas.{single_held_up}
 use Rattle.hp_model.proofs.WalkGives.{gives_by_caller}
 use Rattle.hp_table.specs.Step.{Step, step_at}
 use Rattle.hp_walk.specs.Cursor.{cpu_of}
@@ -39,18 +39,18 @@ use Rattle.hp_walk.specs.Asked.{asked}
 use Rattle.hp_walk.specs.Keys.{keys_by, insts_of}
 use Rattle.hp_walk.proofs.Alike.{asked_alike}
 use Rattle.hp_walk.proofs.Asked.{asked_state}
-use Rattle.hp_account.specs.declared.under_way.Means.{Means}
+use Rattle.hp_account.specs.declared.under_way.MadeBy.{MadeBy}
 use Rattle.hp_account.specs.declared.under_way.Entry.{Entry}
-use Rattle.hp_account.specs.declared.under_way.Coming.{Coming}
-use Rattle.hp_account.specs.declared.under_way.Coming.TheVariants as coming
+use Rattle.hp_account.specs.declared.under_way.NextStep.{NextStep}
+use Rattle.hp_account.specs.declared.under_way.NextStep.TheVariants as coming
 use Rattle.hp_account.specs.declared.under_way.Ending.TheVariants as ending
 use Rattle.hp_account.specs.declared.flights.Flight.{Flight}
-use Rattle.hp_account.specs.Coming.{IsComing, IsByThread, IsInFlightOf, end_event, means_in_walk}
+use Rattle.hp_account.specs.NextStep.{IsComing, IsByThread, IsInFlightOf, end_event, means_in_walk}
 use Rattle.hp_account.specs.Entries.{entry_event, how_of_means}
 use Rattle.hp_account.specs.Table.{registered_by, IsStepOf}
 use Rattle.hp_account.specs.WalkComing.{event_of, IsThreadsEntry, IsOfWalk, IsNextOn}
-use Rattle.hp_account.specs.Walking.{IsOneOf, IsBeside}
-use Rattle.hp_account.proofs.FlightFacts.{flight_at, no_registration, registered_there, keys_same, alone, walk_kept}
+use Rattle.hp_account.specs.Walking.{IsFlightIn, IsSceneOf}
+use Rattle.hp_account.proofs.FlightFacts.{flight_at, no_registration, registered_there, keys_same, alone}
 use Rattle.hp_account.proofs.WalkEntries.{entry_asked, end_gives, by_thread_at, has_same, made_same}
 
 -- where nothing walks and no registration is in flight, nothing is under way
@@ -71,26 +71,26 @@ one_under_way head events c single alone idle =
     go (Some e) = refl
 
 -- who makes an entry, as one of two
-made_by : (by_thread : Bool) (thread : Option ℕ) (client k : ℕ) → cond by_thread thread (Some client) ≡ Some k →
+maker_of : (by_thread : Bool) (thread : Option ℕ) (client k : ℕ) → cond by_thread thread (Some client) ≡ Some k →
     (k ≡ client) ⊎ ((by_thread ≡ true) × (thread ≡ Some k))
-made_by true thread client k h = inr (refl, h)
-made_by false thread client k h = inl (sym (same_some client k h))
+maker_of true thread client k h = inr (refl, h)
+maker_of false thread client k h = inl (sym (same_some client k h))
 
 by_none : (by_thread : Bool) (thread : Option ℕ) (client : ℕ) → cond by_thread thread (Some client) ≡ None → by_thread ≡ true
 by_none true thread client h = refl
 by_none false thread client h = absurd (none_some client (sym h))
 
 -- what the code makes of a seat, where it has one
-abbrev pub entry_at : (cpu : ℕ) → Key → Dir → Place → Means → (seat : ℕ) → Entry
-entry_at c key d place means k = record { seat = k; cpu = c; key = key; dir = d; place = place; means = means }
+abbrev pub entry_at : (cpu : ℕ) → Key → Dir → Place → MadeBy → (seat : ℕ) → Entry
+entry_at c key d place made_by k = record { seat = k; cpu = c; key = key; dir = d; place = place; made_by = made_by }
 
 -- the entry that is asked for, where it is a processor's
-next_entry : (head : Head) (events : List Event) (client c : ℕ) (w : Walk) (key : Key) (d : Dir) (place : Place) (means : Means) (how : How)
+next_entry : (head : Head) (events : List Event) (client c : ℕ) (w : Walk) (key : Key) (d : Dir) (place : Place) (made_by : MadeBy) (how : How)
     (e : WalkEntry head events c key.state key.inst d how) → e.of.seat ≡ client → walk c events ≡ Some w → client ≡ w.seat →
     next_of_walk head events c (walk c events) ≡ option_map (λ k. Call k c key.state key.inst d how) (caller events c key.state how client) →
-    ((k : ℕ) → entry_event head events (entry_at c key d place means k) ≡ Call k c key.state key.inst d how) →
-    IsNextOn head events c (coming.Entry client c (option_map (entry_at c key d place means) (caller events c key.state how client)))
-next_entry head events client c w key d place means how e own at by given made = go (caller events c key.state how client) refl given
+    ((k : ℕ) → entry_event head events (entry_at c key d place made_by k) ≡ Call k c key.state key.inst d how) →
+    IsNextOn head events c (coming.Entry client c (option_map (entry_at c key d place made_by) (caller events c key.state how client)))
+next_entry head events client c w key d place made_by how e own at by given made = go (caller events c key.state how client) refl given
   where
     threads : is_made_by_ap key.state how ≡ true → IsThreadsEntry head events client c
     threads h = record { state = key.state; inst = key.inst; dir = d; how = how; entry = e; client_is = own; by_thread = h }
@@ -102,7 +102,7 @@ next_entry head events client c w key d place means how e own at by given made =
 
     go : (o : Option ℕ) → caller events c key.state how client ≡ o →
         next_of_walk head events c (walk c events) ≡ option_map (λ k. Call k c key.state key.inst d how) o →
-        IsNextOn head events c (coming.Entry client c (option_map (entry_at c key d place means) o))
+        IsNextOn head events c (coming.Entry client c (option_map (entry_at c key d place made_by) o))
     go None h g =
         record {
           of = w;
@@ -115,7 +115,7 @@ next_entry head events client c w key d place means how e own at by given made =
           of = w;
           in_flight = at;
           gives = g ∙ ap Some (sym (made k));
-          parts = (refl, by, (refl, either k (made_by (is_made_by_ap key.state how) (ap_seat c events) client k h)));
+          parts = (refl, by, (refl, either k (maker_of (is_made_by_ap key.state how) (ap_seat c events) client k h)));
         }
 
 -- a state with a key has a place in the table
@@ -129,19 +129,19 @@ has_step P Q places s some h then = go (step_at places s) refl some h
 
 -- how the entry is made that the walk of a flight asks for, by what makes it
 pub flight_means : (head : Head) (events : List Event) (f : Flight) (places : List (Option Step)) (armed_at thread : Option ℕ) (key : Key)
-    (d : Dir) (place : Place) (first : Bool) (means : Means) → IsOneOf head events f →
-    IsBeside head events places (cpu_of f.walk) armed_at thread → ask.Call key d place first ≡ asked (keys_by places) f.walk →
+    (d : Dir) (place : Place) (first : Bool) (made_by : MadeBy) → IsFlightIn head events f →
+    IsSceneOf head events places (cpu_of f.walk) armed_at thread → ask.Call key d place first ≡ asked (keys_by places) f.walk →
     IsWithin (keys_by places) f.walk →
-    IfSome (step_at places key.state) (λ step. means ≡ means_in_walk step.kept armed_at key.state d place first) →
-    how_of_means means (how_answered (can_fail d key.state place) (answer_at head events (cpu_of f.walk) key.state key.inst d))
+    IfSome (step_at places key.state) (λ step. made_by ≡ means_in_walk step.kept armed_at key.state d place first) →
+    how_of_means made_by (how_answered (can_fail d key.state place) (answer_at head events (cpu_of f.walk) key.state key.inst d))
     ≡ how_in_walk head events (cpu_of f.walk) key.state key.inst d place first
-flight_means head events f places armed_at thread key d place first means one beside is within by =
+flight_means head events f places armed_at thread key d place first made_by one beside is within by =
     let c : ℕ = cpu_of f.walk in
     let b = flight_at head events one.flights c f one.flights_are one.there in
     let idle = no_registration head events c f beside.lawful b in
     let some = asked_state (keys_by places) f.walk key d place first within (sym is) in
-    has_step (λ step. means ≡ means_in_walk step.kept armed_at key.state d place first)
-    (how_of_means means (how_answered (can_fail d key.state place) (answer_at head events c key.state key.inst d))
+    has_step (λ step. made_by ≡ means_in_walk step.kept armed_at key.state d place first)
+    (how_of_means made_by (how_answered (can_fail d key.state place) (answer_at head events c key.state key.inst d))
     ≡ how_in_walk head events c key.state key.inst d place first) places key.state some.some by
     (λ step there means_is.
     let registered = registered_there head events places key.state beside.table_is idle ∙ ap registered_by there in
@@ -152,14 +152,14 @@ flight_means head events f places armed_at thread key d place first means one be
 
 -- the entry that the walk of a flight asks for, by the seat that makes it, if that is in
 pub flight_entry : (head : Head) (events : List Event) (f : Flight) (places : List (Option Step)) (armed_at thread : Option ℕ) (key : Key)
-    (d : Dir) (place : Place) (first : Bool) (means : Means) (seat : Option ℕ) (entry : Option Entry) → IsOneOf head events f →
-    IsBeside head events places (cpu_of f.walk) armed_at thread → ask.Call key d place first ≡ asked (keys_by places) f.walk →
+    (d : Dir) (place : Place) (first : Bool) (made_by : MadeBy) (seat : Option ℕ) (entry : Option Entry) → IsFlightIn head events f →
+    IsSceneOf head events places (cpu_of f.walk) armed_at thread → ask.Call key d place first ≡ asked (keys_by places) f.walk →
     IsWithin (keys_by places) f.walk →
-    IfSome (step_at places key.state) (λ step. means ≡ means_in_walk step.kept armed_at key.state d place first) →
+    IfSome (step_at places key.state) (λ step. made_by ≡ means_in_walk step.kept armed_at key.state d place first) →
     seat ≡ cond (is_ap_state key.state) thread (Some f.seat) →
-    entry ≡ option_map (entry_at (cpu_of f.walk) key d place means) seat →
+    entry ≡ option_map (entry_at (cpu_of f.walk) key d place made_by) seat →
     IsNextOn head events (cpu_of f.walk) (coming.Entry f.seat (cpu_of f.walk) entry)
-flight_entry head events f places armed_at thread key d place first means seat entry one beside is within by seat_is entry_is =
+flight_entry head events f places armed_at thread key d place first made_by seat entry one beside is within by seat_is entry_is =
     let c : ℕ = cpu_of f.walk in
     let b = flight_at head events one.flights c f one.flights_are one.there in
     let K = keys head b.of.before in
@@ -169,16 +169,16 @@ flight_entry head events f places armed_at thread key d place first means seat e
     let given = gives_by_caller head events c key.state key.inst d how e.0 in
     let Given : ℕ → Type 0 = λ k. next_of_walk head events c (walk c events)
     ≡ option_map (λ j. Call j c key.state key.inst d how) (caller events c key.state how k) in
-    let made : (k : ℕ) → entry_event head events (entry_at c key d place means k) ≡ Call k c key.state key.inst d how =
-    λ k. ap (Call k c key.state key.inst d) (flight_means head events f places armed_at thread key d place first means one beside is within by) in
+    let made : (k : ℕ) → entry_event head events (entry_at c key d place made_by k) ≡ Call k c key.state key.inst d how =
+    λ k. ap (Call k c key.state key.inst d) (flight_means head events f places armed_at thread key d place first made_by one beside is within by) in
     let by_seat : seat ≡ caller events c key.state how f.seat =
     seat_is ∙ rw (by_thread_at head events c key.state key.inst d place first, beside.thread_is) refl in
-    subst (λ o. IsNextOn head events c (coming.Entry f.seat c o)) (sym (entry_is ∙ ap (option_map (entry_at c key d place means)) by_seat))
-    (next_entry head events f.seat c b.of key d place means how e.0 e.1 b.in_flight b.seat_is (subst Given e.1 given) made)
+    subst (λ o. IsNextOn head events c (coming.Entry f.seat c o)) (sym (entry_is ∙ ap (option_map (entry_at c key d place made_by)) by_seat))
+    (next_entry head events f.seat c b.of key d place made_by how e.0 e.1 b.in_flight b.seat_is (subst Given e.1 given) made)
 
 -- the end of the walk of a flight
 pub flight_end : (head : Head) (events : List Event) (f : Flight) (places : List (Option Step)) (armed_at thread : Option ℕ)
-    (answer : Answer) → IsOneOf head events f → IsBeside head events places (cpu_of f.walk) armed_at thread →
+    (answer : Answer) → IsFlightIn head events f → IsSceneOf head events places (cpu_of f.walk) armed_at thread →
     ask.Ended answer ≡ asked (keys_by places) f.walk →
     IsNextOn head events (cpu_of f.walk) (coming.End (ending.Walk f.seat (cpu_of f.walk) answer))
 flight_end head events f places armed_at thread answer one beside is =
@@ -193,16 +193,8 @@ flight_end head events f places armed_at thread answer one beside is =
       parts = (b.seat_is, refl, refl);
     }
 
--- where no upmany is in flight, nobody waits for a turn
-no_turns : (events : List Event) (k : ℕ) → held_by is_upmany (operation events) ≡ false → brings_up k (operation events) ≡ false
-no_turns events k h = go (operation events) refl h
-  where
-    go : (o : Option Operation) → operation events ≡ o → held_by is_upmany o ≡ false → brings_up k (operation events) ≡ false
-    go None at u = ap (brings_up k) at
-    go (Some o) at u = single_brings events o k at u
-
 -- what comes next in the one walk in flight is what is under way
-pub walk_comes : (head : Head) (events : List Event) (c : ℕ) (what : Coming) → IsLawful head events →
+pub walk_comes : (head : Head) (events : List Event) (c : ℕ) (what : NextStep) → IsLawful head events →
     held_by is_upmany (operation events) ≡ false → IsNextOn head events c what → IsComing head events what
 walk_comes head events c what lawful single n = go what n.gives n.parts
   where
@@ -226,7 +218,7 @@ walk_comes head events c what lawful single n = go what n.gives n.parts
           how = t.how;
           entry = inl (t.entry, t.client_is);
           by_thread = t.by_thread;
-          held_up = single_held_up head events client c (no_turns events client single);
+          held_up = single_held_up head events client c (none_brings events client single);
         }
 
     either : (client k : ℕ) → (k ≡ client) ⊎ (IsThreadsEntry head events client c × (ap_seat c events ≡ Some k)) →
@@ -234,7 +226,7 @@ walk_comes head events c what lawful single n = go what n.gives n.parts
     either client k (inl h) = inl h
     either client k (inr h) = inr (record { thread_is = h.1; turn = turn client h.0 })
 
-    go : (what : Coming) → next_of_walk head events c (walk c events) ≡ event_of head events what → IsOfWalk head events c w what →
+    go : (what : NextStep) → next_of_walk head events c (walk c events) ≡ event_of head events what → IsOfWalk head events c w what →
         IsComing head events what
     go (coming.Entry client on None) g p =
         subst (λ z. IsComing head events (coming.Entry client z None)) (sym p.0)

@@ -1,5 +1,7 @@
 -- The entry that a walk in flight asks for: it comes next, it is made as its place wants, and by its seat.
 use Rattle.std.proofs.Common.{◌≡◌, ℕ, zero, suc, Bool, true, false, not, ◌&&◌, ◌||◌, cond, Option, Some, None, List, refl, ap, sym, subst, ◌∙◌}
+use Rattle.hp_model.proofs.TurnStays.{not_presumed}
+use Rattle.hp_states.proofs.Basics.{and_true, not_not}
 use Rattle.hp_states.specs.declared.dir.Dir.{Dir}
 use Rattle.hp_states.specs.declared.dir.Dir.TheVariants.{Up, Down}
 use Rattle.hp_states.specs.declared.place.Place.{Place}
@@ -32,9 +34,9 @@ use Rattle.hp_walk.specs.declared.step.Step.TheVariants as ask
 use Rattle.hp_walk.specs.After.{Asks, ComesNext}
 use Rattle.hp_walk.specs.Asked.{asked, slot_of}
 use Rattle.hp_walk.proofs.Asked.{asks}
-use Rattle.hp_account.specs.declared.under_way.Means.TheVariants as means
+use Rattle.hp_account.specs.declared.under_way.MadeBy.TheVariants as made_by
 use Rattle.hp_account.specs.declared.flights.Flight.{Flight}
-use Rattle.hp_account.specs.Coming.{has_callback_by, means_in_walk}
+use Rattle.hp_account.specs.NextStep.{has_callback_by, means_in_walk}
 use Rattle.hp_account.specs.Entries.{how_of_means}
 use Rattle.hp_account.specs.Flights.{IsFlight}
 use Rattle.hp_account.specs.Table.{registered_by, IsStepOf}
@@ -59,10 +61,6 @@ comes K entries w key d place first how next fit = go (is_done how) fit
         IsNextInWalk w.cpu K (direction w.from w.to) (plan K w.from w.to) entries (slot_of w.cpu key d place first (not b))
     go true h = next.done
     go false h = next.fault h
-
-not_not : (b : Bool) → b ≡ not (not b)
-not_not true = refl
-not_not false = refl
 
 -- what the walk of a flight asks for comes next in the walk of its processor, whoever makes it
 pub entry_asked : (head : Head) (events : List Event) (c : ℕ) (f : Flight) (key : Key) (d : Dir) (place : Place) (first : Bool)
@@ -116,20 +114,6 @@ presumed_answered may_fail zero = refl
 presumed_answered true (suc n) = refl
 presumed_answered false (suc n) = refl
 
-not_presumed : (head : Head) (events : List Event) (c s i : ℕ) (d : Dir) (place : Place) (first : Bool) →
-    is_presumed (how_in_walk head events c s i d place first) ≡ false
-not_presumed head events c s i d place first = go (has_callback (sub_at head s events) d) (takes_fault events c s d place first)
-  where
-    go : (has takes : Bool) →
-        is_presumed (cond has (cond takes how.Injected (how_answered (can_fail d s place) (answer_at head events c s i d))) how.Empty) ≡ false
-    go true true = refl
-    go true false = presumed_answered (can_fail d s place) (answer_at head events c s i d)
-    go false takes = refl
-
-and_true : (b : Bool) → (b && true) ≡ b
-and_true true = refl
-and_true false = refl
-
 -- so the thread makes it at an AP state, and the client elsewhere
 pub by_thread_at : (head : Head) (events : List Event) (c s i : ℕ) (d : Dir) (place : Place) (first : Bool) →
     is_made_by_ap s (how_in_walk head events c s i d place first) ≡ is_ap_state s
@@ -159,7 +143,7 @@ made_same head events c s i d place first step armed_at has at =
     answered = how_answered (can_fail d s place) (answer_at head events c s i d)
 
     go : (has takes : Bool) →
-        how_of_means (cond has (cond takes means.Injected means.Hook) means.Empty) answered
+        how_of_means (cond has (cond takes made_by.Injected made_by.Hook) made_by.Empty) answered
         ≡ cond has (cond takes how.Injected answered) how.Empty
     go true true = refl
     go true false = refl

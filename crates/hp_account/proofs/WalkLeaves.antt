@@ -2,6 +2,7 @@
 use Rattle.std.proofs.Common.{◌≡◌, ℕ, ◌+◌, ◌-◌, ◌<◌, ◌≤◌, Bool, true, false, not, cond, eqb, ltb, Option, Some, None, List, ◌∷◌, ◌++◌, zero, suc, refl, sym, ap, ◌∙◌, subst, arith}
 use Rattle.std.specs.Prelude.{reverse}
 use Rattle.std.proofs.lemmas.Bool.{eq-eqb, eqb-true}
+use Rattle.hp_states.proofs.Basics.{same_some}
 use Rattle.hp_states.specs.Crossings.{state_after}
 use Rattle.hp_states.specs.declared.limits.TheConstants.{ONLINE}
 use Rattle.hp_states.specs.declared.dir.Dir.{Dir}
@@ -21,7 +22,6 @@ use Rattle.hp_model.specs.WalkShape.{Outcome, went, returned, stopped, IsWalkSha
 use Rattle.hp_model.specs.Lawful.{IsLawful}
 use Rattle.hp_model.proofs.Counts.{occurs-append}
 use Rattle.hp_model.proofs.Operations.{in_filter}
-use Rattle.hp_model.proofs.Owners.{same_some}
 use Rattle.hp_model.proofs.TreeShapes.{cut_back}
 use Rattle.hp_walk.specs.Cursor.{to_of}
 use Rattle.hp_account.specs.declared.flights.Flight.{Flight}

@@ -4,6 +4,8 @@ use Rattle.std.specs.Prelude.{pos, negsuc, ℤ}
 use Rattle.std.proofs.lemmas.List.{append-nil}
 use Rattle.std.proofs.lemmas.Bool.{true≢false, eqb-true, eqb-false, and_parts, ltb-true, leb-true, ltb-false}
 use Rattle.std.proofs.lemmas.Bool.Decides.{nat_tests}
+use Rattle.hp_suspend.proofs.Todo.{same_to}
+use Rattle.hp_states.proofs.Basics.{not_true, none_some, same_some}
 use Rattle.hp_states.specs.declared.limits.TheConstants.{ONLINE}
 use Rattle.hp_event.specs.declared.op.Op.{Op}
 use Rattle.hp_event.specs.declared.op.Op.TheVariants.{Up, Down, Target, Boot, Disable, Enable, Freeze, Thaw, UpMany}
@@ -30,7 +32,7 @@ use Rattle.hp_model.proofs.Induction.{Held, held_none, held_from}
 use Rattle.hp_model.proofs.Laws.{operation_push, begun_push, settled_push, walk_push}
 use Rattle.hp_model.proofs.OneNext.{owners}
 use Rattle.hp_model.proofs.Operations.{Entered, not_walk, not_nothing, single_walk, boot_walk, freeze_walk, first_walk, in_filter, walk_present}
-use Rattle.hp_model.proofs.Owners.{Owners, owners_none, owners_step, same_some, none_some, map_free}
+use Rattle.hp_model.proofs.Owners.{Owners, owners_none, owners_step, map_free}
 use Rattle.hp_model.proofs.Passing.{none_holds, passed}
 
 -- since an operation took the map lock, a processor whose walk it hasn't begun is as it was
@@ -93,10 +95,6 @@ rested : (head : Head) (xs : List Event) → IsLawful head xs → Rested xs
 unfolding operation
 rested head xs h = rested_from head [] xs owners_none (λ o q c b. absurd (none_some o q)) h.1
 
--- where a walk goes to
-same_to : (c to c' to' : ℕ) → walks c to ≡ walks c' to' → to ≡ to'
-same_to c to c' to' h = cc
-
 single_to : (c to now : ℕ) (xs : List Answer) (cpu to' : ℕ) → single_next c to now xs ≡ walks cpu to' → to ≡ to'
 single_to c to now [] cpu to' h = go (eqb now to) h
   where
@@ -141,10 +139,6 @@ target_most (pos n) h = let b : leb n 200 ≡ true = opened (leb n 200) h in leb
     opened false h = absurd (true≢false h)
 target_most (negsuc n) h = omega arith
 
-closed : (b : Bool) → not b ≡ true → b ≡ false
-closed true h = absurd (true≢false (sym h))
-closed false h = refl
-
 -- below the highest state, a walk to it moves
 up_moves : (now to : ℕ) → ONLINE ≡ to → now < ONLINE → IsMove now to
 up_moves now to goes below = record { moves = λ e. absurd (omega (arith, goes, below, e)); to_most = omega (arith, goes) }
@@ -165,7 +159,7 @@ moves_by head xs o cpu to r held (Boot n) single passes h =
     let w = boot_walk enough (to_boot head xs) (length (failures (answers xs))) cpu to h in
     let p = in_filter (λ c. is_present head c && (not (is_online c xs) && not (among c (begun xs)))) cpu (numbers head.possible) w in
     let q = and_parts (is_present head cpu) (not (is_online cpu xs) && not (among cpu (begun xs))) p.0 in
-    let off : ltb 100 (settled cpu xs) ≡ false = closed (is_online cpu xs) (and_parts (not (is_online cpu xs)) (not (among cpu (begun xs))) q.1).0 in
+    let off : ltb 100 (settled cpu xs) ≡ false = not_true (is_online cpu xs) (and_parts (not (is_online cpu xs)) (not (among cpu (begun xs))) q.1).0 in
     let low = ltb-false 100 (settled cpu xs) off in
     up_moves (settled cpu xs) to (boot_to enough (to_boot head xs) (length (failures (answers xs))) cpu to h) (omega (arith, low))
 moves_by head xs o cpu to r held (Freeze q) single passes h =
@@ -175,7 +169,7 @@ moves_by head xs o cpu to r held (Freeze q) single passes h =
     let i = in_filter (λ c. is_online c o.before) cpu (numbers head.possible) p.1 in
     let up = ltb-true 100 (settled cpu o.before) i.0 in
     let fresh : among cpu (begun xs) ≡ false =
-    closed (among cpu (begun xs)) (and_parts (not (eqb cpu (primary_of q (online head o.before)))) (not (among cpu (begun xs))) p.0).1 in
+    not_true (among cpu (begun xs)) (and_parts (not (eqb cpu (primary_of q (online head o.before)))) (not (among cpu (begun xs))) p.0).1 in
     let same = (r o held cpu fresh).0 in
     record { moves = λ e. absurd (omega (arith, goes, up, same, e)); to_most = omega (arith, goes) }
 moves_by head xs o cpu to r held Thaw single passes h =

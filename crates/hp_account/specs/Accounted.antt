@@ -7,6 +7,7 @@ use Rattle.hp_event.specs.declared.event.Event.TheVariants.{Admit}
 use Rattle.hp_event.specs.declared.event.Role.{Role}
 use Rattle.hp_model.specs.Lawful.{IsLawful}
 use Rattle.hp_model.specs.Promised.{promised}
+use Rattle.hp_model.specs.Seats.{admits}
 use Rattle.hp_account.specs.declared.account.Account.{Account}
 use Rattle.hp_account.specs.Account.{IsAccount}
 
@@ -18,3 +19,7 @@ pub record IsAccounted (journal : Story) (reserved : ℕ) (parts : Account) : Ty
 -- no seat comes in by it
 abbrev pub NoAdmission : Event → Type 0
 NoAdmission e = (seat : ℕ) (role : Role) → e ≡ Admit seat role → ⊥
+
+-- the event by which the next seat comes in with this role
+abbrev pub admission_to : Story → Role → Event
+admission_to journal role = Admit (admits journal.events) role

@@ -8,28 +8,28 @@ use Rattle.hp_event.specs.declared.event.Event.{Event}
 use Rattle.hp_event.specs.declared.event.Event.TheVariants.{Admit, Leave, Enter, WalkBegin, Call, WalkEnd, OpEnd, RegBegin, RegEnd, ReadLock, ReadUnlock, Armed, Wakeup}
 use Rattle.hp_model.specs.Armed.{armed_by}
 use Rattle.hp_locks.specs.Holders.{Holders, with_map, with_writer, with_registrar, with_reader}
-use Rattle.hp_account.specs.Seats.{Roll, with_seat, without_seat}
-use Rattle.hp_account.specs.Processors.{Standing, with_settled, with_armed}
-use Rattle.hp_account.specs.Suspended.{Suspension, once_entered, walked, ended, woken}
+use Rattle.hp_account.specs.Seats.{SeatsView, with_seat, without_seat}
+use Rattle.hp_account.specs.Processors.{ProcessorsView, with_settled, with_armed}
+use Rattle.hp_account.specs.Suspended.{SuspendedView, once_entered, walked, ended, woken}
 
-abbrev pub roll_after : Event → Roll → Roll
+abbrev pub roll_after : Event → SeatsView → SeatsView
 roll_after (Admit seat role) r = with_seat role r
 roll_after (Leave seat) r = without_seat seat r
 roll_after _ r = r
 
-abbrev pub disarmed_after : How → (cpu : ℕ) → Standing → Standing
+abbrev pub disarmed_after : How → (cpu : ℕ) → ProcessorsView → ProcessorsView
 disarmed_after Injected c p = with_armed c None p
 disarmed_after _ c p = p
 
 -- `to` is where the walk went that ends
-abbrev pub standing_after : (to : ℕ) → Event → Standing → Standing
+abbrev pub standing_after : (to : ℕ) → Event → ProcessorsView → ProcessorsView
 standing_after to (Call seat cpu state inst dir how) p = disarmed_after how cpu p
 standing_after to (WalkEnd seat cpu answer) p = with_settled cpu (leaves_at answer to (slice_index p.settled cpu)) p
 standing_after to (Armed seat cpu value) p = with_armed cpu (armed_by value) p
 standing_after to _ p = p
 
 -- `op` is the operation that holds the map lock, where a walk or an operation ends
-abbrev pub suspension_after : Op → Event → Suspension → Suspension
+abbrev pub suspension_after : Op → Event → SuspendedView → SuspendedView
 suspension_after op (Enter seat asked) s = once_entered asked s
 suspension_after op (WalkEnd seat cpu answer) s = walked op cpu answer s
 suspension_after op (OpEnd seat answer) s = ended op s

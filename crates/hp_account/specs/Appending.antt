@@ -16,19 +16,19 @@ use Rattle.hp_locks.specs.Holders.{Holders, reads}
 use Rattle.hp_locks.specs.Waits.{wait_for_map, wait_for_writer, wait_to_write, wait_to_register}
 use Rattle.hp_walk.specs.Cursor.{to_of}
 use Rattle.hp_account.specs.declared.flights.Flights.{Flights}
-use Rattle.hp_account.specs.declared.operation.Held.{Held}
+use Rattle.hp_account.specs.declared.operation.MapOperation.{MapOperation}
 use Rattle.hp_account.specs.declared.registering.Registering.{Registering}
 use Rattle.hp_account.specs.declared.flights.Flight.{Flight}
-use Rattle.hp_account.specs.BatchTurns.{is_batch, CanTurn, Turned, HasPlaceInSet, Awaited}
-use Rattle.hp_account.specs.FlightChanges.{IfWalks, IfFlies, CanGoOn, Begun, WentOn, Ended}
-use Rattle.hp_account.specs.Operations.{HasCounts, IsHeldBy}
+use Rattle.hp_account.specs.BatchTurns.{is_batch, CanTurn, TurnTaken, HasPlaceInSet, Awaited}
+use Rattle.hp_account.specs.FlightChanges.{IfWalks, IfFlies, CanGoOn, WalkBegan, WalkWentOn, WalkEnded}
+use Rattle.hp_account.specs.Operations.{CountsFit, IsHeldBy}
 use Rattle.hp_account.specs.Places.{at_place}
-use Rattle.hp_account.specs.Processors.{Standing, IsStanding}
-use Rattle.hp_account.specs.RegisteringChanges.{HasBegun, WentOnBy}
+use Rattle.hp_account.specs.Processors.{ProcessorsView, IsStanding}
+use Rattle.hp_account.specs.RegisteringChanges.{RegistrationBegan, RegistrationWentOn}
 use Rattle.hp_account.specs.declared.account.Account.{Account}
 use Rattle.hp_account.specs.After.{roll_after, holders_after, standing_after, suspension_after}
-use Rattle.hp_account.specs.Seats.{Roll, HasPlace, HasNoThread, with_seat}
-use Rattle.hp_account.specs.Suspended.{Suspension}
+use Rattle.hp_account.specs.Seats.{SeatsView, HasPlace, HasNoThread, with_seat}
+use Rattle.hp_account.specs.Suspended.{SuspendedView}
 
 -- a lock that an event takes is free, and one that it gives back is held by its seat; a later walk of an upmany has the write side
 abbrev pub CanHold : Event → Holders → Type 0
@@ -45,33 +45,33 @@ CanHold (ReadUnlock seat) h = (seat < length h.reading) × (reads h seat ≡ tru
 CanHold _ h = Unit {0}
 
 -- its processor is one of these
-abbrev pub HasPlaceFor : Event → Standing → Type 0
+abbrev pub HasPlaceFor : Event → ProcessorsView → Type 0
 HasPlaceFor (Call seat cpu state inst dir how) p = cpu < length p.armed
 HasPlaceFor (WalkEnd seat cpu answer) p = cpu < length p.settled
 HasPlaceFor (Armed seat cpu value) p = cpu < length p.armed
 HasPlaceFor _ p = Unit {0}
 
 -- a walk that ends is of one of these processors, and an operation that ends leaves room for one count more
-abbrev pub HasRoomFor : Event → Suspension → Type 0
+abbrev pub HasRoomFor : Event → SuspendedView → Type 0
 HasRoomFor (WalkEnd seat cpu answer) s = cpu < length s.frozen
 HasRoomFor (OpEnd seat answer) s = s.disabled < MAX_EVENTS
 HasRoomFor _ s = Unit {0}
 
 -- the operation that holds the map lock, where a walk or an operation ends
-abbrev pub IsOpOf : Event → Option Held → Op → Type 0
+abbrev pub IsOpOf : Event → Option MapOperation → Op → Type 0
 IsOpOf (WalkEnd seat cpu answer) held op = option_map (λ h. h.op) held ≡ Some op
 IsOpOf (OpEnd seat answer) held op = option_map (λ h. h.op) held ≡ Some op
 IsOpOf _ held op = Unit {0}
 
-abbrev pub HasCountsIf : Option Held → Type 0
-HasCountsIf None = Unit {0}
-HasCountsIf (Some held) = HasCounts held.sequence
+abbrev pub CountsFitIf : Option MapOperation → Type 0
+CountsFitIf None = Unit {0}
+CountsFitIf (Some held) = CountsFit held.sequence
 
 -- what takes the map lock is an operation of it, and the walks of one that holds it are counted
-abbrev pub CanOperate : Event → Option Held → Type 0
+abbrev pub CanOperate : Event → Option MapOperation → Type 0
 CanOperate (Enter seat op) held = is_map_op op ≡ true
 CanOperate (WalkBegin seat cpu from to) held = cpu < MAX_CPUS
-CanOperate (WalkEnd seat cpu answer) held = HasCountsIf held
+CanOperate (WalkEnd seat cpu answer) held = CountsFitIf held
 CanOperate _ held = Unit {0}
 
 abbrev pub CanEnd : Event → Flights → Type 0
@@ -98,17 +98,17 @@ CanFly keys need (WalkEnd seat cpu answer) f =
 CanFly keys need _ f = Unit {0}
 
 -- the walk of the processor, if it walks, has gone on
-abbrev pub WentOnIf : (flight : Option Flight) → (keys : ℕ → List ℕ) → (cpu : ℕ) → How → (old new : Flights) → Type 0
-WentOnIf None keys cpu how old new = new ≡ old
-WentOnIf (Some flight) keys cpu how old new = WentOn keys cpu how old new
+abbrev pub WalkWentOnIf : (flight : Option Flight) → (keys : ℕ → List ℕ) → (cpu : ℕ) → How → (old new : Flights) → Type 0
+WalkWentOnIf None keys cpu how old new = new ≡ old
+WalkWentOnIf (Some flight) keys cpu how old new = WalkWentOn keys cpu how old new
 
 -- it has begun, gone on or ended, and this much of its room is given back
-abbrev pub Flew : (keys : ℕ → List ℕ) → (need freed : ℕ) → Event → (old new : Flights) → Type 0
-Flew keys need freed (WalkBegin seat cpu from to) old new = Begun keys seat cpu from to need old new × (freed ≡ 0)
-Flew keys need freed (Call seat cpu state inst dir how) old new =
-    WentOnIf (at_place old.by_cpu.items cpu) keys cpu how old new × (freed ≡ 0)
-Flew keys need freed (WalkEnd seat cpu answer) old new = Ended cpu freed old new
-Flew keys need freed _ old new = (new ≡ old) × (freed ≡ 0)
+abbrev pub WalksChanged : (keys : ℕ → List ℕ) → (need freed : ℕ) → Event → (old new : Flights) → Type 0
+WalksChanged keys need freed (WalkBegin seat cpu from to) old new = WalkBegan keys seat cpu from to need old new × (freed ≡ 0)
+WalksChanged keys need freed (Call seat cpu state inst dir how) old new =
+    WalkWentOnIf (at_place old.by_cpu.items cpu) keys cpu how old new × (freed ≡ 0)
+WalksChanged keys need freed (WalkEnd seat cpu answer) old new = WalkEnded cpu freed old new
+WalksChanged keys need freed _ old new = (new ≡ old) × (freed ≡ 0)
 
 -- a registration that begins is an operation's at one of the states
 abbrev pub CanRegister : Event → Type 0
@@ -116,28 +116,28 @@ CanRegister (RegBegin seat state op) = (is_registration_op op ≡ true) × (stat
 CanRegister (Call seat cpu state inst dir how) = cpu < MAX_CPUS
 CanRegister _ = Unit {0}
 
-abbrev pub WentOnWith : (cpu : ℕ) → How → (old new : Option Registering) → Type 0
-WentOnWith cpu how None new = new ≡ None
-WentOnWith cpu how (Some g) None = ⊥
-WentOnWith cpu how (Some g) (Some after) = WentOnBy cpu how g after
+abbrev pub RegistrationWentOnIf : (cpu : ℕ) → How → (old new : Option Registering) → Type 0
+RegistrationWentOnIf cpu how None new = new ≡ None
+RegistrationWentOnIf cpu how (Some g) None = ⊥
+RegistrationWentOnIf cpu how (Some g) (Some after) = RegistrationWentOn cpu how g after
 
-abbrev pub HasBegunWith : (seat : ℕ) → Op → (state need : ℕ) → Option Registering → Type 0
-HasBegunWith seat op state need None = ⊥
-HasBegunWith seat op state need (Some g) = HasBegun seat op state need g
+abbrev pub RegistrationBeganWith : (seat : ℕ) → Op → (state need : ℕ) → Option Registering → Type 0
+RegistrationBeganWith seat op state need None = ⊥
+RegistrationBeganWith seat op state need (Some g) = RegistrationBegan seat op state need g
 
 abbrev pub left_by : Option Registering → ℕ
 left_by None = 0
 left_by (Some g) = g.left - 1
 
 -- it has begun, gone on or ended, and this much of its room is given back
-abbrev pub Registered : (need freed : ℕ) → Event → (old new : Option Registering) → Type 0
-Registered need freed (RegBegin seat state op) old new = HasBegunWith seat op state need new × (freed ≡ 0)
-Registered need freed (Call seat cpu state inst dir how) old new = WentOnWith cpu how old new × (freed ≡ 0)
-Registered need freed (RegEnd seat answer) old new = (new ≡ None) × (freed ≡ left_by old)
-Registered need freed _ old new = (new ≡ old) × (freed ≡ 0)
+abbrev pub RegistrationChanged : (need freed : ℕ) → Event → (old new : Option Registering) → Type 0
+RegistrationChanged need freed (RegBegin seat state op) old new = RegistrationBeganWith seat op state need new × (freed ≡ 0)
+RegistrationChanged need freed (Call seat cpu state inst dir how) old new = RegistrationWentOnIf cpu how old new × (freed ≡ 0)
+RegistrationChanged need freed (RegEnd seat answer) old new = (new ≡ None) × (freed ≡ left_by old)
+RegistrationChanged need freed _ old new = (new ≡ old) × (freed ≡ 0)
 
 -- a seat that leaves was admitted
-abbrev pub CanLeave : Event → Roll → Type 0
+abbrev pub CanLeave : Event → SeatsView → Type 0
 CanLeave (Admit seat role) r = ⊥
 CanLeave (Leave seat) r = seat < length r.roles
 CanLeave _ r = Unit {0}
@@ -153,7 +153,7 @@ pub record CanAppend (keys : ℕ → List ℕ) (need : ℕ) (event : Event) (p :
   pub flights : CanFly keys (room_of_walk keys (is_batch p.operation) need event) event p.flights
   pub registration : CanRegister event
   pub turns : (freed : ℕ) (new : Flights) →
-      Flew keys (room_of_walk keys (is_batch p.operation) need event) freed event p.flights new →
+      WalksChanged keys (room_of_walk keys (is_batch p.operation) need event) freed event p.flights new →
       CanTurn keys (is_batch p.operation) event new p.turns
   pub place_in_set : HasPlaceInSet event
 
@@ -172,10 +172,10 @@ pub record Appended (keys : ℕ → List ℕ) (need freed : ℕ) (event : Event)
   pub freed_by_walk : ℕ
   pub freed_by_registration : ℕ
   pub flights :
-      Flew keys (room_of_walk keys (is_batch old.operation) need event) freed_by_walk event old.flights new.flights
-  pub registration : Registered need freed_by_registration event old.registration new.registration
+      WalksChanged keys (room_of_walk keys (is_batch old.operation) need event) freed_by_walk event old.flights new.flights
+  pub registration : RegistrationChanged need freed_by_registration event old.registration new.registration
   pub freed_is : freed ≡ freed_by_walk + freed_by_registration
-  pub turns : Turned keys (is_batch old.operation) event new.flights old.turns new.turns
+  pub turns : TurnTaken keys (is_batch old.operation) event new.flights old.turns new.turns
   pub awaited : Awaited keys (is_batch old.operation) event new.flights old.awaited new.awaited
 
 -- a seat has come in, and nothing else has changed

@@ -20,7 +20,8 @@ use Rattle.hp_walk.specs.declared.step.Step.{Step}
 use Rattle.hp_walk.specs.declared.step.Step.TheVariants as ask
 use Rattle.hp_account.specs.declared.flights.Flight.{Flight}
 use Rattle.hp_account.specs.declared.flights.Flights.{Flights}
-use Rattle.hp_account.specs.declared.operation.Held.{Held}
+use Rattle.hp_account.specs.declared.operation.MapOperation.{MapOperation}
+use Rattle.hp_account.specs.FlightChanges.{IfWalks}
 use Rattle.hp_account.specs.Places.{at_place}
 
 -- the queue is that of the upmany in flight, and there is room in it for every processor
@@ -51,7 +52,11 @@ abbrev pub FliesWithin : (keys : ℕ → List ℕ) → Option Flight → Type 0
 FliesWithin keys None = Unit {0}
 FliesWithin keys (Some flight) = IsWithin keys flight.walk
 
-abbrev pub is_batch : Option Held → Bool
+-- it walks, and its walk stands among its keys
+abbrev pub WalksWithin : (keys : ℕ → List ℕ) → Option Flight → Type 0
+WalksWithin keys flight = IfWalks flight (λ f. IsWithin keys f.walk)
+
+abbrev pub is_batch : Option MapOperation → Bool
 is_batch None = false
 is_batch (Some held) = is_upmany held.op
 
@@ -80,11 +85,11 @@ pub record Moved (keys : ℕ → List ℕ) (cpu : ℕ) (f : Flights) (old new : 
   pub cpus_are : new.cpus ≡ at_end (asks_own keys (at_place f.by_cpu.items cpu)) cpu (from_front cpu old.cpus)
   pub room_is : new.room ≡ old.room
 
-abbrev pub Turned : (keys : ℕ → List ℕ) → (batch : Bool) → Event → Flights → (old new : Queue) → Type 0
-Turned keys true (WalkBegin seat c from to) f old new = Moved keys c f old new
-Turned keys true (Call seat c state inst dir how) f old new = Moved keys c f old new
-Turned keys true (WalkEnd seat c answer) f old new = Moved keys c f old new
-Turned keys batch event f old new = new ≡ old
+abbrev pub TurnTaken : (keys : ℕ → List ℕ) → (batch : Bool) → Event → Flights → (old new : Queue) → Type 0
+TurnTaken keys true (WalkBegin seat c from to) f old new = Moved keys c f old new
+TurnTaken keys true (Call seat c state inst dir how) f old new = Moved keys c f old new
+TurnTaken keys true (WalkEnd seat c answer) f old new = Moved keys c f old new
+TurnTaken keys batch event f old new = new ≡ old
 
 -- the processor of an event of a walk can be in a set
 abbrev pub HasPlaceInSet : Event → Type 0

@@ -8,19 +8,19 @@ use Rattle.hp_event.specs.declared.op.Op.TheVariants.{UpMany}
 use Rattle.hp_model.specs.MapLock.{Operation, operation}
 use Rattle.hp_suspend.specs.declared.batch.Batch.{Batch as ABatch}
 use Rattle.hp_suspend.specs.Batching.{IsBatching}
-use Rattle.hp_account.specs.declared.operation.Held.{Held}
-use Rattle.hp_account.specs.declared.operation.Sequence.{Sequence}
-use Rattle.hp_account.specs.declared.operation.Sequence.TheVariants.{Batch}
+use Rattle.hp_account.specs.declared.operation.MapOperation.{MapOperation}
+use Rattle.hp_account.specs.declared.operation.Walks.{Walks}
+use Rattle.hp_account.specs.declared.operation.Walks.TheVariants.{Batch}
 use Rattle.hp_account.specs.declared.account.Account.{Account}
 use Rattle.hp_account.specs.Places.{at_place}
 use Rattle.hp_account.specs.UnderWay.{NothingUnderWay, is_batch_walking}
 
-abbrev pub batch_by : (seat : ℕ) → Sequence → Option (ℕ × ABatch)
+abbrev pub batch_by : (seat : ℕ) → Walks → Option (ℕ × ABatch)
 batch_by k (Batch b) = Some (k, b)
 batch_by k sequence = None
 
 -- the upmany in flight, with its seat
-abbrev pub batch_of : Option Held → Option (ℕ × ABatch)
+abbrev pub batch_of : Option MapOperation → Option (ℕ × ABatch)
 batch_of None = None
 batch_of (Some held) = batch_by held.seat held.sequence
 

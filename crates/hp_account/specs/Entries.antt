@@ -8,11 +8,11 @@ use Rattle.hp_event.specs.declared.head.Head.{Head}
 use Rattle.hp_event.specs.declared.event.Event.{Event}
 use Rattle.hp_event.specs.declared.event.Event.TheVariants.{Call}
 use Rattle.hp_model.specs.How.{how_answered, answer_at}
-use Rattle.hp_account.specs.declared.under_way.Means.{Means}
-use Rattle.hp_account.specs.declared.under_way.Means.TheVariants.{Presumed, Empty, Injected, Hook}
+use Rattle.hp_account.specs.declared.under_way.MadeBy.{MadeBy}
+use Rattle.hp_account.specs.declared.under_way.MadeBy.TheVariants.{Presumed, Empty, Injected, Hook}
 use Rattle.hp_account.specs.declared.under_way.Entry.{Entry}
 
-abbrev pub how_of_means : Means → (answered : How) → How
+abbrev pub how_of_means : MadeBy → (answered : How) → How
 how_of_means Presumed answered = how.Presumed
 how_of_means Empty answered = how.Empty
 how_of_means Injected answered = how.Injected
@@ -20,7 +20,7 @@ how_of_means Hook answered = answered
 
 -- how it is made where its hook answers a code
 abbrev pub how_by : Entry → (code : ℕ) → How
-how_by x code = how_of_means x.means (how_answered (can_fail x.dir x.key.state x.place) code)
+how_by x code = how_of_means x.made_by (how_answered (can_fail x.dir x.key.state x.place) code)
 
 -- the event, made so
 abbrev pub entry_made : Entry → How → Event

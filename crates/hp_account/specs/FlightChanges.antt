@@ -16,13 +16,13 @@ pub record IsStill (cpus : ℕ) (f : Flights) : Type 0 where
   pub walking_is : (c : ℕ) → has f.walking c ≡ false
 
 -- the walk of one processor is this, and those of all others are as they were
-pub record IsWith (cpu : ℕ) (flight : Option Flight) (old new : Flights) : Type 0 where
+pub record IsWithWalk (cpu : ℕ) (flight : Option Flight) (old new : Flights) : Type 0 where
   pub by_cpu_is : new.by_cpu.items ≡ slice_set old.by_cpu.items cpu flight
 
 -- a walk has begun, with no entry made, and one event of its room is taken
-pub record Begun (keys : ℕ → List ℕ) (seat cpu from to need : ℕ) (old new : Flights) : Type 0 where
+pub record WalkBegan (keys : ℕ → List ℕ) (seat cpu from to need : ℕ) (old new : Flights) : Type 0 where
   pub flight : Flight
-  pub with_it : IsWith cpu (Some flight) old new
+  pub with_it : IsWithWalk cpu (Some flight) old new
   pub walking_is : (c : ℕ) → has new.walking c ≡ (c == cpu || has old.walking c)
   pub seat_is : flight.seat ≡ seat
   pub walk_is : (cpu_of flight.walk ≡ cpu) × (from_of flight.walk ≡ from) × (to_of flight.walk ≡ to)
@@ -48,20 +48,20 @@ IfWalks None P = ⊥
 IfWalks (Some flight) P = P flight
 
 -- the walk of a processor has gone on past an entry, which took one event of its room
-pub record WentOn (keys : ℕ → List ℕ) (cpu : ℕ) (how : How) (old new : Flights) : Type 0 where
+pub record WalkWentOn (keys : ℕ → List ℕ) (cpu : ℕ) (how : How) (old new : Flights) : Type 0 where
   pub flight : Flight
   pub was : at_place old.by_cpu.items cpu ≡ Some flight
   pub now : Flight
-  pub with_it : IsWith cpu (Some now) old new
+  pub with_it : IsWithWalk cpu (Some now) old new
   pub walking_is : new.walking ≡ old.walking
   pub seat_is : now.seat ≡ flight.seat
   pub took : Took keys how flight.walk now.walk
   pub left_is : now.left ≡ flight.left - 1
 
 -- the walk of a processor has ended, and what is left of its room is given back, but for the end itself
-pub record Ended (cpu freed : ℕ) (old new : Flights) : Type 0 where
+pub record WalkEnded (cpu freed : ℕ) (old new : Flights) : Type 0 where
   pub flight : Flight
   pub was : at_place old.by_cpu.items cpu ≡ Some flight
-  pub with_it : IsWith cpu None old new
+  pub with_it : IsWithWalk cpu None old new
   pub walking_is : (c : ℕ) → has new.walking c ≡ (not (c == cpu) && has old.walking c)
   pub freed_is : freed ≡ flight.left - 1

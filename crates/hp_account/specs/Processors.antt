@@ -12,7 +12,7 @@ use Rattle.hp_account.specs.Flags.{AreFlags}
 use Rattle.hp_account.specs.Places.{at_place}
 
 -- what contracts see of the processors: the settled state of each, where it is armed, and whether it is present
-pub record Standing : Type 0 where
+pub record ProcessorsView : Type 0 where
   pub settled : List ℕ
   pub armed : List (Option ℕ)
   pub present : List Bool
@@ -26,20 +26,20 @@ pub record IsSound (settled : List ℕ) (online : List Bool) (count : ℕ) : Typ
 abbrev pub one_if : Bool → ℕ
 one_if online = if online then 1 else 0
 
-abbrev pub online_flags : Standing → List Bool
+abbrev pub online_flags : ProcessorsView → List Bool
 online_flags p = map is_online_state p.settled
 
 -- how many are online
-abbrev pub online_count : Standing → ℕ
+abbrev pub online_count : ProcessorsView → ℕ
 online_count p = count_by is_online_state p.settled
 
-abbrev pub with_settled : (cpu state : ℕ) → Standing → Standing
+abbrev pub with_settled : (cpu state : ℕ) → ProcessorsView → ProcessorsView
 with_settled c s p = record p { settled = slice_set p.settled c s }
 
-abbrev pub with_armed : (cpu : ℕ) → Option ℕ → Standing → Standing
+abbrev pub with_armed : (cpu : ℕ) → Option ℕ → ProcessorsView → ProcessorsView
 with_armed c s p = record p { armed = slice_set p.armed c s }
 
-pub record IsStanding (head : Head) (events : List Event) (p : Standing) : Type 0 where
+pub record IsStanding (head : Head) (events : List Event) (p : ProcessorsView) : Type 0 where
   pub cpus : length p.settled ≡ head.possible
   pub settled_is : (c : ℕ) → c < head.possible → slice_index p.settled c ≡ settled c events
   pub highest : (c : ℕ) → slice_index p.settled c ≤ ONLINE

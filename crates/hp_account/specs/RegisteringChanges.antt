@@ -15,7 +15,7 @@ use Rattle.hp_reg.specs.declared.step.RegStep.TheVariants.{Call}
 use Rattle.hp_account.specs.declared.registering.Registering.{Registering}
 
 -- a seat's registration that has no entry yet, and took so much room, its begin counted
-pub record HasBegun (seat : ℕ) (op : Op) (state need : ℕ) (g : Registering) : Type 0 where
+pub record RegistrationBegan (seat : ℕ) (op : Op) (state need : ℕ) (g : Registering) : Type 0 where
   pub seat_is : g.seat ≡ seat
   pub op_is : g.reg.op ≡ op
   pub state_is : g.reg.state ≡ state
@@ -23,7 +23,7 @@ pub record HasBegun (seat : ℕ) (op : Op) (state need : ℕ) (g : Registering) 
   pub left_is : g.left ≡ need - 1
 
 -- it stands after one entry more, where that was the one asked for, made as it may be
-pub record WentOnBy (cpu : ℕ) (how : How) (old new : Registering) : Type 0 where
+pub record RegistrationWentOn (cpu : ℕ) (how : How) (old new : Registering) : Type 0 where
   pub seat_same : new.seat ≡ old.seat
   pub op_same : new.reg.op ≡ old.reg.op
   pub state_same : new.reg.state ≡ old.reg.state

@@ -10,12 +10,12 @@ use Rattle.hp_model.specs.FirstEvent.{is_client}
 use Rattle.hp_account.specs.Places.{at_place}
 
 -- what contracts see of the seats
-pub record Roll : Type 0 where
+pub record SeatsView : Type 0 where
   pub roles : List (Option Role)
   pub threads : List (Option ℕ)
 
 -- how many clients are in
-abbrev pub clients_of : Roll → ℕ
+abbrev pub clients_of : SeatsView → ℕ
 clients_of r = count_by is_client r.roles
 
 -- the processor of a thread is one of so many
@@ -33,8 +33,16 @@ HasNoThread Client threads = Unit {0}
 HasNoThread (Ap cpu) threads = at_place threads cpu ≡ None
 
 -- with the next seat, which has this role
-abbrev pub with_seat : Role → Roll → Roll
+abbrev pub with_seat : Role → SeatsView → SeatsView
 with_seat role r = record { roles = r.roles ++ Some role ∷ []; threads = with_thread role (length r.roles) r.threads }
+
+-- this admission is taken back: the seats are those before it, of which none was the thread of that processor
+abbrev pub IsTakenBack : Role → (old new : SeatsView) → Type 0
+IsTakenBack role old new = (before : SeatsView) → old ≡ with_seat role before → HasNoThread role before.threads → new ≡ before
+
+-- a list without its last
+abbrev pub IsWithoutLast : {A : Type 0} → (old new : List A) → Type 0
+IsWithoutLast {A} old new = (before : List A) (last : A) → old ≡ before ++ last ∷ [] → new ≡ before
 
 abbrev pub without_thread : Option Role → List (Option ℕ) → List (Option ℕ)
 without_thread None threads = threads
@@ -42,11 +50,11 @@ without_thread (Some Client) threads = threads
 without_thread (Some (Ap cpu)) threads = slice_set threads cpu None
 
 -- without a seat, which has left
-abbrev pub without_seat : (seat : ℕ) → Roll → Roll
+abbrev pub without_seat : (seat : ℕ) → SeatsView → SeatsView
 without_seat k r = record { roles = slice_set r.roles k None; threads = without_thread (at_place r.roles k) r.threads }
 
 -- the seats are those of a journal
-pub record IsRoll (head : Head) (events : List Event) (r : Roll) : Type 0 where
+pub record IsRoll (head : Head) (events : List Event) (r : SeatsView) : Type 0 where
   pub admitted : length r.roles ≡ admits events
   pub roles_are : (k : ℕ) → role_of k events ≡ at_place r.roles k
   pub cpus : length r.threads ≡ head.possible

@@ -10,13 +10,13 @@ use Rattle.hp_model.specs.Suspend.{disabled, frozen, wakeup_pending, is_freeze, 
 use Rattle.hp_account.specs.Flags.{AreFlags}
 
 -- what contracts see of it: of each processor whether it is frozen
-pub record Suspension : Type 0 where
+pub record SuspendedView : Type 0 where
   pub disabled : ℕ
   pub frozen : List Bool
   pub wakeup : Bool
 
 -- it is disabled at most once for each event
-pub record IsSuspended (head : Head) (events : List Event) (s : Suspension) : Type 0 where
+pub record IsSuspended (head : Head) (events : List Event) (s : SuspendedView) : Type 0 where
   pub disabled_is : s.disabled ≡ disabled events
   pub few : s.disabled ≤ length events
   pub frozen_is : AreFlags (λ c. among c (frozen events)) head.possible s.frozen
@@ -26,8 +26,12 @@ pub record IsSuspended (head : Head) (events : List Event) (s : Suspension) : Ty
 abbrev pub none_frozen : List Bool → List Bool
 none_frozen flags = replicate (length flags) false
 
+-- what stands at the start, of so many processors: hotplug is enabled, none is frozen, no wakeup is pending
+abbrev pub nothing_suspended : (cpus : ℕ) → SuspendedView
+nothing_suspended cpus = record { disabled = 0; frozen = replicate cpus false; wakeup = false }
+
 -- after the begin of an operation: a thaw takes back one count, and a freeze begins its record
-abbrev pub once_entered : Op → Suspension → Suspension
+abbrev pub once_entered : Op → SuspendedView → SuspendedView
 once_entered op s =
     record {
       disabled = (if is_thaw op then s.disabled - 1 else s.disabled);
@@ -36,14 +40,14 @@ once_entered op s =
     }
 
 -- after a walk of an operation
-abbrev pub walked : Op → (cpu : ℕ) → Answer → Suspension → Suspension
+abbrev pub walked : Op → (cpu : ℕ) → Answer → SuspendedView → SuspendedView
 walked op c answer s =
     if is_freeze op
     then (if is_ok answer then record s { frozen = slice_set s.frozen c true } else s)
     else s
 
 -- after the end of an operation
-abbrev pub ended : Op → Suspension → Suspension
+abbrev pub ended : Op → SuspendedView → SuspendedView
 ended op s =
     record {
       disabled = (if is_disabling op then s.disabled + 1 else (if is_enabling op then s.disabled - 1 else s.disabled));
@@ -51,5 +55,5 @@ ended op s =
       wakeup = (if is_freeze op then false else s.wakeup);
     }
 
-abbrev pub woken : Suspension → Suspension
+abbrev pub woken : SuspendedView → SuspendedView
 woken s = record s { wakeup = true }

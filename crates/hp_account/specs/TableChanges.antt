@@ -1,7 +1,7 @@
 -- What a registration changes in the table: at its begin a setup gives its state a subsystem and an add its instance, and at its
 -- end what it added goes where it answers a fault, and what it takes away where it answers Ok. After `cpuhp_store_callbacks` and
 -- the instance lists of `kernel/cpu.c`.
-use Rattle.std.specs.Prelude.{◌≡◌, ◌<◌, ℕ, Bool, true, false, not, ◌&&◌, if◌then◌else◌, Option, Some, None, IsSome, List, [], slice_set}
+use Rattle.std.specs.Prelude.{◌≡◌, ◌<◌, ℕ, Bool, true, false, not, ◌&&◌, if◌then◌else◌, Option, Some, None, IsSome, IfSome, is_some, List, [], ◌∷◌, ◌++◌, slice_set}
 use Rattle.hp_states.specs.declared.limits.TheConstants.{OFFLINE, ONLINE}
 use Rattle.hp_states.specs.Rules.{site_at}
 use Rattle.hp_event.specs.Ops.{is_adding}
@@ -15,13 +15,15 @@ use Rattle.hp_event.specs.Hows.{is_called}
 use Rattle.hp_event.specs.declared.head.Sub.{Sub}
 use Rattle.hp_event.specs.declared.head.Head.{Head}
 use Rattle.hp_event.specs.Heads.{sub_numbered}
+use Rattle.hp_event.specs.Story.{Story}
 use Rattle.hp_model.specs.Registrations.{Registration, registration}
 use Rattle.hp_model.specs.Suspend.{is_ok}
-use Rattle.hp_hook.specs.Counted.{loaded}
+use Rattle.hp_hook.specs.Counted.{Counts, loaded}
 use Rattle.hp_table.specs.Kept.{Kept}
 use Rattle.hp_table.specs.Instances.{with_instance, without_instance, instances_of, instances_at, is_multi, is_multi_at, is_among, has_instance, CanAdd}
 use Rattle.hp_table.specs.Named.{is_named}
-use Rattle.hp_table.specs.Step.{Step, step_at, changed_at, called_step, bare}
+use Rattle.hp_table.specs.Step.{Step, step_at, changed_at, called_step, bare, HasCounted}
+use Rattle.hp_account.specs.Table.{IsTableOf}
 
 -- the record of a subsystem that was just registered, its hook loaded with its plan
 abbrev pub new_record : (number : ℕ) → Sub → Kept
@@ -127,3 +129,24 @@ hands_hook events _ = false
 abbrev pub registering_step : Option Registration → List (Option Step) → Option Step
 registering_step None places = None
 registering_step (Some r) places = step_at places r.state
+
+-- ---- what an event makes of the table of a journal, and the hook that comes of it
+
+abbrev pub ChangesTable : Story → Event → (old new : List (Option Step)) → Type 0
+ChangesTable journal e old new = new ≡ table_after journal.head journal.events e old
+
+-- the table is the journal's, with the event
+abbrev pub IsTableWith : Story → Event → List (Option Step) → Type 0
+IsTableWith journal e places = IsTableOf journal.head (journal.events ++ e ∷ []) places
+
+-- where a registration begins or ends, a hook is there exactly if the event hands one out
+abbrev pub HandsHook : {H : Type 0} → List Event → Event → (hook : Option H) → Type 0
+HandsHook events e hook = is_registering e ≡ true → is_some hook ≡ hands_hook events e
+
+-- a hook is as it stood at the state of the registration in flight
+abbrev pub AsItStood : {H : Type 0} → (seen : H → Counts) → List Event → List (Option Step) → (hook : Option H) → Type 0
+AsItStood seen events places hook = IfSome hook (λ h. HasCounted (seen h) (registering_step (registration events) places))
+
+-- and so is one that is handed out
+abbrev pub HandsAsItStood : {H : Type 0} → (seen : H → Counts) → List Event → Event → List (Option Step) → Option H → Type 0
+HandsAsItStood seen events e places hook = is_registering e ≡ true → AsItStood seen events places hook

@@ -11,14 +11,14 @@ use Rattle.hp_model.specs.NextInWalk.{next_of_walk}
 use Rattle.hp_model.specs.Seats.{ap_seat}
 use Rattle.hp_model.specs.StandsCalls.{WalkEntry}
 use Rattle.hp_model.specs.Walks.{Walk, walk}
-use Rattle.hp_account.specs.declared.under_way.Coming.{Coming}
-use Rattle.hp_account.specs.declared.under_way.Coming.TheVariants as coming
+use Rattle.hp_account.specs.declared.under_way.NextStep.{NextStep}
+use Rattle.hp_account.specs.declared.under_way.NextStep.TheVariants as coming
 use Rattle.hp_account.specs.declared.under_way.Entry.{Entry}
-use Rattle.hp_account.specs.Coming.{end_event}
+use Rattle.hp_account.specs.NextStep.{end_event}
 use Rattle.hp_account.specs.Entries.{entry_event}
 
 -- the event that comes; none where it is a thread's that isn't in
-abbrev pub event_of : Head → List Event → Coming → Option Event
+abbrev pub event_of : Head → List Event → NextStep → Option Event
 event_of head events (coming.Entry client c None) = None
 event_of head events (coming.Entry client c (Some x)) = Some (entry_event head events x)
 event_of head events (coming.End e) = Some (end_event e)
@@ -39,17 +39,17 @@ IsMadeBy head events client c None = IsThreadsEntry head events client c
 IsMadeBy head events client c (Some x) =
     (x.cpu ≡ c) × ((x.seat ≡ client) ⊎ (IsThreadsEntry head events client c × (ap_seat c events ≡ Some x.seat)))
 
-abbrev pub IsOfWalk : Head → List Event → (cpu : ℕ) → Walk → Coming → Type 0
+abbrev pub IsOfWalk : Head → List Event → (cpu : ℕ) → Walk → NextStep → Type 0
 IsOfWalk head events c w (coming.Entry client on entry) = (on ≡ c) × (client ≡ w.seat) × IsMadeBy head events client c entry
 IsOfWalk head events c w (coming.End e) = (seat_of (end_event e) ≡ w.seat) × (is_call (end_event e) ≡ false) × (need head events (end_event e) ≡ None)
 
-pub record IsNextOn (head : Head) (events : List Event) (cpu : ℕ) (what : Coming) : Type 0 where
+pub record IsNextOn (head : Head) (events : List Event) (cpu : ℕ) (what : NextStep) : Type 0 where
   pub of : Walk
   pub in_flight : walk cpu events ≡ Some of
   pub gives : next_of_walk head events cpu (walk cpu events) ≡ event_of head events what
   pub parts : IsOfWalk head events cpu of what
 
 -- what comes next in the walk of a processor, if it walks
-abbrev pub IsNextOnIf : Head → List Event → (cpu : ℕ) → Option Coming → Type 0
+abbrev pub IsNextOnIf : Head → List Event → (cpu : ℕ) → Option NextStep → Type 0
 IsNextOnIf head events c None = walk c events ≡ None
 IsNextOnIf head events c (Some what) = IsNextOn head events c what

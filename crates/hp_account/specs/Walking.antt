@@ -15,7 +15,7 @@ use Rattle.hp_account.specs.Flights.{IsFlights}
 use Rattle.hp_account.specs.Table.{IsTableOf}
 
 -- the journal is lawful; these are its table, where a processor is armed, and the seat of its thread
-pub record IsBeside (head : Head) (events : List Event) (places : List (Option Step)) (cpu : ℕ) (armed_at thread : Option ℕ) :
+pub record IsSceneOf (head : Head) (events : List Event) (places : List (Option Step)) (cpu : ℕ) (armed_at thread : Option ℕ) :
     Type 0
   where
     pub lawful : IsLawful head events
@@ -24,7 +24,7 @@ pub record IsBeside (head : Head) (events : List Event) (places : List (Option S
     pub thread_is : thread ≡ ap_seat cpu events
 
 -- the flight is one of the journal's
-pub record IsOneOf (head : Head) (events : List Event) (f : Flight) : Type 0 where
+pub record IsFlightIn (head : Head) (events : List Event) (f : Flight) : Type 0 where
   pub flights : Flights
   pub flights_are : IsFlights head events flights
   pub there : at_place flights.by_cpu.items (cpu_of f.walk) ≡ Some f

@@ -1,37 +1,34 @@
 //! The account: what a journal's events amount to.
 
-ghost use Rattle.std.specs.Prelude.{◌≡◌, ◌<◌, ◌⊎◌, ◌∷◌, ◌++◌, ℕ, [], true, false, None, Some, IfOk, IfSome, IfNone, OnOk, OnErr, List, length, option_map};
+ghost use Rattle.std.specs.Prelude.{◌≡◌, ◌<◌, ◌⊎◌, ◌∷◌, ◌++◌, [], false, None, Some, IfOk, IfSome, IfNone, OnOk, OnErr, length, option_map};
 ghost use Rattle.hp_states.specs.CpuSets.{HasNoneFrom};
 ghost use Rattle.hp_states.specs.declared.limits.TheConstants.{MAX_CPUS};
-ghost use Rattle.hp_event.specs.declared.event.Event.{Event as AnEvent};
 ghost use Rattle.hp_event.specs.declared.event.Event.TheVariants.{Admit};
-ghost use Rattle.hp_event.specs.declared.head.Head.{Head as AHead};
 ghost use Rattle.hp_model.specs.Heads.{IsHead};
 ghost use Rattle.hp_model.specs.Lawful.{Stands};
 ghost use Rattle.hp_model.specs.Needs.{need as need_of, taken};
-ghost use Rattle.hp_model.specs.Seats.{admits};
 ghost use Rattle.hp_walk.specs.Keys.{keys_by};
 ghost use Rattle.hp_account.specs.Account.{IsAccount};
-ghost use Rattle.hp_account.specs.Accounted.{IsAccounted, NoAdmission};
+ghost use Rattle.hp_account.specs.Accounted.{IsAccounted, NoAdmission, admission_to};
 ghost use Rattle.hp_account.specs.After.{disarmed_after};
-ghost use Rattle.hp_account.specs.Appending.{CanAdmit, Admitted, CanAppend, Appended, WentOnIf, WentOnWith};
+ghost use Rattle.hp_account.specs.Appending.{CanAdmit, Admitted, CanAppend, Appended, WalkWentOnIf, RegistrationWentOnIf};
 ghost use Rattle.hp_account.specs.Batches.{batch_of, IsWalking, IsServedFrom, NoneServedFrom};
-ghost use Rattle.hp_account.specs.BatchTurns.{is_batch};
+ghost use Rattle.hp_account.specs.BatchTurns.{is_batch, CanTurn, TurnTaken, HasPlaceInSet, Awaited};
 ghost use Rattle.hp_account.specs.FlightChanges.{IfFlies, CanGoOn};
 ghost use Rattle.hp_account.specs.Places.{at_place};
 ghost use Rattle.hp_account.specs.Table.{IsTableOf};
 ghost use Rattle.hp_account.specs.UnderWay.{IsUnderWay};
 
-use crate::append::{
-    depart, fly, hold, operate, register, room_of_walk, stand, suspend, take_turn, walked_to,
+use crate::effects::{
+    depart, fly, hold, operate, register, room_of_walk, stand, suspend, walked_to,
 };
 use crate::flights::Flights;
-use crate::operation::{Held, Sequence};
+use crate::operation::{MapOperation, Walks};
 use crate::processors::Processors;
 use crate::registering::Registering;
 use crate::seats::Seats;
 use crate::suspended::Suspended;
-use crate::under_way::Coming;
+use crate::under_way::NextStep;
 use hp_event::{Event, Head, How, Journal, Role};
 use hp_hook::Hook;
 use hp_locks::Locks;
@@ -50,7 +47,7 @@ pub struct Account {
     /// Where processors stand.
     pub processors: Processors,
     /// The operation that holds the map lock, if one does.
-    pub operation: Option<Held>,
+    pub operation: Option<MapOperation>,
     /// The walks in flight.
     pub flights: Flights,
     /// The registration in flight, if one is.
@@ -85,18 +82,21 @@ impl Account {
         })
     }
 
-    /// Appends an event that stands to the journal, and takes it into account. Answers what is under way then.
+    /// Appends an event that stands to the journal, and takes it into account. What is under way then
+    /// is in `coming`.
     ///
     /// It isn't an admission (`admit` makes those), `need` is the room that it takes, which the journal has
     /// promised, and the table is that of the journal with the event. Takes no memory, and a time that doesn't grow
     /// with the journal or the table.
+    #[inline(always)]
     pub fn append<H: Hook>(
         &mut self,
         journal: &mut Journal,
+        coming: &mut Option<NextStep>,
         table: &Table<H>,
         event: &Event,
         need: u32,
-    ) -> Option<Coming>
+    )
         requires kept { IsAccounted journal.old need self.old }
         requires stands { Stands journal.old.head journal.old.events event.now }
         requires no_admission { NoAdmission event.now }
@@ -105,39 +105,42 @@ impl Account {
         ensures head { journal.new.head ≡ journal.old.head }
         ensures events { journal.new.events ≡ journal.old.events ++ event.now ∷ [] }
         ensures kept { IsAccounted journal.new 0 self.new }
-        ensures under_way { IsUnderWay journal.new.head journal.new.events result }
+        ensures under_way { IsUnderWay journal.new.head journal.new.events coming.new }
     {
         table.sound();
         let freed = self.take(table, event, need);
         journal.push(*event);
         journal.give_back(freed);
-        self.under_way(journal, table)
+        *coming = self.under_way(journal, table);
     }
 
-    /// Lets the next seat in, with this role, and appends its admission. Answers what is under way then.
+    /// Lets the next seat in, with this role, and appends its admission. What is under way then is
+    /// in `coming`.
     ///
     /// The admission stands, the journal has promised the room for it and for the seat's leave, and the table is
     /// the journal's. Takes memory; where that is wanting nothing has changed: `NoMemory`.
     pub fn admit<H: Hook>(
         &mut self,
         journal: &mut Journal,
+        coming: &mut Option<NextStep>,
         table: &Table<H>,
         role: Role,
-    ) -> Result<Option<Coming>, NoMemory>
+    ) -> Result<(), NoMemory>
         requires kept { IsAccounted journal.old 2 self.old }
-        requires stands { Stands journal.old.head journal.old.events (Admit (admits journal.old.events) role) }
+        requires stands { Stands journal.old.head journal.old.events (admission_to journal.old role) }
         requires table { IsTableOf journal.old.head journal.old.events table.now }
         ensures head { OnOk result (journal.new.head ≡ journal.old.head) }
-        ensures events { OnOk result (journal.new.events
-            ≡ journal.old.events ++ Admit (admits journal.old.events) role ∷ []) }
+        ensures events { OnOk result (journal.new.events ≡ journal.old.events ++ admission_to journal.old role ∷ []) }
         ensures kept { OnOk result (IsAccounted journal.new 0 self.new) }
-        ensures under_way { IfOk result (IsUnderWay journal.new.head journal.new.events) }
+        ensures under_way { OnOk result (IsUnderWay journal.new.head journal.new.events coming.new) }
         ensures err { OnErr result ((journal.new ≡ journal.old) × (self.new ≡ self.old)) }
+        ensures still { OnErr result (coming.new ≡ coming.old) }
     {
         let seat = self.seats.admitted();
         self.let_in(role)?;
         journal.push(Event::Admit { seat, role });
-        Ok(self.under_way(journal, table))
+        *coming = self.under_way(journal, table);
+        Ok(())
     }
 
     /// Lets the next seat in. Takes memory; where that is wanting nothing has changed.
@@ -212,9 +215,9 @@ impl Account {
         requires flights { IfFlies (at_place self.old.flights.by_cpu.items cpu) (CanGoOn (keys_by table.now) how) }
         requires registration { cpu < MAX_CPUS }
         ensures processors { self.new.processors ≡ disarmed_after how cpu self.old.processors }
-        ensures flights { WentOnIf (at_place self.old.flights.by_cpu.items cpu) (keys_by table.now) cpu how
+        ensures flights { WalkWentOnIf (at_place self.old.flights.by_cpu.items cpu) (keys_by table.now) cpu how
             self.old.flights self.new.flights }
-        ensures registration { WentOnWith cpu how self.old.registration self.new.registration }
+        ensures registration { RegistrationWentOnIf cpu how self.old.registration self.new.registration }
         ensures seats { self.new.seats ≡ self.old.seats }
         ensures locks { self.new.locks ≡ self.old.locks }
         ensures operation { self.new.operation ≡ self.old.operation }
@@ -241,9 +244,9 @@ impl Account {
     {
         match &self.operation {
             Some(
-                Held {
+                MapOperation {
                     seat,
-                    sequence: Sequence::Batch(batch),
+                    sequence: Walks::Batch(batch),
                     ..
                 },
             ) => Some((*seat, batch)),
@@ -277,5 +280,39 @@ impl Account {
             at = cpu + 1;
         }
         None
+    }
+}
+
+/// In an upmany (`batch`) the walk of which an event was made goes to the end of the queue where its next
+/// event is the operation's seat's, and out of it where not; and its thread is awaited where that makes the next
+/// entry.
+#[inline(always)]
+fn take_turn<H: Hook>(
+    turns: &mut Turns,
+    awaited: &mut CpuSet,
+    flights: &Flights,
+    table: &Table<H>,
+    event: &Event,
+    batch: bool,
+)
+    requires turn { CanTurn (keys_by table.now) batch event.now flights.now turns.old }
+    requires place { HasPlaceInSet event.now }
+    ensures turn { TurnTaken (keys_by table.now) batch event.now flights.now turns.old turns.new }
+    ensures awaited { Awaited (keys_by table.now) batch event.now flights.now awaited.old awaited.new }
+{
+    if !batch {
+        return;
+    }
+    match *event {
+        Event::WalkBegin { cpu, .. } | Event::Call { cpu, .. } | Event::WalkEnd { cpu, .. } => {
+            let own = flights.is_own(table, cpu);
+            turns.moved(cpu, own);
+            if flights.walks(cpu) && !own {
+                awaited.put(cpu);
+            } else {
+                awaited.take(cpu);
+            }
+        }
+        _ => {}
     }
 }

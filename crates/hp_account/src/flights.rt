@@ -1,25 +1,17 @@
 //! Walks in flight.
 
-ghost use Rattle.std.specs.Prelude.{◌≡◌, ◌≢◌, ◌<◌, ◌≤◌, ℕ, true, false, is_some, IfOk, IfSome, IfNone, IsSome, Option, List, length};
+ghost use Rattle.std.specs.Prelude.{◌≡◌, ◌≢◌, ◌<◌, ◌≤◌, true, false, is_some, IfOk, IfSome, IfNone, IsSome, length};
 ghost use Rattle.hp_states.specs.CpuSets.{IsLowestFrom, HasNoneFrom};
 ghost use Rattle.hp_states.specs.declared.limits.TheConstants.{MAX_CPU_SET};
-ghost use Rattle.hp_event.specs.declared.head.Head.{Head};
-ghost use Rattle.hp_event.specs.declared.event.Event.{Event};
 ghost use Rattle.hp_walk.specs.After.{IsWithin};
-ghost use Rattle.hp_walk.specs.Cursor.{cpu_of, to_of};
+ghost use Rattle.hp_walk.specs.Cursor.{to_of};
 ghost use Rattle.hp_walk.specs.Keys.{keys_by};
-ghost use Rattle.hp_states.specs.declared.dir.Dir.{Dir};
-ghost use Rattle.hp_event.specs.declared.how.How.{How};
-ghost use Rattle.hp_model.specs.StandsCalls.{WalkEntry};
-ghost use Rattle.hp_account.specs.UnderWay.{hook_asked};
-ghost use Rattle.hp_account.specs.WalkComing.{IsNextOn};
 ghost use Rattle.hp_account.specs.Places.{at_place};
-ghost use Rattle.hp_account.specs.Flights.{IsFlights};
-ghost use Rattle.hp_account.specs.Walking.{IsOneOf, IsBeside};
-ghost use Rattle.hp_account.specs.FlightChanges.{IsStill, Begun, IsGoing, CanGoOn, IfWalks, WentOn, Ended};
-ghost use Rattle.hp_account.specs.BatchTurns.{asks_own, asks_entry, FliesWithin};
+ghost use Rattle.hp_account.specs.FlightChanges.{IsStill, WalkBegan, IsGoing, CanGoOn, IfWalks, WalkWentOn, WalkEnded};
+ghost use Rattle.hp_account.specs.BatchTurns.{asks_own, asks_entry, FliesWithin, WalksWithin};
+ghost use Rattle.hp_account.specs.FlightNext.{IsNextOfFlight, IsNextOfFlights, FlightAsks, FlightsAsk};
 
-use crate::under_way::{Coming, Ending, Entry, means_in_walk};
+use crate::under_way::{Ending, Entry, NextStep, means_in_walk};
 use hp_event::How;
 use hp_hook::Hook;
 use hp_states::{CpuSet, NoMemory, ONLINE, is_ap};
@@ -48,11 +40,14 @@ impl Flight {
     /// time that doesn't grow with the table. After `cpuhp_invoke_callback` and
     /// `cpuhp_invoke_ap_callback` of `kernel/cpu.c`.
     #[inline(always)]
-    pub fn next<H: Hook>(&self, table: &Table<H>, armed: Option<u32>, thread: Option<u32>) -> Coming
+    pub fn next<H: Hook>(
+        &self,
+        table: &Table<H>,
+        armed: Option<u32>,
+        thread: Option<u32>,
+    ) -> NextStep
         requires { IsWithin (keys_by table.now) self.now.walk }
-        ensures { (head : Head) (events : List Event) → IsOneOf head events self.now →
-            IsBeside head events table.now (cpu_of self.now.walk) armed thread →
-            IsNextOn head events (cpu_of self.now.walk) result }
+        ensures { IsNextOfFlight self.now table.now armed thread result }
     {
         let cpu = self.walk.cpu();
         match self.walk.next(table) {
@@ -62,7 +57,7 @@ impl Flight {
                 place,
                 first,
             } => {
-                let means = means_in_walk(table, armed, key, dir, place, first);
+                let made_by = means_in_walk(table, armed, key, dir, place, first);
                 let seat = if is_ap(key.state) {
                     thread
                 } else {
@@ -74,15 +69,15 @@ impl Flight {
                     key,
                     dir,
                     place,
-                    means,
+                    made_by,
                 });
-                Coming::Entry {
+                NextStep::Entry {
                     client: self.seat,
                     cpu,
                     entry,
                 }
             }
-            Step::Ended(answer) => Coming::End(Ending::Walk {
+            Step::Ended(answer) => NextStep::End(Ending::Walk {
                 seat: self.seat,
                 cpu,
                 answer,
@@ -98,10 +93,7 @@ impl Flight {
     /// armed. Takes no memory, and a time that doesn't grow with the table.
     pub fn hook_asked<H: Hook>(&self, table: &Table<H>, armed: Option<u32>) -> Option<u32>
         requires { IsWithin (keys_by table.now) self.now.walk }
-        ensures { (head : Head) (events : List Event) (thread : Option ℕ) → IsOneOf head events self.now →
-            IsBeside head events table.now (cpu_of self.now.walk) armed thread →
-            (s i : ℕ) (d : Dir) (how : How) → WalkEntry head events (cpu_of self.now.walk) s i d how →
-            result ≡ hook_asked s how }
+        ensures { FlightAsks self.now table.now armed result }
     {
         match self.walk.next(table) {
             Step::Call {
@@ -159,7 +151,7 @@ impl Flights {
         requires few { cpu < MAX_CPU_SET }
         requires states { (from ≤ ONLINE) × (to ≤ ONLINE) × (from ≢ to) }
         requires need { 0 < need }
-        ensures { Begun (keys_by table.now) seat cpu from to need self.old self.new }
+        ensures { WalkBegan (keys_by table.now) seat cpu from to need self.old self.new }
     {
         self.by_cpu[cpu as usize] = Some(Flight {
             seat,
@@ -177,7 +169,7 @@ impl Flights {
     pub fn entry<H: Hook>(&mut self, table: &Table<H>, cpu: u32, how: How)
         requires cpu { cpu < length self.old.by_cpu.items }
         requires walks { IfWalks (at_place self.old.by_cpu.items cpu) (CanGoOn (keys_by table.now) how) }
-        ensures { WentOn (keys_by table.now) cpu how self.old self.new }
+        ensures { WalkWentOn (keys_by table.now) cpu how self.old self.new }
     {
         match &mut self.by_cpu[cpu as usize] {
             Some(flight) => {
@@ -197,7 +189,7 @@ impl Flights {
         requires cpu { cpu < length self.old.by_cpu.items }
         requires few { cpu < MAX_CPU_SET }
         requires walks { IfWalks (at_place self.old.by_cpu.items cpu) (λ flight. 0 < flight.left) }
-        ensures { Ended cpu result self.old self.new }
+        ensures { WalkEnded cpu result self.old self.new }
     {
         match self.by_cpu[cpu as usize].take() {
             Some(flight) => {
@@ -285,11 +277,10 @@ impl Flights {
         cpu: u32,
         armed: Option<u32>,
         thread: Option<u32>,
-    ) -> Coming
+    ) -> NextStep
         requires cpu { cpu < length self.now.by_cpu.items }
-        requires walks { IfWalks (at_place self.now.by_cpu.items cpu) (λ flight. IsWithin (keys_by table.now) flight.walk) }
-        ensures { (head : Head) (events : List Event) → IsFlights head events self.now →
-            IsBeside head events table.now cpu armed thread → IsNextOn head events cpu result }
+        requires walks { WalksWithin (keys_by table.now) (at_place self.now.by_cpu.items cpu) }
+        ensures { IsNextOfFlights self.now table.now cpu armed thread result }
     {
         match &self.by_cpu[cpu as usize] {
             Some(flight) => flight.next(table, armed, thread),
@@ -303,10 +294,8 @@ impl Flights {
     /// The processor walks. Takes no memory, and a time that doesn't grow with the table.
     pub fn hook_asked<H: Hook>(&self, table: &Table<H>, cpu: u32, armed: Option<u32>) -> Option<u32>
         requires cpu { cpu < length self.now.by_cpu.items }
-        requires walks { IfWalks (at_place self.now.by_cpu.items cpu) (λ flight. IsWithin (keys_by table.now) flight.walk) }
-        ensures { (head : Head) (events : List Event) (thread : Option ℕ) → IsFlights head events self.now →
-            IsBeside head events table.now cpu armed thread → (s i : ℕ) (d : Dir) (how : How) →
-            WalkEntry head events cpu s i d how → result ≡ hook_asked s how }
+        requires walks { WalksWithin (keys_by table.now) (at_place self.now.by_cpu.items cpu) }
+        ensures { FlightsAsk self.now table.now cpu armed result }
     {
         match &self.by_cpu[cpu as usize] {
             Some(flight) => flight.hook_asked(table, armed),

@@ -1,21 +1,13 @@
 //! The operation that holds the map lock.
 
-ghost use Rattle.std.specs.Prelude.{◌≡◌, ◌≤◌, ◌<◌, ℕ, true, Some, None, List, [], ◌∷◌, ◌++◌, length, slice_index};
+ghost use Rattle.std.specs.Prelude.{◌≡◌, ◌≤◌, ◌<◌, true, None, length};
 ghost use Rattle.hp_states.specs.declared.limits.TheConstants.{MAX_CPUS};
-ghost use Rattle.hp_event.specs.declared.head.Head.{Head as AHead};
-ghost use Rattle.hp_event.specs.declared.event.Event.{Event as AnEvent};
-ghost use Rattle.hp_event.specs.declared.event.Event.TheVariants.{Enter, WalkBegin, WalkEnd};
 ghost use Rattle.hp_event.specs.Ops.{is_map_op, is_upmany};
-ghost use Rattle.hp_event.specs.declared.op.Op.{Op as AnOp};
-ghost use Rattle.hp_model.specs.Lawful.{Comes, IsLawful};
-ghost use Rattle.hp_model.specs.MapLock.{Operation, operation};
-ghost use Rattle.hp_model.specs.Sequence.{next as next_of, target_of};
-ghost use Rattle.hp_model.specs.Walks.{walking};
+ghost use Rattle.hp_model.specs.Sequence.{target_of};
 ghost use Rattle.hp_suspend.specs.Asked.{meaning};
 ghost use Rattle.hp_suspend.specs.Tables.{AreOnline};
-ghost use Rattle.hp_account.specs.Operations.{IsSequence, IsSingle, HasCounts, IsFew, IsHeld, single_by};
-ghost use Rattle.hp_account.specs.Processors.{IsStanding};
-ghost use Rattle.hp_account.specs.Suspended.{IsSuspended};
+ghost use Rattle.hp_account.specs.Operations.{CountsFit, IsFew};
+ghost use Rattle.hp_account.specs.OperationChanges.{EntersWith, WentPast, BeganWalk, IsNextOfOperation, next_of_single, EndedWith};
 
 use crate::processors::Processors;
 use crate::suspended::Suspended;
@@ -36,7 +28,7 @@ pub struct OneWalk {
 
 /// The walks of an operation of the map lock.
 #[derive(Clone, Copy)]
-pub enum Sequence {
+pub enum Walks {
     /// An up, a down or a target: one walk, unless the processor stands there already.
     Single(OneWalk),
     /// A freeze.
@@ -53,35 +45,34 @@ pub enum Sequence {
 
 /// The operation that holds the map lock: whose it is, and how far it is.
 #[derive(Clone, Copy)]
-pub struct Held {
+pub struct MapOperation {
     /// The seat that holds the lock.
     pub seat: u32,
     /// The operation.
     pub op: Op,
     /// Its walks.
-    pub sequence: Sequence,
+    pub sequence: Walks,
 }
 
-impl Sequence {
+impl Walks {
     /// The walks of an operation that has just entered, with none behind it.
     ///
     /// The processors say where each stands and whether it is online. Of an operation that doesn't take
     /// the map lock there are none. Takes no memory. After `_cpu_up`, `_cpu_down` and their callers in
     /// `kernel/cpu.c`.
-    pub fn begin(op: &Op, processors: &Processors) -> Sequence
+    pub fn begin(op: &Op, processors: &Processors) -> Walks
         requires map { is_map_op op.now ≡ true }
-        ensures { (head : AHead) (before : List AnEvent) (seat : ℕ) → IsStanding head before processors.now →
-            IsSequence head before (before ++ Enter seat op.now ∷ []) op.now result }
+        ensures { EntersWith op.now processors.now result }
     {
         match *op {
             Op::Up(cpu) => one_walk(cpu, ONLINE),
             Op::Down(cpu) => one_walk(cpu, OFFLINE),
             Op::Target(cpu, value) => one_walk(cpu, target_of(value)),
-            Op::Boot(max) => Sequence::Boot(Boot::begin(max)),
-            Op::Freeze(primary) => Sequence::Freeze(Freeze::begin(primary, processors.online())),
-            Op::Thaw => Sequence::Thaw(Thaw::begin()),
-            Op::UpMany(ref set) => Sequence::Batch(Batch::begin(set, processors.settled())),
-            _ => Sequence::NoWalk,
+            Op::Boot(max) => Walks::Boot(Boot::begin(max)),
+            Op::Freeze(primary) => Walks::Freeze(Freeze::begin(primary, processors.online())),
+            Op::Thaw => Walks::Thaw(Thaw::begin()),
+            Op::UpMany(ref set) => Walks::Batch(Batch::begin(set, processors.settled())),
+            _ => Walks::NoWalk,
         }
     }
 
@@ -90,23 +81,21 @@ impl Sequence {
     /// Its counts are below `MAX_EVENTS`. Takes no memory. After `_cpu_up`, `_cpu_down` and the loops of
     /// `kernel/cpu.c` over processors.
     pub fn took(&mut self, answer: Answer)
-        requires { HasCounts self.old }
-        ensures { (head : AHead) (entered events : List AnEvent) (op : AnOp) (seat cpu : ℕ) →
-            IsSequence head entered events op self.old →
-            IsSequence head entered (events ++ WalkEnd seat cpu answer ∷ []) op self.new }
+        requires { CountsFit self.old }
+        ensures { WentPast answer self.old self.new }
     {
         match self {
-            Sequence::Single(walk) => walk.took(answer),
-            Sequence::Freeze(freeze) => freeze.took(answer),
-            Sequence::Thaw(thaw) => thaw.took(answer),
-            Sequence::Boot(boot) => boot.took(answer),
-            Sequence::Batch(batch) => batch.took(answer),
-            Sequence::NoWalk => {}
+            Walks::Single(walk) => walk.took(answer),
+            Walks::Freeze(freeze) => freeze.took(answer),
+            Walks::Thaw(thaw) => thaw.took(answer),
+            Walks::Boot(boot) => boot.took(answer),
+            Walks::Batch(batch) => batch.took(answer),
+            Walks::NoWalk => {}
         }
     }
 }
 
-impl Held {
+impl MapOperation {
     /// Whether it is an upmany.
     pub(crate) fn is_upmany(&self) -> bool
         ensures { result ≡ is_upmany self.now.op }
@@ -117,11 +106,9 @@ impl Held {
     /// Goes on past the begin of the walk of a processor, which came next of it. Takes no memory.
     pub(crate) fn began(&mut self, cpu: u32)
         requires { cpu < MAX_CPUS }
-        ensures { (head : AHead) (events : List AnEvent) (seat from to : ℕ) → IsLawful head events →
-            Comes head events (WalkBegin seat cpu from to) → IsHeld head events self.old →
-            IsHeld head (events ++ WalkBegin seat cpu from to ∷ []) self.new }
+        ensures { BeganWalk cpu self.old self.new }
     {
-        if let Sequence::Batch(batch) = &mut self.sequence {
+        if let Walks::Batch(batch) = &mut self.sequence {
             batch.began(cpu);
         }
     }
@@ -135,21 +122,19 @@ impl Held {
         requires few { IsFew self.now.sequence }
         requires frozen { length suspended.now.frozen ≡ length processors.now.settled }
         requires present { length processors.now.present ≡ length processors.now.settled }
-        ensures { (head : AHead) (events : List AnEvent) (o : Operation) → IsLawful head events → IsHeld head events self.now →
-            operation events ≡ Some o → walking events ≡ [] → IsStanding head events processors.now →
-            IsSuspended head events suspended.now → meaning result ≡ next_of head events o.before o.op }
+        ensures { IsNextOfOperation self.now processors.now suspended.now (meaning result) }
     {
         let settled = processors.settled();
         match &self.sequence {
-            Sequence::Single(walk) => walk.next(settled),
-            Sequence::Freeze(freeze) => freeze.next(processors.online(), suspended.wakeup()),
-            Sequence::Thaw(thaw) => thaw.next(suspended.frozen(), settled),
-            Sequence::Boot(boot) => boot.next(processors.present(), processors.online()),
-            Sequence::Batch(batch) => match batch.next() {
+            Walks::Single(walk) => walk.next(settled),
+            Walks::Freeze(freeze) => freeze.next(processors.online(), suspended.wakeup()),
+            Walks::Thaw(thaw) => thaw.next(suspended.frozen(), settled),
+            Walks::Boot(boot) => boot.next(processors.present(), processors.online()),
+            Walks::Batch(batch) => match batch.next() {
                 Some(cpu) => Asked::Walk(WalkAsk { cpu, to: ONLINE }),
                 None => Asked::Ended(Answer::Ok(batch.failed() as i32)),
             },
-            Sequence::NoWalk => Asked::Ended(Answer::Ok(0)),
+            Walks::NoWalk => Asked::Ended(Answer::Ok(0)),
         }
     }
 }
@@ -158,7 +143,7 @@ impl OneWalk {
     /// What comes next: the walk, where the processor stands elsewhere; else the end with Ok(0), or with
     /// the answer of the walk.
     fn next(&self, settled: &[u32]) -> Asked
-        ensures { meaning result ≡ single_by self.now.cpu self.now.to (slice_index settled.now self.now.cpu) self.now.answer }
+        ensures { meaning result ≡ next_of_single self.now settled.now }
     {
         let stands = settled.get(self.cpu as usize).copied().unwrap_or(OFFLINE);
         match self.answer {
@@ -173,8 +158,7 @@ impl OneWalk {
 
     /// The walk has ended with this answer, unless it had before.
     fn took(&mut self, answer: Answer)
-        ensures { (cpu to : ℕ) (events : List AnEvent) (seat of : ℕ) → IsSingle cpu to events self.old →
-            IsSingle cpu to (events ++ WalkEnd seat of answer ∷ []) self.new }
+        ensures { EndedWith answer self.old self.new }
     {
         if self.answer.is_none() {
             self.answer = Some(answer);
@@ -190,10 +174,10 @@ pub(crate) fn target_of(value: i32) -> u32
 }
 
 /// One walk, which hasn't ended.
-fn one_walk(cpu: u32, to: u32) -> Sequence
-    ensures { result ≡ Sequence.Single (record { cpu = cpu; to = to; answer = None }) }
+fn one_walk(cpu: u32, to: u32) -> Walks
+    ensures { result ≡ Walks.Single (record { cpu = cpu; to = to; answer = None }) }
 {
-    Sequence::Single(OneWalk {
+    Walks::Single(OneWalk {
         cpu,
         to,
         answer: None,

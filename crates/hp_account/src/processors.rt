@@ -16,7 +16,7 @@ use std::marker::Model;
 /// The possible processors of a machine: where each was left by its last walk, at which state it is
 /// armed, and whether it is present.
 ///
-/// Contracts see the three lists (`Standing`). After `struct cpuhp_cpu_state` of `kernel/cpu.c`.
+/// Contracts see the three lists (`ProcessorsView`). After `struct cpuhp_cpu_state` of `kernel/cpu.c`.
 #[derive(Drop)]
 pub struct Processors {
     settled: Vec<u32>,
@@ -27,9 +27,9 @@ pub struct Processors {
 }
 
 impl Model for Processors {
-    ghost use Rattle.hp_account.specs.Processors.{Standing, IsSound};
+    ghost use Rattle.hp_account.specs.Processors.{ProcessorsView, IsSound};
 
-    ghost Value = { Standing };
+    ghost Value = { ProcessorsView };
 
     ghost view = { λ p. record { settled = p.settled.items; armed = p.armed.items; present = p.present.items } };
 

@@ -1,26 +1,23 @@
 //! The registration in flight.
 
-ghost use Rattle.std.specs.Prelude.{◌≡◌, ◌<◌, ◌≤◌, true, IfSome, IsSome, ℕ};
+ghost use Rattle.std.specs.Prelude.{◌≡◌, ◌<◌, ◌≤◌, true, IsSome};
 ghost use Rattle.hp_states.specs.declared.limits.TheConstants.{MAX_CPUS, ONLINE};
 ghost use Rattle.hp_model.specs.Events.{is_registration_op};
 ghost use Rattle.hp_model.specs.How.{is_nocalls};
 ghost use Rattle.hp_model.specs.Lawful.{IsLawful};
 ghost use Rattle.hp_table.specs.Step.{step_at};
-ghost use Rattle.hp_account.specs.RegisteringChanges.{HasBegun, WentOnBy};
+ghost use Rattle.hp_account.specs.RegisteringChanges.{RegistrationBegan, RegistrationWentOn};
 ghost use Rattle.hp_account.specs.Registering.{IsRegistering};
-ghost use Rattle.hp_account.specs.RegistrationMeans.{means_of, seat_by};
+ghost use Rattle.hp_account.specs.RegistrationMeans.{seat_by, IsMeansOf};
 ghost use Rattle.hp_account.specs.Table.{IsTableOf};
 ghost use Rattle.hp_account.specs.Seats.{IsRoll};
 ghost use Rattle.hp_account.specs.Processors.{IsStanding};
-ghost use Rattle.hp_states.specs.declared.dir.Dir.{Dir};
-ghost use Rattle.hp_event.specs.declared.how.How.{How};
-ghost use Rattle.hp_model.specs.StandsCalls.{RegistrationEntry};
-ghost use Rattle.hp_account.specs.Coming.{IsComing};
-ghost use Rattle.hp_account.specs.UnderWay.{hook_asked};
+ghost use Rattle.hp_account.specs.NextStep.{IsComing};
+ghost use Rattle.hp_account.specs.HookAsked.{RegistrationAsks};
 
 use crate::processors::Processors;
 use crate::seats::Seats;
-use crate::under_way::{Coming, Ending, Entry, Means, has_callback};
+use crate::under_way::{Ending, Entry, MadeBy, NextStep, has_callback};
 use hp_event::{How, Journal, Op};
 use hp_hook::Hook;
 use hp_reg::{Reg, RegStep};
@@ -47,7 +44,7 @@ impl Registering {
     pub fn begin(seat: u32, op: Op, state: u32, need: u32) -> Registering
         requires op { is_registration_op op ≡ true }
         requires state { state ≤ ONLINE }
-        ensures { HasBegun seat op state need result }
+        ensures { RegistrationBegan seat op state need result }
     {
         Registering {
             seat,
@@ -59,7 +56,7 @@ impl Registering {
     /// Goes on past the entry on a processor: `how` says how it was made. Takes no memory.
     pub fn took(&mut self, cpu: u32, how: How)
         requires { cpu < MAX_CPUS }
-        ensures { WentOnBy cpu how self.old self.new }
+        ensures { RegistrationWentOn cpu how self.old self.new }
     {
         self.reg.took(cpu, how);
         self.left = self.left.saturating_sub(1);
@@ -79,7 +76,7 @@ impl Registering {
         table: &Table<H>,
         processors: &Processors,
         seats: &Seats,
-    ) -> Coming
+    ) -> NextStep
         requires lawful { IsLawful journal.now.head journal.now.events }
         requires registering { IsRegistering journal.now.head journal.now.events self.now }
         requires table { IsTableOf journal.now.head journal.now.events table.now }
@@ -89,7 +86,7 @@ impl Registering {
     {
         let absent = journal.head().absent.as_slice();
         match self.reg.next(table, processors.settled(), absent) {
-            RegStep::Ended(answer) => Coming::End(Ending::Registration {
+            RegStep::Ended(answer) => NextStep::End(Ending::Registration {
                 seat: self.seat,
                 answer,
             }),
@@ -99,7 +96,7 @@ impl Registering {
                 dir,
                 place,
             } => {
-                let means = self.means(table, key.state, dir);
+                let made_by = self.made_by(table, key.state, dir);
                 let seat = self.seat_of(key.state, seats.thread(cpu));
                 let entry = seat.map(|seat| Entry {
                     seat,
@@ -107,9 +104,9 @@ impl Registering {
                     key,
                     dir,
                     place,
-                    means,
+                    made_by,
                 });
-                Coming::Entry {
+                NextStep::Entry {
                     client: self.seat,
                     cpu,
                     entry,
@@ -131,29 +128,29 @@ impl Registering {
         requires registering { IsRegistering journal.now.head journal.now.events self.now }
         requires table { IsTableOf journal.now.head journal.now.events table.now }
         requires standing { IsStanding journal.now.head journal.now.events processors.now }
-        ensures { (c s i : ℕ) (d : Dir) (how : How) → RegistrationEntry journal.now.head journal.now.events c s i d how →
-            result ≡ hook_asked s how }
+        ensures { RegistrationAsks journal.now.head journal.now.events result }
     {
         let absent = journal.head().absent.as_slice();
         match self.reg.next(table, processors.settled(), absent) {
-            RegStep::Call { key, dir, .. } => self.means(table, key.state, dir).hook_at(key.state),
+            RegStep::Call { key, dir, .. } => self
+                .made_by(table, key.state, dir)
+                .hook_at(key.state),
             RegStep::Ended(_) => None,
         }
     }
 
     /// What an entry of a direction at the state is made by.
-    fn means<H: Hook>(&self, table: &Table<H>, state: u32, dir: Dir) -> Means
+    fn made_by<H: Hook>(&self, table: &Table<H>, state: u32, dir: Dir) -> MadeBy
         requires { IsSome (step_at table.now state) }
-        ensures { IfSome (step_at table.now state) (λ step.
-            result ≡ means_of (is_nocalls self.now.reg.op) step.kept dir) }
+        ensures { IsMeansOf (is_nocalls self.now.reg.op) (step_at table.now state) dir result }
     {
         if self.is_nocalls() {
-            return Means::Presumed;
+            return MadeBy::Presumed;
         }
         if has_callback(table, state, dir) {
-            Means::Hook
+            MadeBy::Hook
         } else {
-            Means::Empty
+            MadeBy::Empty
         }
     }
 

@@ -1,9 +1,8 @@
 //! Who is in.
 
-ghost use Rattle.std.specs.Prelude.{◌≡◌, ◌<◌, ◌≤◌, None, Some, Option, List, [], ◌∷◌, ◌++◌, IfOk, OnOk, OnErr, length, replicate, slice_set};
-ghost use Rattle.hp_event.specs.declared.event.Role.{Role as ARole};
+ghost use Rattle.std.specs.Prelude.{◌≡◌, ◌<◌, ◌≤◌, None, Some, [], IfOk, OnOk, OnErr, length, replicate, slice_set};
 ghost use Rattle.hp_account.specs.Places.{at_place};
-ghost use Rattle.hp_account.specs.Seats.{Roll, HasPlace, HasNoThread, clients_of, with_seat, without_seat};
+ghost use Rattle.hp_account.specs.Seats.{SeatsView, HasPlace, clients_of, with_seat, without_seat, IsTakenBack, IsWithoutLast};
 
 use hp_event::Role;
 use hp_states::{MAX_SEATS, NoMemory};
@@ -23,9 +22,9 @@ pub struct Seats {
 impl Model for Seats {
     ghost use Rattle.std.specs.Prelude.{◌≤◌, length};
     ghost use Rattle.hp_states.specs.declared.limits.TheConstants.{MAX_SEATS};
-    ghost use Rattle.hp_account.specs.Seats.{Roll};
+    ghost use Rattle.hp_account.specs.Seats.{SeatsView};
 
-    ghost Value = { Roll };
+    ghost Value = { SeatsView };
 
     ghost view = { λ s. record { roles = s.roles.items; threads = s.threads.items } };
 
@@ -65,8 +64,7 @@ impl Seats {
     /// Takes back an admission of this role, after which nothing has changed. Takes no memory.
     pub(crate) fn retract(&mut self, role: Role)
         requires { HasPlace role (length self.old.threads) }
-        ensures { (before : Roll) → self.old ≡ with_seat role before → HasNoThread role before.threads →
-            self.new ≡ before }
+        ensures { IsTakenBack role self.old self.new }
     {
         drop_last(&mut self.roles);
         if let Role::Ap(cpu) = role {
@@ -130,8 +128,7 @@ fn clear(threads: &mut Vec<Option<u32>>, cpu: u32)
 
 /// Without the last role.
 fn drop_last(roles: &mut Vec<Option<Role>>)
-    ensures dropped { (before : List (Option ARole)) (last : Option ARole) → roles.old.items ≡ before ++ last ∷ [] →
-        roles.new.items ≡ before }
+    ensures dropped { IsWithoutLast roles.old.items roles.new.items }
     ensures few { length roles.new.items ≤ length roles.old.items }
 {
     roles.pop();

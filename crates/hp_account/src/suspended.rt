@@ -2,7 +2,7 @@
 
 ghost use Rattle.std.specs.Prelude.{◌≡◌, ◌<◌, ◌+◌, IfOk, false, get_or, length, replicate};
 ghost use Rattle.hp_states.specs.declared.limits.TheConstants.{MAX_EVENTS};
-ghost use Rattle.hp_account.specs.Suspended.{once_entered, walked, ended, woken};
+ghost use Rattle.hp_account.specs.Suspended.{once_entered, walked, ended, woken, nothing_suspended};
 
 use hp_event::{Answer, Op};
 use hp_states::{MAX_EVENTS, NoMemory};
@@ -21,9 +21,9 @@ pub struct Suspended {
 }
 
 impl Model for Suspended {
-    ghost use Rattle.hp_account.specs.Suspended.{Suspension};
+    ghost use Rattle.hp_account.specs.Suspended.{SuspendedView};
 
-    ghost Value = { Suspension };
+    ghost Value = { SuspendedView };
 
     ghost view = { λ s. record { disabled = s.disabled; frozen = s.frozen.items; wakeup = s.wakeup } };
 }
@@ -32,7 +32,7 @@ impl Suspended {
     /// What stands at the start: hotplug is enabled, no processor is frozen, no wakeup pending. Takes
     /// memory for a place for each possible processor.
     pub fn new(alloc: Global, cpus: u32) -> Result<Suspended, NoMemory>
-        ensures { IfOk result (λ s. s ≡ record { disabled = 0; frozen = replicate cpus false; wakeup = false }) }
+        ensures { IfOk result (λ s. s ≡ nothing_suspended cpus) }
     {
         Ok(Suspended {
             disabled: 0,

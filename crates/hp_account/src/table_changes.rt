@@ -1,6 +1,6 @@
 //! What registrations change in the table of states.
 
-ghost use Rattle.std.specs.Prelude.{◌≡◌, ◌<◌, ◌++◌, ◌∷◌, true, false, None, Some, IfSome, IsSome, OnOk, OnErr, is_some, option_map, slice_set, []};
+ghost use Rattle.std.specs.Prelude.{◌≡◌, ◌<◌, true, false, None, Some, IfSome, IsSome, OnOk, OnErr, is_some, option_map, slice_set, []};
 ghost use Rattle.hp_event.specs.Heads.{sub_numbered};
 ghost use Rattle.hp_states.specs.declared.limits.TheConstants.{OFFLINE, ONLINE};
 ghost use Rattle.hp_model.specs.Events.{is_call, is_registration_op};
@@ -10,7 +10,7 @@ ghost use Rattle.hp_model.specs.Registrations.{registration};
 ghost use Rattle.hp_table.specs.Instances.{instances_at};
 ghost use Rattle.hp_table.specs.Named.{is_named};
 ghost use Rattle.hp_table.specs.Step.{step_at, bare, is_home, AllHome, HasCounted};
-ghost use Rattle.hp_account.specs.TableChanges.{new_record, is_setup, takes_out, with_added, CanChange, without_left, taken_out, CanTakeOut, hands_out, table_after, is_registering, brings_hook, hands_hook, registering_step};
+ghost use Rattle.hp_account.specs.TableChanges.{new_record, is_setup, takes_out, with_added, CanChange, without_left, taken_out, CanTakeOut, hands_out, is_registering, brings_hook, ChangesTable, IsTableWith, HandsHook, HandsAsItStood};
 ghost use Rattle.hp_account.specs.Registering.{IsRegisteringOf};
 ghost use Rattle.hp_account.specs.Table.{IsTableOf};
 
@@ -42,12 +42,10 @@ pub fn change_table<H: Hook>(
     requires table { IsTableOf journal.now.head journal.now.events table.old }
     requires brings { is_registering event.now ≡ true → is_some hook.old ≡ brings_hook event.now }
     requires home { is_registering event.now ≡ true → AllHome table.old }
-    ensures changed { OnOk result (table.new ≡ table_after journal.now.head journal.now.events event.now table.old) }
-    ensures table { OnOk result (IsTableOf journal.now.head (journal.now.events ++ event.now ∷ []) table.new) }
-    ensures hands { OnOk result (is_registering event.now ≡ true →
-        is_some hook.new ≡ hands_hook journal.now.events event.now) }
-    ensures hook { OnOk result (is_registering event.now ≡ true →
-        IfSome hook.new (λ h. HasCounted (H.counts h) (registering_step (registration journal.now.events) table.old))) }
+    ensures changed { OnOk result (ChangesTable journal.now event.now table.old table.new) }
+    ensures table { OnOk result (IsTableWith journal.now event.now table.new) }
+    ensures hands { OnOk result (HandsHook journal.now.events event.now hook.new) }
+    ensures hook { OnOk result (HandsAsItStood H.counts journal.now.events event.now table.old hook.new) }
     ensures left { OnOk result (is_registering event.now ≡ false → hook.new ≡ hook.old) }
     ensures err { OnErr result (table.new ≡ table.old) }
     ensures kept { OnErr result (hook.new ≡ hook.old) }

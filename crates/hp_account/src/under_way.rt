@@ -1,16 +1,11 @@
 //! What is under way: the entry or the end that comes next in flight.
 
-ghost use Rattle.std.specs.Prelude.{◌≡◌, ◌⊎◌, List, [], true, false, IfSome, IfNone, IsSome};
-ghost use Rattle.hp_event.specs.declared.event.Event.{Event as AnEvent};
-ghost use Rattle.hp_event.specs.declared.head.Head.{Head as AHead};
-ghost use Rattle.hp_states.specs.CpuSets.{has};
+ghost use Rattle.std.specs.Prelude.{◌≡◌, IfSome, IfNone, IsSome};
 ghost use Rattle.hp_table.specs.Step.{step_at};
 ghost use Rattle.hp_model.specs.Events.{seat_of};
 ghost use Rattle.hp_model.specs.Lawful.{IsLawful};
-ghost use Rattle.hp_model.specs.Walks.{walking};
-ghost use Rattle.hp_account.specs.Account.{IsAccount};
-ghost use Rattle.hp_account.specs.BatchTurns.{is_batch};
-ghost use Rattle.hp_account.specs.Coming.{due_beyond, thread_due_beyond, end_event, has_callback_by, means_in_walk, waits_by};
+ghost use Rattle.hp_account.specs.Account.{IsAccount, IsLoneWalker, NoLoneWalker};
+ghost use Rattle.hp_account.specs.NextStep.{due_beyond, thread_due_beyond, end_event, has_callback_by, waits_by, IsMeansInWalk};
 ghost use Rattle.hp_account.specs.Entries.{how_by, entry_made};
 ghost use Rattle.hp_account.specs.Table.{IsTableOf};
 ghost use Rattle.hp_account.specs.UnderWay.{IsUnderWay, hook_by};
@@ -23,7 +18,7 @@ use hp_table::Table;
 
 /// What an entry is made by, where that is known before its hook is asked.
 #[derive(Clone, Copy)]
-pub enum Means {
+pub enum MadeBy {
     /// Nothing: the form of the registration is without calls.
     Presumed,
     /// Nothing: the subsystem has no callback of that direction.
@@ -51,16 +46,16 @@ pub struct Entry {
     /// What the entry is made for.
     pub place: Place,
     /// What it is made by.
-    pub means: Means,
+    pub made_by: MadeBy,
 }
 
-impl Means {
+impl MadeBy {
     /// The state whose hook makes it, which is this one, if a hook does.
     pub fn hook_at(&self, state: u32) -> Option<u32>
         ensures { result ≡ hook_by state self.now }
     {
         match self {
-            Means::Hook => Some(state),
+            MadeBy::Hook => Some(state),
             _ => None,
         }
     }
@@ -72,11 +67,11 @@ impl Entry {
     pub fn how(&self, code: u32) -> How
         ensures { result ≡ how_by self.now code }
     {
-        match self.means {
-            Means::Presumed => How::Presumed,
-            Means::Empty => How::Empty,
-            Means::Injected => How::Injected,
-            Means::Hook => How::of_answer(code, self.dir, self.key.state, self.place),
+        match self.made_by {
+            MadeBy::Presumed => How::Presumed,
+            MadeBy::Empty => How::Empty,
+            MadeBy::Injected => How::Injected,
+            MadeBy::Hook => How::of_answer(code, self.dir, self.key.state, self.place),
         }
     }
 
@@ -101,7 +96,7 @@ impl Entry {
 /// `cpuhp_invoke_ap_callback` of `kernel/cpu.c`; that it is known before it is made is this
 /// project's own.
 #[derive(Clone, Copy)]
-pub enum Coming {
+pub enum NextStep {
     /// An entry, in the operation of the client, on the processor. None where the entry is a
     /// thread's to make that isn't in.
     Entry {
@@ -145,13 +140,13 @@ impl Ending {
     }
 }
 
-impl Coming {
+impl NextStep {
     /// The processor whose thread has to make the entry, where this seat is the client that waits for it.
     pub fn waits_of(&self, seat: u32) -> Option<u32>
         ensures { result ≡ waits_by seat self.now }
     {
         match self {
-            Coming::Entry { client, cpu, entry } if *client == seat => match entry {
+            NextStep::Entry { client, cpu, entry } if *client == seat => match entry {
                 Some(entry) if entry.seat == seat => None,
                 _ => Some(*cpu),
             },
@@ -165,7 +160,7 @@ impl Coming {
         ensures { result ≡ due_beyond from self.now }
     {
         match self {
-            Coming::Entry {
+            NextStep::Entry {
                 entry: Some(entry),
                 ..
             } if entry.cpu >= from => Some((entry.cpu, entry.seat)),
@@ -179,7 +174,7 @@ impl Coming {
         ensures { result ≡ thread_due_beyond from self.now }
     {
         match self {
-            Coming::Entry {
+            NextStep::Entry {
                 client,
                 entry: Some(entry),
                 ..
@@ -213,18 +208,17 @@ pub fn means_in_walk<H: Hook>(
     dir: Dir,
     place: Place,
     first: bool,
-) -> Means
+) -> MadeBy
     requires { IsSome (step_at table.now key.state) }
-    ensures { IfSome (step_at table.now key.state) (λ step.
-        result ≡ means_in_walk step.kept armed key.state dir place first) }
+    ensures { IsMeansInWalk (step_at table.now key.state) armed key.state dir place first result }
 {
     if !has_callback(table, key.state, dir) {
-        return Means::Empty;
+        return MadeBy::Empty;
     }
     if first && may_fail(dir, key.state, place) && armed == Some(key.state) {
-        return Means::Injected;
+        return MadeBy::Injected;
     }
-    Means::Hook
+    MadeBy::Hook
 }
 
 impl Account {
@@ -234,7 +228,7 @@ impl Account {
     /// The parts are the account of the journal, which is lawful, and the table is its. Takes no memory,
     /// and looks at no event.
     #[inline(always)]
-    pub fn under_way<H: Hook>(&self, journal: &Journal, table: &Table<H>) -> Option<Coming>
+    pub fn under_way<H: Hook>(&self, journal: &Journal, table: &Table<H>) -> Option<NextStep>
         requires lawful { IsLawful journal.now.head journal.now.events }
         requires account { IsAccount journal.now.head journal.now.events self.now }
         requires table { IsTableOf journal.now.head journal.now.events table.now }
@@ -260,9 +254,8 @@ impl Account {
     ///
     /// There is no condition. Takes no memory.
     fn walker(&self) -> Option<u32>
-        ensures some { IfSome result (λ cpu. (has self.now.flights.walking cpu ≡ true) × (is_batch self.now.operation ≡ false)) }
-        ensures none { IfNone result ((head : AHead) (events : List AnEvent) → IsAccount head events self.now →
-            (walking events ≡ []) ⊎ (is_batch self.now.operation ≡ true)) }
+        ensures some { IfSome result (IsLoneWalker self.now) }
+        ensures none { IfNone result (NoLoneWalker self.now) }
     {
         if self.locks.writer().is_none() {
             return None;

@@ -1,7 +1,8 @@
 -- The admissions of a script, as they are made one after another.
-use Rattle.std.proofs.Common.{◌≡◌, ℕ, zero, suc, ◌+◌, ◌<◌, ◌≤◌, Bool, true, false, cond, eqb, ltb, List, [], ◌∷◌, ◌++◌, length, append_assoc, append-nil, filter, replicate, refl, ap, sym, subst, ◌∙◌, arith}
-use Rattle.std.proofs.lemmas.Bool.{eqb-true, eqb-false, ltb-true, ltb-false}
+use Rattle.std.proofs.Common.{◌≡◌, ℕ, zero, suc, ◌+◌, ◌<◌, ◌≤◌, Bool, true, false, cond, eqb, List, [], ◌∷◌, ◌++◌, length, append_assoc, append-nil, filter, replicate, refl, ap, sym, subst, ◌∙◌, arith}
+use Rattle.std.proofs.lemmas.Bool.{eqb-true, eqb-false}
 use Rattle.std.proofs.lemmas.List.{length-replicate}
+use Rattle.hp_states.proofs.Basics.{less_or}
 use Rattle.hp_states.specs.declared.limits.TheConstants.{MAX_SEATS}
 use Rattle.hp_event.specs.declared.op.Op.{Op}
 use Rattle.hp_event.specs.declared.head.Head.{Head}
@@ -45,13 +46,6 @@ present_not head n h =
     ap (present_below head) e
     ∙ (filter-append (λ c. is_present head c) (numbers n) (n ∷ [])
     ∙ (ap (λ b. present_below head n ++ cond b (n ∷ []) []) h ∙ append-nil (present_below head n)))
-
-less_or : (a b : ℕ) → a < suc b → (a ≡ b → ⊥) → a < b
-less_or a b l n = by (ltb a b) refl
-  where
-    by : (t : Bool) → ltb a b ≡ t → a < b
-    by true e = ltb-true a b e
-    by false e = let m = ltb-false a b e in absurd (n (omega (arith, l, m)))
 
 -- the numbers below one are those below another, it, and others
 numbers_split : (n c : ℕ) → c < n → (rest : List ℕ) × (numbers n ≡ numbers c ++ c ∷ rest)

@@ -1,9 +1,10 @@
 -- What a turn makes of the hooks of operations, and which stay.
 use Rattle.std.proofs.Common.{◌≡◌, ◌≢◌, ℕ, zero, suc, ◌+◌, ◌-◌, ◌<◌, ◌≤◌, Result, Ok, Err, OnOk, OnErr, Bool, true, false, not, cond, eqb, ltb, ◌&&◌, ◌||◌, is_some, IfSome, Option, Some, None, List, [], ◌∷◌, length, map, set, get_or, refl, ap, sym, subst, ◌∙◌, arith}
 use Rattle.std.specs.Prelude.{option_map, slice_get}
-use Rattle.std.proofs.lemmas.Bool.{true≢false, eqb-true, eqb-false, ltb-true, ltb-false, lt-ltb}
+use Rattle.std.proofs.lemmas.Bool.{true≢false, eqb-true, eqb-false, lt-ltb}
 use Rattle.std.proofs.lemmas.List.{map-set, set-get_or, get_or-set_same, get_or-set_other, length-map}
 use Rattle.std.proofs.lemmas.Option.{slice_get-map, get_or_from_slice_get, slice_get_within}
+use Rattle.hp_states.proofs.Basics.{and_false, or_true, not_below, less_apart}
 use Rattle.hp_event.specs.declared.event.Event.{Event}
 use Rattle.hp_event.specs.declared.event.Event.TheVariants.{RegEnd}
 use Rattle.hp_event.specs.declared.head.Head.{Head}
@@ -25,9 +26,9 @@ use Rattle.hp_table.specs.Step.{Step, HasCounted}
 use Rattle.hp_actors.specs.declared.actor.Actor.{Actor}
 use Rattle.hp_actors.specs.Hooks.{hook_at, hook_of_state, hook_after, hooks_after, hooks_asked, hooks_turned, turned, answers_at, KeepsHooks}
 use Rattle.hp_actors.specs.Positions.{Position, position_of, progress_of, hook_of, hooks_of, op_of, ops_of, answered_of}
-use Rattle.hp_actors.specs.Turned.{asked, is_answered, event_for, answers_for}
+use Rattle.hp_actors.specs.ActorTurns.{asked, is_answered, event_for, answers_for}
 use Rattle.hp_actors.proofs.Playing.{asked_is}
-use Rattle.hp_actors.proofs.Progressing.{not_below, no_actor}
+use Rattle.hp_actors.proofs.Progressing.{no_actor}
 
 -- ---- the hook that the machine hands back
 
@@ -57,14 +58,6 @@ hands_registers events e h = absurd (true≢false (sym h))
 hands_answers : (events : List Event) (e : Event) → hands_hook events e ≡ true → is_answer e ≡ true
 hands_answers events (RegEnd seat answer) h = refl
 hands_answers events e h = absurd (true≢false (sym h))
-
-or_true : (b : Bool) → (b || true) ≡ true
-or_true true = refl
-or_true false = refl
-
-and_false : (b : Bool) → (b && false) ≡ false
-and_false true = refl
-and_false false = refl
 
 -- what the hook has counted that an operation has after the machine's turn
 pub hook_turned : {H : Type 0} (seen : H → Counts) (head : Head) (events : List Event) (places : List (Option Step)) (next : Option Event)
@@ -173,13 +166,6 @@ keeps_same old new answers hooks = record {
   in_turn = λ i had is. sym (ap (λ hs. hook_at hs i (answers_at new i)) hooks) ∙ is;
 }
 
-less : (m n : ℕ) → m ≤ n → (m ≡ n → ⊥) → m < n
-less m n few other = by (ltb m n) refl
-  where
-    by : (t : Bool) → ltb m n ≡ t → m < n
-    by true e = ltb-true m n e
-    by false e = let past = ltb-false m n e in absurd (other (omega (arith, few, past)))
-
 pub keeps_on : (old now after : Position) → KeepsHooks old now → KeepsHooks now after → KeepsHooks old after
 keeps_on old now after a b = record {
   answered = λ i. let x = a.answered i in let y = b.answered i in omega (arith, x, y);
@@ -197,7 +183,7 @@ keeps_on old now after a b = record {
     in_turn i had is false e =
         let y = b.answered i in
         let other = eqb-false (answers_at now i) (answers_at after i) e in
-        sym (a.waiting i (answers_at after i) (less (answers_at now i) (answers_at after i) y other)) ∙ is
+        sym (a.waiting i (answers_at after i) (less_apart (answers_at now i) (answers_at after i) y other)) ∙ is
 
 -- what was written at a place, where something is read there
 set_read : (hooks : List (Option Counts)) (n : ℕ) (hook : Option Counts) (had : Counts) → get_or (set hooks n hook) n None ≡ Some had →

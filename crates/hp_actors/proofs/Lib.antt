@@ -3,7 +3,7 @@ mod Busy
 mod Progressing
 mod Holding
 mod Playing
-mod Asked
+mod TurnsAsked
 mod RoundLaws
 mod Resting
 mod Admissions
@@ -11,7 +11,7 @@ mod Turning
 mod Taking
 mod Opening
 mod Waiting
-mod Knowing
+mod PassedOverStay
 mod ThreadsTurn
 mod ThreadSeats
 mod HooksTurned

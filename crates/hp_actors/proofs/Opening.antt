@@ -19,7 +19,7 @@ use Rattle.hp_model.specs.Registrations.{registration}
 use Rattle.hp_model.proofs.Roster.{operation_first, registration_first}
 use Rattle.hp_actors.specs.declared.actor.Actor.{Actor}
 use Rattle.hp_actors.specs.Actors.{AreLoaded}
-use Rattle.hp_actors.specs.Asking.{HasHook, IsPlaying}
+use Rattle.hp_actors.specs.RunInvariant.{HasHook, IsPlaying}
 use Rattle.hp_actors.specs.Positions.{Position, position_of, hooks_of, ops_of, answered_of, progress_of}
 use Rattle.hp_actors.specs.Racks.{IsFresh}
 use Rattle.hp_board.specs.HookCount.{hook_count}

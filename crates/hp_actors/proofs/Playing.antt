@@ -33,14 +33,14 @@ use Rattle.hp_model.specs.ScriptRun.{start}
 use Rattle.hp_model.proofs.Going.{Going, asks_allowed, turns_going, start_going}
 use Rattle.hp_model.proofs.DueGives.{due_stands}
 use Rattle.hp_model.proofs.NextStands.{next_stands}
-use Rattle.hp_model.proofs.Owners.{same_some}
 use Rattle.hp_actors.specs.declared.actor.Actor.{Actor}
 use Rattle.hp_actors.specs.Positions.{position_of, progress_of, hooks_of, ops_of, op_of, answered_of}
-use Rattle.hp_actors.specs.Asking.{HasHook, IsReached, IsPlaying}
+use Rattle.hp_actors.specs.RunInvariant.{HasHook, IsReached, IsPlaying}
 use Rattle.hp_actors.specs.Racks.{hooks_with}
-use Rattle.hp_actors.specs.Turned.{asked, event_for, answers_for}
+use Rattle.hp_actors.specs.ActorTurns.{asked, event_for, answers_for}
 use Rattle.hp_script.specs.Playable.{setups_in}
 use Rattle.std.specs.List.{sum_by}
+use Rattle.hp_states.proofs.Basics.{same_some}
 use Rattle.hp_actors.proofs.Holding.{all_hold}
 use Rattle.hp_actors.proofs.Progressing.{reached_more, thread_turn, actor_turn, none_turn, no_actor}
 

@@ -1,9 +1,10 @@
 -- How far a run is after a turn: what the machine appended, and whether an operation is answered.
-use Rattle.std.proofs.Common.{◌≡◌, ℕ, ◌+◌, ◌-◌, ◌<◌, ◌≤◌, Bool, true, false, ltb, Option, Some, None, List, [], ◌∷◌, ◌++◌, length, refl, ap, sym, ◌∙◌, arith}
+use Rattle.std.proofs.Common.{◌≡◌, ℕ, ◌+◌, ◌-◌, ◌<◌, ◌≤◌, Bool, false, ltb, Option, Some, None, List, [], ◌∷◌, ◌++◌, length, refl, ap, sym, ◌∙◌, arith}
 use Rattle.std.specs.Prelude.{option_to_list}
-use Rattle.std.proofs.lemmas.Bool.{ltb-true, lt-ltb}
+use Rattle.std.proofs.lemmas.Bool.{lt-ltb}
 use Rattle.std.proofs.lemmas.List.{append-nil}
 use Rattle.std.proofs.lemmas.Option.{slice_get_past}
+use Rattle.hp_states.proofs.Basics.{not_below}
 use Rattle.hp_event.specs.declared.op.Op.{Op}
 use Rattle.hp_event.specs.declared.head.Head.{Head}
 use Rattle.hp_event.specs.declared.event.Event.{Event}
@@ -11,8 +12,8 @@ use Rattle.hp_model.specs.Processors.{present}
 use Rattle.hp_model.specs.ScriptRun.{start}
 use Rattle.hp_model.specs.NextEvent.{due_entry, next_event, is_full}
 use Rattle.hp_model.specs.ScriptTurns.{RunState, unanswered, counted, after_entry, after_event, after_asking, turn, after_turns}
-use Rattle.hp_actors.specs.Asking.{IsReached}
-use Rattle.hp_actors.specs.Turned.{is_answered, event_for, answers_for}
+use Rattle.hp_actors.specs.RunInvariant.{IsReached}
+use Rattle.hp_actors.specs.ActorTurns.{is_answered, event_for, answers_for}
 
 -- one turn more
 pub turns_push : (head : Head) (actors : List (List Op)) (at : RunState) (seats : List ℕ) (k : ℕ) →
@@ -49,13 +50,6 @@ thread_turn head actors at k below = rw (lt-ltb k (length (present head)) below)
 pub idle_turn : (head : Head) (actors : List (List Op)) (at : RunState) (k : ℕ) → k < length (present head) →
     due_entry head at.events k ≡ None → turn head actors at k ≡ at
 idle_turn head actors at k below none = rw (lt-ltb k (length (present head)) below, none) refl
-
-pub not_below : (a b : ℕ) → b ≤ a → ltb a b ≡ false
-not_below a b h = go (ltb a b) refl
-  where
-    go : (t : Bool) → ltb a b ≡ t → t ≡ false
-    go true e = let l = ltb-true a b e in absurd (omega arith)
-    go false e = refl
 
 event_is : (i : ℕ) (o : Option Event) (full : Bool) (at : RunState) →
     after_event i o full at

@@ -12,7 +12,7 @@ use Rattle.hp_model.specs.ScriptTurns.{unanswered}
 use Rattle.hp_model.specs.Seats.{role_of}
 use Rattle.hp_model.proofs.OneNext.{owners}
 use Rattle.hp_actors.specs.declared.actor.Actor.{Actor}
-use Rattle.hp_actors.specs.Asking.{IsPlaying}
+use Rattle.hp_actors.specs.RunInvariant.{IsPlaying}
 use Rattle.hp_actors.specs.Positions.{ops_of, answered_of, progress_of}
 use Rattle.hp_actors.proofs.Playing.{going_of}
 use Rattle.hp_actors.proofs.RoundLaws.{not_over}

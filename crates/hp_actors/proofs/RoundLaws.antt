@@ -3,6 +3,7 @@ use Rattle.std.proofs.Common.{◌≡◌, ℕ, zero, suc, ◌+◌, ◌-◌, ◌<�
 use Rattle.std.specs.Prelude.{option_map, IsTrue}
 use Rattle.std.specs.List.{sum_by}
 use Rattle.std.proofs.lemmas.Bool.{true≢false, eqb-true, eqb-false, ltb-true, ltb-false}
+use Rattle.hp_states.proofs.Basics.{less_or}
 use Rattle.hp_states.specs.declared.limits.TheConstants.{MAX_EVENTS}
 use Rattle.hp_event.specs.declared.op.Op.{Op}
 use Rattle.hp_event.specs.declared.head.Head.{Head}
@@ -17,7 +18,7 @@ use Rattle.hp_model.specs.ScriptTurns.{RunState, unanswered, turn, after_turns}
 use Rattle.hp_model.proofs.RoundsEnd.{turns_go_on, turns_bounded}
 use Rattle.hp_model.proofs.EntryProcessors.{present_below as there_possible}
 use Rattle.hp_board.specs.declared.turn.Ask.{Ask}
-use Rattle.hp_actors.specs.Asking.{IsReached}
+use Rattle.hp_actors.specs.RunInvariant.{IsReached}
 use Rattle.hp_actors.specs.Positions.{Position, op_of}
 use Rattle.hp_account.specs.UnderWay.{IsThreadDue, NoThreadDue}
 use Rattle.hp_actors.proofs.Admissions.{present_below}
@@ -190,13 +191,6 @@ both_false a b h = ap (λ z. z && b) h
 right_false : (a b : Bool) → b ≡ false → (a && b) ≡ false
 right_false true b h = h
 right_false false b h = refl
-
-less_or : (a b : ℕ) → a < suc b → (a ≡ b → ⊥) → a < b
-less_or a b l n = by (ltb a b) refl
-  where
-    by : (t : Bool) → ltb a b ≡ t → a < b
-    by true e = ltb-true a b e
-    by false e = let m = ltb-false a b e in absurd (n (omega (arith, l, m)))
 
 pub not_over : (actors : List (List Op)) (answers : List ℕ) (i n : ℕ) → i < n → is_none (unanswered actors answers i) ≡ false →
     answered_below actors answers n ≡ false

@@ -1,10 +1,10 @@
 -- The hooks that setups take from a rack.
-use Rattle.std.proofs.Common.{◌≡◌, ℕ, ◌+◌, ◌<◌, Bool, true, cond, is_some, IfSome, IfNone, Option, Some, None, List, [], ◌∷◌, ◌++◌, length, length-append, append_assoc, append-nil, take, drop, get_or, add-one, refl, ap, sym, ◌∙◌, arith}
+use Rattle.std.proofs.Common.{◌≡◌, ℕ, ◌+◌, ◌<◌, Bool, true, cond, is_some, IfSome, IfNone, Option, Some, None, List, [], ◌∷◌, ◌++◌, length, length-append, append_assoc, append-nil, take, drop, get_or, refl, ap, sym, ◌∙◌, arith}
 use Rattle.std.specs.Prelude.{slice_get}
 use Rattle.std.specs.List.{sum_by}
-use Rattle.std.proofs.Math.Seq.{drop-cons, take-suc}
 use Rattle.std.proofs.lemmas.List.Sums.{sum_by-cons}
 use Rattle.std.proofs.lemmas.Option.{get_or_from_slice_get, slice_get_within}
+use Rattle.hp_states.proofs.Basics.{drop_at, take_at}
 use Rattle.hp_event.specs.declared.op.Op.{Op}
 use Rattle.hp_event.specs.declared.op.Op.TheVariants.{Setup}
 use Rattle.hp_account.specs.TableChanges.{is_setup}
@@ -21,12 +21,6 @@ setups_cons op ops = sum_by-cons one op ops ∙ ap (λ n. n + setups_in ops) (sa
     same : (op : Op) → one op ≡ (cond (is_setup op) 1 0)
     same (Setup s sub form) = refl
     same op = refl
-
-pub drop_at : {X : Type 0} (xs : List X) (i : ℕ) (d : X) → i < length xs → drop i xs ≡ get_or xs i d ∷ drop (i + 1) xs
-drop_at xs i d below = rw (add-one, drop-cons xs i d) refl
-
-pub take_at : {X : Type 0} (xs : List X) (i : ℕ) (d : X) → i < length xs → take (i + 1) xs ≡ take i xs ++ get_or xs i d ∷ []
-take_at xs i d below = rw add-one (take-suc xs i d below)
 
 -- what is left of the setups
 pub setups_left : (ops : List Op) (i : ℕ) (d : Op) → i < length ops →

@@ -1,8 +1,10 @@
 -- The seat of a processor's thread: so many as there are present processors below. From a thread's seat nothing is due but of its own
 -- processor.
-use Rattle.std.proofs.Common.{◌≡◌, ℕ, zero, suc, ◌+◌, ◌-◌, ◌<◌, ◌≤◌, Bool, true, false, cond, eqb, ltb, IfSome, Option, Some, None, List, [], ◌∷◌, ◌++◌, length, length-append, append-nil, refl, ap, sym, subst, ◌∙◌, inl, inr, ◌⊎◌, arith, append_assoc}
+use Rattle.std.proofs.Common.{◌≡◌, ℕ, zero, suc, ◌+◌, ◌-◌, ◌<◌, ◌≤◌, Bool, true, false, cond, eqb, ltb, IfSome, Option, Some, None, List, [], ◌∷◌, ◌++◌, length, length-append, refl, ap, sym, subst, ◌∙◌, inl, inr, ◌⊎◌, arith}
 use Rattle.std.proofs.lemmas.Bool.{true≢false, false≢true, eqb-true, ltb-true, ltb-false}
 use Rattle.std.below.core.specs.declared.int.u32.TheConstants as u32
+use Rattle.hp_model.proofs.Roster.{threads_past, over_from_append}
+use Rattle.hp_states.proofs.Basics.{none_some, same_some}
 use Rattle.hp_states.specs.declared.dir.Dir.{Dir}
 use Rattle.hp_event.specs.declared.how.How.{How}
 use Rattle.hp_event.specs.declared.op.Op.{Op}
@@ -29,10 +31,9 @@ use Rattle.hp_model.proofs.Going.{IsGoing, asks_allowed, turn_going, turns_going
 use Rattle.hp_model.proofs.Laws.{ap_push}
 use Rattle.hp_model.proofs.NextStands.{next_belongs}
 use Rattle.hp_model.proofs.OneNext.{owners}
-use Rattle.hp_model.proofs.Owners.{same_some, none_some}
 use Rattle.hp_model.proofs.Stages.{called_by}
 use Rattle.hp_model.proofs.EntryProcessors.{call_present, present_below as there_possible}
-use Rattle.hp_actors.specs.Asking.{IsReached}
+use Rattle.hp_actors.specs.RunInvariant.{IsReached}
 use Rattle.hp_actors.proofs.Admissions.{present_below, present_there, present_not, aps_append}
 
 -- ---- how many present processors are below
@@ -82,18 +83,6 @@ pub record IsSeatOf (head : Head) (cpu seat : ℕ) : Type 0 where
   pub there : is_present head cpu ≡ true
   pub seat_is : seat ≡ length (present_below head cpu)
 
-over_from_append : {S : Type 0} (step : S → List Event → Event → S) (value : S) (before xs ys : List Event) →
-    over_from step value before (xs ++ ys) ≡ over_from step (over_from step value before xs) (before ++ xs) ys
-over_from_append step value before [] ys = rw append-nil refl
-over_from_append step value before (x ∷ xs) ys =
-    over_from_append step (step value before x) (before ++ x ∷ []) xs ys
-    ∙ ap (λ z. over_from step (over_from step (step value before x) (before ++ x ∷ []) xs) z ys) (append_assoc before (x ∷ []) xs)
-
-clients_past : (c s : ℕ) (actors : List (List Op)) (before : List Event) (found : Option ℕ) →
-    over_from (ap_step c) found before (client_admits s actors) ≡ found
-clients_past c s [] before found = refl
-clients_past c s (ops ∷ more) before found = clients_past c (s + 1) more (before ++ Admit s Client ∷ []) found
-
 -- one processor more
 seat_step : (head : Head) (c n k : ℕ) → is_present head n ≡ true → (before : List Event) (found : Option ℕ) →
     (found ≡ Some k → IsSeatOf head c k) → ap_step c found before (Admit (0 + length (present_below head n)) (Ap n)) ≡ Some k →
@@ -137,7 +126,7 @@ unfolding ap_seat
 first_seat head actors c k h =
     threads_below head c k head.possible
     (sym (over_from_append (ap_step c) None [] (ap_admits 0 (present head)) (client_admits (length (present head)) actors)
-    ∙ clients_past c (length (present head)) actors (ap_admits 0 (present head)) (over_from (ap_step c) None [] (ap_admits 0 (present head))))
+    ∙ threads_past c (length (present head)) actors (ap_admits 0 (present head)) (over_from (ap_step c) None [] (ap_admits 0 (present head))))
     ∙ h)
 
 -- no turn of a run changes it

@@ -1,6 +1,7 @@
 -- While the next entry of what a seat has in flight is a thread's to make, a turn of the seat makes nothing.
 use Rattle.std.proofs.Common.{◌≡◌, ℕ, Bool, true, false, is_some, Option, Some, None, List, refl, sym, subst, ◌∙◌, inl, inr, ◌↔◌, arith}
 use Rattle.std.proofs.lemmas.Bool.{true≢false}
+use Rattle.hp_states.proofs.Basics.{none_some}
 use Rattle.hp_event.specs.declared.op.Op.{Op}
 use Rattle.hp_event.specs.declared.head.Head.{Head}
 use Rattle.hp_event.specs.declared.event.Role.TheVariants.{Client}
@@ -11,10 +12,10 @@ use Rattle.hp_model.specs.Events.{seat_of, BelongsTo, showing}
 use Rattle.hp_model.specs.Lawful.{Stands, IsLawful}
 use Rattle.hp_model.specs.NextEvent.{next_event, is_full}
 use Rattle.hp_model.specs.Seats.{role_of, is_busy}
-use Rattle.hp_actors.specs.Waiting.{MakesNoEvent, WaitsForThread}
+use Rattle.hp_actors.specs.PassedOver.{MakesNoEvent, WaitsForThread}
 use Rattle.hp_model.proofs.FindsOne.{thread_busy, thread_still}
 use Rattle.hp_model.proofs.NextStands.{next_stands}
-use Rattle.hp_model.proofs.Owners.{Owners, none_some}
+use Rattle.hp_model.proofs.Owners.{Owners}
 use Rattle.hp_model.proofs.SomeMoves.{Facts, facts}
 
 -- who has it in flight is a client

@@ -2,6 +2,7 @@
 use Rattle.std.proofs.Common.{◌≡◌, ◌≢◌, ℕ, Bool, true, false, cond, ◌&&◌, not, ◌||◌, is_some, Option, Some, None, List, [], ◌∷◌, ◌++◌, refl, ap, sym, ◌∙◌}
 use Rattle.std.proofs.lemmas.List.{append-nil}
 use Rattle.std.proofs.lemmas.Bool.{true≢false, ne_eqb, or_parts}
+use Rattle.hp_states.proofs.Basics.{or_false, none_some}
 use Rattle.hp_event.specs.declared.op.Op.{Op}
 use Rattle.hp_event.specs.declared.op.Op.TheVariants as op
 use Rattle.hp_event.specs.declared.head.Head.{Head}
@@ -24,9 +25,9 @@ use Rattle.hp_model.specs.Suspend.{held_by}
 use Rattle.hp_model.specs.Waits.{Wait, maps_held, writer_in, first_wait, is_waiting, is_disarming, wait_for_map, wait_for_registration, wait_for_walk, wait_for_batch, wait_for_writer, wait_to_register, wait_to_begin}
 use Rattle.hp_model.specs.Walks.{Walk, walk, walking, walking_step, is_walking}
 use Rattle.hp_model.proofs.Laws.{operation_push, registration_push, reading_since_push, walking_push, begun_push}
-use Rattle.hp_model.proofs.Owners.{map_free, none_some}
+use Rattle.hp_model.proofs.Owners.{map_free}
 use Rattle.hp_model.proofs.WaitLemmas.{is_writing, map_waits, registration_waits, writer_waits, first_waits, register_waits}
-use Rattle.hp_actors.specs.Waiting.{IsReady, IsWaiting, is_end}
+use Rattle.hp_actors.specs.PassedOver.{IsReady, IsWaiting, is_end}
 
 neither : (a b : Bool) → a ≡ false → b ≡ false → (a || b) ≡ false
 neither a b x y = rw (x, y) refl
@@ -61,10 +62,6 @@ leaves_ready xs (ReadLock seat) k other idle =
 leaves_ready xs (ReadUnlock seat) k other idle =
     record { idle = idle; reading = ap (λ b. is_some (cond b None (reading_since k xs))) (ne_eqb seat k other) }
 leaves_ready xs e k other idle = record { idle = idle; reading = refl }
-
-or_false : (b : Bool) → (b || false) ≡ b
-or_false true = refl
-or_false false = refl
 
 -- what an event that is no end leaves held
 record LeavesHeld (before : List Event) (e : Event) : Type 0 where

@@ -6,6 +6,7 @@ use Rattle.hp_event.specs.declared.event.Event.{Event}
 use Rattle.hp_event.specs.declared.head.Head.{Head}
 use Rattle.hp_event.specs.declared.op.Op.{Op}
 use Rattle.hp_hook.specs.Counted.{Counts}
+use Rattle.hp_hook.specs.declared.rack.Rack.{Rack}
 use Rattle.hp_account.specs.Table.{counts_by}
 use Rattle.hp_account.specs.TableChanges.{brings_hook, hands_hook, is_setup}
 use Rattle.hp_model.specs.Calls.{sub_at}
@@ -13,8 +14,11 @@ use Rattle.hp_model.specs.Processors.{present}
 use Rattle.hp_model.specs.Registrations.{Registration, registration}
 use Rattle.hp_model.specs.ScriptTurns.{turn, unanswered}
 use Rattle.hp_model.specs.Subsystems.{plan_of}
-use Rattle.hp_actors.specs.Positions.{Position}
-use Rattle.hp_actors.specs.Turned.{event_for}
+use Rattle.hp_board.specs.Contents.{Contents}
+use Rattle.hp_board.specs.Retired.{registered_hooks}
+use Rattle.hp_actors.specs.declared.actor.Actor.{Actor}
+use Rattle.hp_actors.specs.Positions.{Position, hooks_of}
+use Rattle.hp_actors.specs.ActorTurns.{asked, event_for}
 
 -- the hook of an operation, where it has one
 abbrev pub hook_at : (hooks : List (List (Option Counts))) → (actor place : ℕ) → Option Counts
@@ -24,6 +28,10 @@ hook_at hooks i j = get_or (get_or hooks i []) j None
 abbrev pub hooks_there : List (List (Option Counts)) → List Counts
 hooks_there hooks = flat_map (flat_map option_to_list) hooks
 
+-- so of actors
+abbrev pub hooks_among : {H : Type 0} → (seen : H → Counts) → List (Actor H) → List Counts
+hooks_among seen actors = hooks_there (map (hooks_of seen) actors)
+
 -- each setup has one, and no other operation
 abbrev pub OneForEachSetup : (actors : List (List Op)) → (hooks : List (List (Option Counts))) → Type 0
 OneForEachSetup actors hooks = map (map is_some) hooks ≡ map (map is_setup) actors
@@ -31,6 +39,14 @@ OneForEachSetup actors hooks = map (map is_some) hooks ≡ map (map is_setup) ac
 -- each in turn was the last of a rack's
 abbrev pub AreFromRack : (old new hooks : List Counts) → Type 0
 AreFromRack old new hooks = old ≡ new ++ reverse hooks
+
+-- so of hooks of a rack, by what they have counted
+abbrev pub AreDealtFrom : {H : Type 0} → (seen : H → Counts) → (old new : Rack H) → (hooks : List Counts) → Type 0
+AreDealtFrom seen old new hooks = AreFromRack (map seen old.hooks.items) (map seen new.hooks.items) hooks
+
+-- those of a run that is given up: of its operations, and then of the registered states
+abbrev pub hooks_at_end : Position → List Counts
+hooks_at_end at = hooks_there at.hooks ++ registered_hooks at.head at.progress.events
 
 -- ---- what a turn makes of them
 
@@ -52,6 +68,13 @@ hook_after head events (Some e) had =
 -- those of an actor, after a turn for its first operation that isn't answered: all others stay
 abbrev pub hooks_after : Head → List Event → (seat answered : ℕ) → Option Op → List (Option Counts) → List (Option Counts)
 hooks_after head events k n op hooks = set hooks n (hook_after head events (event_for head events k op) (get_or hooks n None))
+
+-- so of an actor on a board
+abbrev pub hooks_left : {H : Type 0} → (seen : H → Counts) → Contents → (seat : ℕ) → Actor H → List (Option Counts)
+hooks_left seen b k actor = hooks_after b.head b.events k actor.answered (asked actor) (hooks_of seen actor)
+
+abbrev pub HasHooksLeft : {H : Type 0} → (seen : H → Counts) → Contents → (seat : ℕ) → (old new : Actor H) → Type 0
+HasHooksLeft seen b k old new = hooks_of seen new ≡ hooks_left seen b k old
 
 abbrev pub hooks_asked : Position → (seat actor : ℕ) → List (List (Option Counts))
 hooks_asked at k i =

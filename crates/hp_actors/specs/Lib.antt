@@ -1,8 +1,9 @@
 pub mod Actors
 pub mod Lending
 pub mod Positions
-pub mod Asking
-pub mod Turned
+pub mod Runs
+pub mod RunInvariant
+pub mod ActorTurns
 pub mod Racks
 pub mod Hooks
-pub mod Waiting
+pub mod PassedOver

@@ -1,14 +1,13 @@
 //! The end of a run.
 
-ghost use Rattle.std.specs.Prelude.{◌≡◌, ◌+◌, ◌++◌, true, None, OnOk, length, sum_by};
-ghost use Rattle.std.specs.List.{flat_map};
+ghost use Rattle.std.specs.Prelude.{◌≡◌, ◌+◌, ◌++◌, true, None, OnOk, sum_by};
 ghost use Rattle.hp_script.specs.Playable.{setups_in};
-ghost use Rattle.hp_board.specs.Retired.{IsRacked, registered_hooks};
+ghost use Rattle.hp_board.specs.Retired.{PutsBehind};
 ghost use Rattle.hp_model.specs.MapLock.{operation};
 ghost use Rattle.hp_model.specs.Registrations.{registration};
 ghost use Rattle.hp_model.specs.ScriptRun.{is_over};
-ghost use Rattle.hp_actors.specs.Actors.{own_hooks};
-ghost use Rattle.hp_actors.specs.Hooks.{hooks_there};
+ghost use Rattle.hp_actors.specs.Hooks.{hooks_at_end};
+ghost use Rattle.hp_actors.specs.Racks.{HasMore, actors_hooks};
 
 use crate::actor::Actor;
 use crate::run::Run;
@@ -46,10 +45,8 @@ impl<H: Hook> Run<H> {
     /// hooks are lost: `NoMemory`. This project's own.
     pub fn finish(self, rack: &mut Rack<H>) -> Result<(), NoMemory>
         requires { is_over self.actors self.progress ≡ true }
-        ensures hooks { OnOk result (IsRacked H.counts rack.old.hooks.items rack.new.hooks.items
-            (hooks_there self.hooks ++ registered_hooks self.head self.progress.events)) }
-        ensures all { OnOk result (
-            length rack.new.hooks.items ≡ length rack.old.hooks.items + sum_by setups_in self.actors) }
+        ensures hooks { OnOk result (PutsBehind H.counts rack.old rack.new (hooks_at_end self)) }
+        ensures all { OnOk result (HasMore rack.old rack.new (sum_by setups_in self.actors)) }
     {
         self.rests();
         let Run { board, actors, .. } = self;
@@ -63,8 +60,7 @@ impl<H: Hook> Run<H> {
 
 /// Puts the hooks that actors have behind those of the rack.
 fn give_back<H: Hook>(actors: Vec<Actor<H>>, rack: &mut Rack<H>) -> Result<(), NoMemory>
-    ensures { OnOk result (rack.new.hooks.items
-        ≡ rack.old.hooks.items ++ flat_map (λ actor. own_hooks actor.asks) actors.items) }
+    ensures { OnOk result (rack.new.hooks.items ≡ rack.old.hooks.items ++ actors_hooks actors.items) }
 {
     for actor in actors {
         actor.give_back(rack)?;

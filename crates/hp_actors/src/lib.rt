@@ -9,11 +9,11 @@
 //! is answered, and `finish` gives the run up: its hooks go back to the rack.
 //!
 //! Contracts see an actor as an `Agenda` (`specs/Actors.antt`; `Lending.antt` says what it is after its next
-//! operation was lent), and how far a run has come, as a `Position` (`Positions.antt`); what a turn, a round and
-//! a schedule make of it say hp_model's `ScriptTurns`, `ScriptRun` and `Schedule`. `Hooks.antt` says which hooks
-//! the operations have, and what turns make of them, `Racks.antt` how many setups take of a rack. `Turned.antt`,
-//! `Asking.antt` and `Waiting.antt` are for the clauses of the code: what an actor's turn makes, what holds of a
-//! run between two turns, and which actors wait, so that their turns are passed over.
+//! operation was lent), and how far a run has come, as a `Position` (`Positions.antt`); what a turn, a round and a
+//! schedule make of it says `Runs.antt`, by hp_model's `ScriptTurns`, `ScriptRun` and `Schedule`. `Hooks.antt` says
+//! which hooks the operations have, and what turns make of them, `Racks.antt` how many setups take of a rack.
+//! `ActorTurns.antt`, `RunInvariant.antt` and `PassedOver.antt` are for the clauses of the code: what an actor's turn makes,
+//! what holds of a run between two turns, and which actors wait, so that their turns are passed over.
 //!
 //! The code goes from one actor to the whole: `actor`, `step` for one turn of an actor on a board, `seating`
 //! and `start`, `run` for one turn of any seat, `rounds`, `schedule`, `finish`.

@@ -1,12 +1,11 @@
 //! Rounds: one turn of each seat, in rising number.
 
-ghost use Rattle.std.specs.Prelude.{◌≡◌, ℕ, ◌+◌, ◌<◌, ◌≤◌, IfSome, IfNone, OnOk, List, length, true};
-ghost use Rattle.hp_account.specs.UnderWay.{IsThreadDue, NoThreadDue};
-ghost use Rattle.hp_model.specs.Lists.{numbers};
+ghost use Rattle.std.specs.Prelude.{◌≡◌, ℕ, ◌+◌, ◌<◌, IfSome, IfNone, OnOk, List, length, true};
+ghost use Rattle.hp_account.specs.UnderWay.{IsNextThreadDue, NoThreadDueFrom};
 ghost use Rattle.hp_model.specs.Processors.{present};
-ghost use Rattle.hp_model.specs.ScriptRun.{start, is_over, after_round, IsRun};
-ghost use Rattle.hp_model.specs.ScriptTurns.{after_turns};
+ghost use Rattle.hp_model.specs.ScriptRun.{is_over};
 ghost use Rattle.hp_actors.specs.Hooks.{IsLater, KeepsHooks};
+ghost use Rattle.hp_actors.specs.Runs.{IsAfterTurns, IsWholeRun, further_round, after_threads};
 
 use crate::run::Run;
 use hp_hook::Hook;
@@ -19,8 +18,7 @@ impl<H: Hook> Run<H> {
     #[tactic(auto, using(crate::proofs::Later::later_same))]
     pub(crate) fn play_rounds(&mut self) -> Result<(), NoMemory>
         ensures ran { (seats : List ℕ) →
-            self.old.progress ≡ after_turns self.old.head self.old.actors (start self.old.head self.old.actors) seats →
-            OnOk result (IsRun self.old.head self.old.actors seats self.new.progress.events) }
+            IsAfterTurns seats self.old → OnOk result (IsWholeRun seats self.old self.new) }
         ensures head { self.new.head ≡ self.old.head }
         ensures actors { self.new.actors ≡ self.old.actors }
         ensures made { IsLater self.old self.new }
@@ -39,8 +37,7 @@ impl<H: Hook> Run<H> {
     ///
     /// Takes memory as turns do; where that is wanting the run stands where it came: `NoMemory`.
     fn round(&mut self) -> Result<(), NoMemory>
-        ensures ok { OnOk result (self.new.progress
-            ≡ after_round self.old.head self.old.actors self.old.progress) }
+        ensures ok { OnOk result (self.new.progress ≡ further_round self.old) }
         ensures head { self.new.head ≡ self.old.head }
         ensures actors { self.new.actors ≡ self.old.actors }
         ensures made { IsLater self.old self.new }
@@ -70,11 +67,7 @@ impl<H: Hook> Run<H> {
     ///
     /// Takes no memory.
     fn serve_threads(&mut self)
-        ensures progress { self.new
-            ≡ record self.old {
-              progress = after_turns self.old.head self.old.actors self.old.progress
-                  (numbers (length (present self.old.head)));
-            } }
+        ensures progress { self.new ≡ after_threads self.old }
         ensures made { IsLater self.old self.new }
     {
         self.sound();
@@ -88,11 +81,9 @@ impl<H: Hook> Run<H> {
     /// The lowest processor from one on of which an entry is due from its thread, and the thread's seat, if there is
     /// one. Takes no memory.
     fn next_thread_due(&self, from: u32) -> Option<(u32, u32)>
-        ensures due { IfSome result (λ due. (from ≤ due.0)
-            × IsThreadDue self.now.head self.now.progress.events due.0 due.1
-            × NoThreadDue self.now.head self.now.progress.events from due.0) }
+        ensures due { IfSome result (IsNextThreadDue self.now.head self.now.progress.events from) }
         ensures counted { IfSome result (λ due. due.0 < u32.MAX) }
-        ensures idle { IfNone result (NoThreadDue self.now.head self.now.progress.events from self.now.head.possible) }
+        ensures idle { IfNone result (NoThreadDueFrom self.now.head self.now.progress.events from) }
     {
         self.board.sound();
         self.board.next_thread_due(from)

@@ -2,12 +2,12 @@
 
 ghost use Rattle.std.specs.Prelude.{◌≡◌, ◌↔◌, ◌+◌, ◌<◌, OnOk, OnErr, length, true};
 ghost use Rattle.hp_model.specs.Processors.{present};
-ghost use Rattle.hp_model.specs.ScriptTurns.{turn};
 ghost use Rattle.hp_event.specs.declared.op.Op.{Op as AnOp};
-ghost use Rattle.hp_actors.specs.Asking.{IsReached};
+ghost use Rattle.hp_actors.specs.RunInvariant.{IsReached};
 ghost use Rattle.hp_actors.specs.Hooks.{KeepsHooks, turned};
-ghost use Rattle.hp_actors.specs.Waiting.{MakesNoEvent, WaitsForThread};
+ghost use Rattle.hp_actors.specs.PassedOver.{MakesNoEvent, WaitsForThread};
 ghost use Rattle.hp_model.specs.Scripts.{IsScript};
+ghost use Rattle.hp_actors.specs.Runs.{further, StaysAfter};
 
 use crate::actor::{Actor, Waits};
 use crate::step::step;
@@ -35,9 +35,9 @@ pub struct Run<H: Hook> {
 
 impl<H: Hook> Model for Run<H> {
     ghost use Rattle.hp_table.specs.Step.{AllHome};
-    ghost use Rattle.hp_actors.specs.Asking.{IsPlaying};
+    ghost use Rattle.hp_actors.specs.RunInvariant.{IsPlaying};
     ghost use Rattle.hp_actors.specs.Positions.{Position, position_of};
-    ghost use Rattle.hp_actors.specs.Waiting.{KnowsWaits};
+    ghost use Rattle.hp_actors.specs.PassedOver.{KnowsWaits};
 
     ghost Value = { Position };
 
@@ -65,8 +65,7 @@ impl<H: Hook> Run<H> {
     #[inline(always)]
     pub(crate) fn serve(&mut self, seat: u32)
         requires { seat < length (present self.old.head) }
-        ensures { self.new
-            ≡ record self.old { progress = turn self.old.head self.old.actors self.old.progress seat } }
+        ensures { self.new ≡ record self.old { progress = further self.old seat } }
     {
         self.board.serve(seat);
     }
@@ -110,8 +109,7 @@ impl<H: Hook> Run<H> {
     ///
     /// Takes no memory, and a few steps where a turn takes hundreds.
     pub(crate) fn still_waits(&self, seat: u32) -> bool
-        ensures { result ≡ true →
-            turn self.now.head self.now.actors self.now.progress seat ≡ self.now.progress }
+        ensures { result ≡ true → StaysAfter self.now seat }
     {
         if seat < self.threads {
             return false;
@@ -123,9 +121,7 @@ impl<H: Hook> Run<H> {
     /// place of their list. Takes no memory.
     #[inline(always)]
     pub(crate) fn actor_waits(&self, place: usize) -> bool
-        ensures { result ≡ true →
-            turn self.now.head self.now.actors self.now.progress (length (present self.now.head) + place)
-            ≡ self.now.progress }
+        ensures { result ≡ true → StaysAfter self.now (length (present self.now.head) + place) }
     {
         match self.actors.get(place) {
             Some(actor) => match actor.waits() {

@@ -1,12 +1,11 @@
 //! The turns of a schedule.
 
-ghost use Rattle.std.specs.Prelude.{◌≡◌, ◌+◌, OnOk, length, true};
-ghost use Rattle.hp_model.specs.Processors.{present};
-ghost use Rattle.hp_model.specs.Schedule.{IsRunBy, first_turns, mix};
+ghost use Rattle.std.specs.Prelude.{◌≡◌, OnOk, true};
+ghost use Rattle.hp_model.specs.Schedule.{mix};
 ghost use Rattle.hp_model.specs.ScriptRun.{start, is_over};
-ghost use Rattle.hp_model.specs.ScriptTurns.{after_turns};
 ghost use Rattle.hp_script.specs.Schedules.{schedule_written};
 ghost use Rattle.hp_actors.specs.Hooks.{IsLater, KeepsHooks};
+ghost use Rattle.hp_actors.specs.Runs.{IsWholeRunBy, further_on, further_by};
 
 use crate::run::Run;
 use hp_hook::Hook;
@@ -21,8 +20,7 @@ impl<H: Hook> Run<H> {
     /// stands where it came: `NoMemory`. Schedules are this project's own.
     pub fn play(&mut self, schedule: &Schedule) -> Result<(), NoMemory>
         requires { self.old.progress ≡ start self.old.head self.old.actors }
-        ensures ran { OnOk result (IsRunBy self.old.head self.old.actors
-            (schedule_written schedule.now) self.new.progress.events) }
+        ensures ran { OnOk result (IsWholeRunBy (schedule_written schedule.now) self.old self.new) }
         ensures head { self.new.head ≡ self.old.head }
         ensures actors { self.new.actors ≡ self.old.actors }
         ensures made { IsLater self.old self.new }
@@ -35,10 +33,7 @@ impl<H: Hook> Run<H> {
 
     /// The turns of a schedule, before the rounds.
     fn play_schedule(&mut self, schedule: &Schedule) -> Result<(), NoMemory>
-        ensures ok { OnOk result (self.new.progress
-            ≡ after_turns self.old.head self.old.actors self.old.progress
-            (first_turns (length (present self.old.head) + length self.old.actors)
-            (schedule_written schedule.now))) }
+        ensures ok { OnOk result (self.new.progress ≡ further_on self.old (schedule_written schedule.now)) }
         ensures head { self.new.head ≡ self.old.head }
         ensures actors { self.new.actors ≡ self.old.actors }
         ensures made { IsLater self.old self.new }
@@ -54,8 +49,7 @@ impl<H: Hook> Run<H> {
     /// One turn of each of some seats, in their order.
     #[tactic(auto, using(crate::proofs::Later::later_same))]
     fn play_turns(&mut self, seats: &[u32]) -> Result<(), NoMemory>
-        ensures ok { OnOk result (self.new.progress
-            ≡ after_turns self.old.head self.old.actors self.old.progress seats.now) }
+        ensures ok { OnOk result (self.new.progress ≡ further_by self.old seats.now) }
         ensures head { self.new.head ≡ self.old.head }
         ensures actors { self.new.actors ≡ self.old.actors }
         ensures made { IsLater self.old self.new }
@@ -73,9 +67,7 @@ impl<H: Hook> Run<H> {
     /// So many turns of seats that are drawn from a seed.
     #[tactic(auto, using(crate::proofs::Later::later_same))]
     fn play_drawn(&mut self, seed: u64, turns: u32) -> Result<(), NoMemory>
-        ensures ok { OnOk result (self.new.progress
-            ≡ after_turns self.old.head self.old.actors self.old.progress
-            (first_turns (length (present self.old.head) + length self.old.actors) (mix seed turns))) }
+        ensures ok { OnOk result (self.new.progress ≡ further_on self.old (mix seed turns)) }
         ensures head { self.new.head ≡ self.old.head }
         ensures actors { self.new.actors ≡ self.old.actors }
         ensures made { IsLater self.old self.new }

@@ -1,16 +1,14 @@
 //! A machine with a seat for each thread and each actor of a script.
 
-ghost use Rattle.std.specs.Prelude.{◌≡◌, ◌+◌, ◌≤◌, ◌++◌, ◌∷◌, [], true, false, IfOk, OnOk, length, replicate};
+ghost use Rattle.std.specs.Prelude.{◌≡◌, ◌+◌, ◌≤◌, [], true, false, IfOk, OnOk, length, replicate};
 ghost use Rattle.hp_board.specs.Contents.{with_event};
 ghost use Rattle.hp_board.specs.HookCount.{hook_count};
-ghost use Rattle.hp_event.specs.declared.event.Event.TheVariants.{Admit};
 ghost use Rattle.hp_model.specs.Heads.{IsHead};
-ghost use Rattle.hp_model.specs.Lawful.{Stands};
 ghost use Rattle.hp_event.specs.declared.event.Role.TheVariants.{Ap};
 ghost use Rattle.hp_model.specs.Processors.{is_present, present};
 ghost use Rattle.hp_model.specs.Admissions.{admissions};
-ghost use Rattle.hp_model.specs.Seats.{admits};
 ghost use Rattle.hp_states.specs.declared.limits.TheConstants.{MAX_SEATS};
+ghost use Rattle.hp_machine.specs.StandsNext.{CanComeIn, HasComeIn, admission};
 
 use hp_board::{AdmitError, Board, CpuPlan, StartError};
 use hp_event::{Head, Role};
@@ -93,11 +91,9 @@ fn board_of<H: Hook>(alloc: Global, head: &Head) -> Result<Board<H>, NoMemory>
 
 /// Lets the thread of a processor in, if that is present; its admission stands then.
 fn admit_thread<H: Hook>(board: &mut Board<H>, head: &Head, cpu: u32) -> Result<(), NoMemory>
-    requires { is_present head.now cpu ≡ true →
-        Stands board.old.head board.old.events (Admit (admits board.old.events) (Ap cpu)) }
+    requires { is_present head.now cpu ≡ true → CanComeIn board.old (Ap cpu) }
     ensures head { OnOk result (board.new.head ≡ board.old.head) }
-    ensures there { OnOk result (is_present head.now cpu ≡ true →
-        board.new.events ≡ board.old.events ++ Admit (admits board.old.events) (Ap cpu) ∷ []) }
+    ensures there { OnOk result (is_present head.now cpu ≡ true → HasComeIn (Ap cpu) board.old board.new) }
     ensures absent { OnOk result (is_present head.now cpu ≡ false → board.new.events ≡ board.old.events) }
     ensures places { OnOk result (board.new.places ≡ board.old.places) }
 {
@@ -109,8 +105,8 @@ fn admit_thread<H: Hook>(board: &mut Board<H>, head: &Head, cpu: u32) -> Result<
 
 /// Lets a seat in whose admission stands.
 fn admit<H: Hook>(board: &mut Board<H>, role: Role) -> Result<(), NoMemory>
-    requires { Stands board.old.head board.old.events (Admit (admits board.old.events) role) }
-    ensures { OnOk result (board.new ≡ with_event board.old (Admit (admits board.old.events) role)) }
+    requires { CanComeIn board.old role }
+    ensures { OnOk result (board.new ≡ with_event board.old (admission board.old role)) }
 {
     match board.admit(role) {
         Ok(_) => Ok(()),

@@ -2,11 +2,11 @@
 
 ghost use Rattle.std.specs.Prelude.{◌≡◌, ◌≤◌, IfOk, OnOk, map, length, sum_by};
 ghost use Rattle.hp_model.specs.Scripts.{IsScript};
-ghost use Rattle.hp_model.specs.ScriptRun.{start as start_of};
 ghost use Rattle.hp_script.specs.Playable.{setups_in};
-ghost use Rattle.hp_actors.specs.Hooks.{AreFromRack, OneForEachSetup, hooks_there};
-ghost use Rattle.hp_actors.specs.Positions.{hooks_of, ops_of};
-ghost use Rattle.hp_actors.specs.Racks.{IsFresh, Takes};
+ghost use Rattle.hp_actors.specs.Hooks.{OneForEachSetup, hooks_there, AreDealtFrom, hooks_among};
+ghost use Rattle.hp_actors.specs.Positions.{ops_of};
+ghost use Rattle.hp_actors.specs.Racks.{IsFresh, TakesLast};
+ghost use Rattle.hp_actors.specs.Runs.{at_start};
 
 use crate::actor::Actor;
 use crate::run::Run;
@@ -25,18 +25,10 @@ impl<H: Hook> Run<H> {
     pub fn start(alloc: Global, script: &Script, rack: &mut Rack<H>) -> Result<Run<H>, NoMemory>
         requires script { IsScript script.now.head script.now.actors }
         requires hooks { sum_by setups_in script.now.actors ≤ length rack.old.hooks.items }
-        ensures started { IfOk result (λ run. run
-            ≡ record {
-              head = script.now.head;
-              actors = script.now.actors;
-              progress = start_of script.now.head script.now.actors;
-              hooks = run.hooks;
-            }) }
-        ensures rack { OnOk result (Takes rack.old.hooks.items rack.new.hooks.items
-            (sum_by setups_in script.now.actors)) }
+        ensures started { IfOk result (λ run. run ≡ at_start script.now.head script.now.actors run.hooks) }
+        ensures rack { OnOk result (TakesLast rack.old rack.new (sum_by setups_in script.now.actors)) }
         ensures loaded { IfOk result (λ run. OneForEachSetup script.now.actors run.hooks) }
-        ensures hooks { IfOk result (λ run. AreFromRack (map H.counts rack.old.hooks.items)
-            (map H.counts rack.new.hooks.items) (hooks_there run.hooks)) }
+        ensures hooks { IfOk result (λ run. AreDealtFrom H.counts rack.old rack.new (hooks_there run.hooks)) }
     {
         let actors = actors_of(alloc, script, rack)?;
         let board = seated_board(alloc, script.head(), script.actors())?;
@@ -59,10 +51,9 @@ fn actors_of<H: Hook>(
     requires { sum_by setups_in script.now.actors ≤ length rack.old.hooks.items }
     ensures ops { IfOk result (λ actors. map ops_of actors.items ≡ script.now.actors) }
     ensures fresh { IfOk result (λ actors. IsFresh actors.items) }
-    ensures rack { OnOk result (Takes rack.old.hooks.items rack.new.hooks.items
-        (sum_by setups_in script.now.actors)) }
-    ensures hooks { IfOk result (λ actors. AreFromRack (map H.counts rack.old.hooks.items)
-        (map H.counts rack.new.hooks.items) (hooks_there (map (hooks_of H.counts) actors.items))) }
+    ensures rack { OnOk result (TakesLast rack.old rack.new (sum_by setups_in script.now.actors)) }
+    ensures hooks { IfOk result (λ actors.
+        AreDealtFrom H.counts rack.old rack.new (hooks_among H.counts actors.items)) }
 {
     let mut actors = Vec::new(alloc);
     for number in 0..script.actors() {

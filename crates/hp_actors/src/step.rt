@@ -1,20 +1,16 @@
 //! One turn of an actor on a board.
 
-ghost use Rattle.std.specs.Prelude.{◌≡◌, ◌+◌, ◌++◌, ◌∷◌, [], ◌<◌, ◌≤◌, if◌then◌else◌, option_to_list, List, Some, true, false, OnOk, OnErr, length, slice_get};
-ghost use Rattle.hp_board.specs.HookCount.{hook_count};
+ghost use Rattle.std.specs.Prelude.{◌≡◌, ◌<◌, ◌≤◌, true, OnOk, OnErr, length};
 ghost use Rattle.hp_board.specs.Turns.{goes_on};
-ghost use Rattle.hp_board.specs.declared.turn.Ask.{Ask as AnAsk};
-ghost use Rattle.hp_event.specs.declared.event.Event.{Event as AnEvent};
 ghost use Rattle.hp_model.specs.Lawful.{IsLawful};
-ghost use Rattle.hp_model.specs.Pending.{IsAllowed};
 ghost use Rattle.hp_model.specs.Seats.{is_busy};
 ghost use Rattle.hp_table.specs.Step.{AllHome};
-ghost use Rattle.hp_actors.specs.Asking.{HasHook};
-ghost use Rattle.hp_actors.specs.Hooks.{hooks_after};
-ghost use Rattle.hp_actors.specs.Positions.{hooks_of, ops_of};
-ghost use Rattle.hp_actors.specs.Racks.{hooks_with};
-ghost use Rattle.hp_actors.specs.Turned.{answers_for, asked, event_for};
-ghost use Rattle.hp_actors.specs.Waiting.{EndsNothing, KnowsWait, is_end, waited};
+ghost use Rattle.hp_actors.specs.RunInvariant.{HasHook, MayAskNext};
+ghost use Rattle.hp_actors.specs.Hooks.{HasHooksLeft};
+ghost use Rattle.hp_actors.specs.Positions.{ops_of};
+ghost use Rattle.hp_actors.specs.Racks.{hooks_beside};
+ghost use Rattle.hp_actors.specs.ActorTurns.{event_by, answered_after, events_after};
+ghost use Rattle.hp_actors.specs.PassedOver.{EndsNothing, KnowsWait, is_end, waited, IsLastEnd};
 
 use crate::actor::Actor;
 use hp_board::{Board, Turn};
@@ -34,26 +30,20 @@ pub(crate) fn step<H: Hook>(
 ) -> Result<(), NoMemory>
     requires lawful { IsLawful board.old.head board.old.events }
     requires home { AllHome board.old.places }
-    requires allowed { (ask : AnAsk H) → slice_get actor.old.asks actor.old.answered ≡ Some ask →
-        IsAllowed board.old.head board.old.events (record { seat = seat; op = ask.op }) }
+    requires allowed { MayAskNext board.old seat actor.old }
     requires hook { HasHook board.old.events seat actor.old }
     requires last_end { last_end.old ≤ length board.old.events }
     ensures head { board.new.head ≡ board.old.head }
     ensures home { AllHome board.new.places }
-    ensures events { OnOk result (board.new.events
-        ≡ board.old.events ++ option_to_list (event_for board.old.head board.old.events seat (asked actor.old))) }
-    ensures answered { OnOk result (actor.new.answered
-        ≡ actor.old.answered
-        + (if answers_for board.old.head board.old.events seat (asked actor.old) then 1 else 0)) }
+    ensures events { OnOk result (board.new.events ≡ events_after board.old seat actor.old) }
+    ensures answered { OnOk result (actor.new.answered ≡ answered_after board.old seat actor.old) }
     ensures ops { ops_of actor.new ≡ ops_of actor.old }
     ensures hook { HasHook board.new.events seat actor.new }
-    ensures own_hooks { OnOk result (hooks_of H.counts actor.new
-        ≡ hooks_after board.old.head board.old.events seat actor.old.answered (asked actor.old)
-        (hooks_of H.counts actor.old)) }
-    ensures kept { hook_count board.new.places + hooks_with actor.new ≡ hook_count board.old.places + hooks_with actor.old }
+    ensures own_hooks { OnOk result (HasHooksLeft H.counts board.old seat actor.old actor.new) }
+    ensures kept { hooks_beside board.new actor.new ≡ hooks_beside board.old actor.old }
     ensures last_end { (last_end.old ≤ last_end.new) × (last_end.new ≤ length board.new.events) }
     ensures ends { OnOk result (last_end.new ≡ last_end.old →
-        EndsNothing (event_for board.old.head board.old.events seat (asked actor.old))) }
+        EndsNothing (event_by board.old seat actor.old)) }
     ensures waits { OnOk result (KnowsWait board.new.head board.new.events last_end.new seat actor.new) }
     ensures err { OnErr result ((board.new ≡ board.old) × (actor.new ≡ actor.old)) }
     ensures still { OnErr result (last_end.new ≡ last_end.old) }
@@ -86,8 +76,7 @@ fn note_wait<H: Hook>(actor: &mut Actor<H>, turn: Turn, board: &Board<H>, seat: 
 fn end_after(journal: &Journal, last_end: u32) -> u32
     requires { last_end ≤ length journal.now.events }
     ensures within { (last_end ≤ result) × (result ≤ length journal.now.events) }
-    ensures ends { (before : List AnEvent) (event : AnEvent) → journal.now.events ≡ before ++ event ∷ [] →
-        last_end ≤ length before → result ≡ last_end → is_end event ≡ false }
+    ensures ends { IsLastEnd journal.now.events last_end result }
 {
     match journal.events().last() {
         Some(event) if is_end(event) => journal.len(),

@@ -1,6 +1,7 @@
 -- What a seat may ask for after a turn: its own, that goes on, and every other's.
 use Rattle.std.proofs.Common.{◌≡◌, ◌≢◌, ℕ, Option, Some, None, List, [], ◌∷◌, ◌++◌, inl, inr, refl, sym, ap, ◌∙◌, subst}
 use Rattle.std.proofs.lemmas.Bool.{ne_eqb}
+use Rattle.hp_states.proofs.Basics.{none_some, same_some}
 use Rattle.hp_event.specs.declared.answer.Answer.{Answer}
 use Rattle.hp_event.specs.declared.op.Op.{Op}
 use Rattle.hp_event.specs.declared.head.Head.{Head}
@@ -16,7 +17,6 @@ use Rattle.hp_model.specs.Seats.{role_of, role_step}
 use Rattle.hp_model.proofs.DueGives.{due_stands}
 use Rattle.hp_model.proofs.Laws.{operation_push, registration_push, role_push}
 use Rattle.hp_model.proofs.NextStands.{next_stands, next_belongs}
-use Rattle.hp_model.proofs.Owners.{same_some, none_some}
 use Rattle.hp_locks.specs.declared.why.Why.TheVariants.{HookOut, Idle}
 use Rattle.hp_board.specs.declared.turn.Turn.{Turn}
 use Rattle.hp_board.specs.declared.turn.Turn.TheVariants.{Made, Answered, NotYet}

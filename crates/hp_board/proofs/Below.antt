@@ -1,6 +1,7 @@
 -- The processors that hooks are lent for are possible ones, of which there are few.
 use Rattle.std.proofs.Common.{◌≡◌, ℕ, ◌<◌, ◌≤◌, true, false, ltb, ◌∙◌, sym, subst, ⊎_elim, arith}
 use Rattle.std.proofs.lemmas.Bool.Decides.{nat_tests}
+use Rattle.hp_states.proofs.Basics.{cases_bool}
 use Rattle.hp_states.specs.CpuSets.{has}
 use Rattle.hp_states.specs.declared.limits.TheConstants.{MAX_CPU_SET}
 use Rattle.hp_model.specs.Lawful.{IsLawful}
@@ -9,7 +10,6 @@ use Rattle.hp_model.proofs.EntryProcessors.{call_below}
 use Rattle.hp_machine.proofs.Below.{call_in_set}
 use Rattle.hp_board.specs.Contents.{Contents}
 use Rattle.hp_board.specs.Loans.{AreOut}
-use Rattle.hp_board.proofs.Loans.{bool_is}
 
 pub lent_in_set : (b : Contents) (c : ℕ) → IsLawful b.head b.events → AreOut b → has b.lent c ≡ true → c < MAX_CPU_SET
 lent_in_set b c lawful out lent =
@@ -32,7 +32,7 @@ pub too_high : (b : Contents) (c : ℕ) → IsLawful b.head b.events → AreOut 
 too_high b c lawful out high =
     not_below c high
     ∙ sym (⊎_elim (λ lent. let below = lent_in_set b c lawful out lent in absurd (omega (arith, below, high))) (λ no. no)
-    (bool_is (has b.lent c)))
+    (cases_bool (has b.lent c)))
   where
     not_below : (n : ℕ) → MAX_CPU_SET ≤ n → ltb n MAX_CPU_SET ≡ false
     not_below n h = grind (arith, nat_tests)

@@ -1,6 +1,8 @@
 -- Whether a seat is busy after one event more, and the hook of the ask that comes next.
-use Rattle.std.proofs.Common.{◌≡◌, ◌≢◌, ℕ, Bool, true, false, cond, not, ◌&&◌, ◌||◌, inl, inr, Option, Some, None, List, [], ◌∷◌, ◌++◌, refl, sym, ap, ◌∙◌, subst}
+use Rattle.std.proofs.Common.{◌≡◌, ◌≢◌, ℕ, Bool, true, false, cond, not, ◌&&◌, ◌||◌, Option, Some, None, List, [], ◌∷◌, ◌++◌, refl, sym, ap, ◌∙◌, subst}
 use Rattle.std.proofs.lemmas.Bool.{true≢false, eq-eqb, ne_eqb}
+use Rattle.hp_model.proofs.CompletesProof.{holder}
+use Rattle.hp_states.proofs.Basics.{or_true, none_of, none_some, same_some}
 use Rattle.hp_event.specs.declared.answer.Answer.{Answer}
 use Rattle.hp_event.specs.declared.op.Op.{Op}
 use Rattle.hp_event.specs.declared.op.Op.TheVariants.{Setup}
@@ -11,20 +13,18 @@ use Rattle.hp_event.specs.declared.event.Event.TheVariants.{Enter, OpEnd, Refuse
 use Rattle.hp_model.specs.Events.{seat_of, answer_by}
 use Rattle.hp_model.specs.FirstEvent.{first_event, is_client, refused_or_begun, reg_begin}
 use Rattle.hp_model.specs.Lawful.{Comes, Stands}
-use Rattle.hp_model.specs.MapLock.{Operation, operation, operation_step}
+use Rattle.hp_model.specs.MapLock.{operation, operation_step}
 use Rattle.hp_model.specs.NextEvent.{next_event, next_in_flight, if_room}
 use Rattle.hp_model.specs.Refusals.{refusal}
 use Rattle.hp_model.specs.Registrations.{registration, registration_step}
 use Rattle.hp_model.specs.Resolved.{resolved}
 use Rattle.hp_model.specs.Room.{has_room}
 use Rattle.hp_model.specs.Seats.{is_busy, holds_map, registers, role_of}
-use Rattle.hp_model.specs.StandsOperations.{OpEnds}
 use Rattle.hp_model.specs.Subsystems.{names_sub}
 use Rattle.hp_model.specs.Waits.{is_waiting}
-use Rattle.hp_model.proofs.InFlight.{none_of}
 use Rattle.hp_model.proofs.Laws.{operation_push, registration_push}
 use Rattle.hp_model.proofs.NextStands.{next_stands}
-use Rattle.hp_model.proofs.Owners.{map_free, none_some, same_some}
+use Rattle.hp_model.proofs.Owners.{map_free}
 use Rattle.hp_model.proofs.Passing.{begins_alone}
 use Rattle.hp_account.specs.TableChanges.{is_setup, brings_hook, hands_hook}
 use Rattle.hp_board.specs.Hooks.{has_hook, has_hook_after}
@@ -35,19 +35,13 @@ busy_after k xs e = holds_map k (operation_step (operation xs) xs e) || register
 busy_push : (k : ℕ) (xs : List Event) (e : Event) → is_busy k (xs ++ e ∷ []) ≡ busy_after k xs e
 busy_push k xs e = rw (operation_push xs e, registration_push xs e) refl
 
--- an operation that ends is its seat's
-ended : (head : Head) (xs : List Event) (seat : ℕ) (answer : Answer) → OpEnds head xs seat answer →
-    (o : Operation) × (operation xs ≡ Some o) × (o.seat ≡ seat)
-ended head xs seat answer (inl over) = (over.of, over.held, over.seat_is)
-ended head xs seat answer (inr cut) = (cut.begins.of, cut.begins.held, cut.begins.seat_is)
-
 keeps : (head : Head) (xs : List Event) (e : Event) (k : ℕ) → Comes head xs e → seat_of e ≢ k → busy_after k xs e ≡ is_busy k xs
 keeps head xs (Enter seat op) k h other =
     let free = map_free xs op h.takes_map h.passes.not_waiting in
     let apart = ne_eqb seat k other in
     rw (free, apart) refl
 keeps head xs (OpEnd seat answer) k h other =
-    let o = ended head xs seat answer h in
+    let o = holder head xs seat answer h in
     let apart = ne_eqb o.0.seat k (λ is. other (sym o.2 ∙ is)) in
     rw (o.1, apart) refl
 keeps head xs (RegBegin seat state op) k h other =
@@ -63,14 +57,6 @@ keeps head xs e k h other = refl
 pub others_keep : (head : Head) (xs : List Event) (e : Event) (k : ℕ) → Stands head xs e → seat_of e ≢ k →
     is_busy k (xs ++ e ∷ []) ≡ is_busy k xs
 others_keep head xs e k stands other = busy_push k xs e ∙ keeps head xs e k stands.0 other
-
-or_true : (b : Bool) → (b || true) ≡ true
-or_true true = refl
-or_true false = refl
-
-or_false : (b : Bool) → (b || false) ≡ b
-or_false true = refl
-or_false false = refl
 
 stays : (xs : List Event) (e : Event) (k : ℕ) → seat_of e ≡ k → answer_by e ≡ None → is_busy k xs ≡ true →
     busy_after k xs e ≡ true

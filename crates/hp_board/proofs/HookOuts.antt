@@ -2,6 +2,8 @@
 use Rattle.std.proofs.Common.{◌≡◌, ℕ, true, false, Option, Some, None, inl, inr, ◌⊎◌, sym, ap, ◌∙◌}
 use Rattle.std.proofs.lemmas.Bool.{true≢false, false≢true, eqb-true, and_parts}
 use Rattle.std.specs.Prelude.{is_some}
+use Rattle.hp_machine.proofs.ThreadsWaited.{one_wait}
+use Rattle.hp_states.proofs.Basics.{same_some, some_none}
 use Rattle.hp_event.specs.declared.op.Op.{Op}
 use Rattle.hp_event.specs.declared.event.Event.{Event}
 use Rattle.hp_event.specs.declared.event.Event.TheVariants.{Armed, Call}
@@ -20,17 +22,11 @@ use Rattle.hp_locks.specs.declared.why.Why.TheVariants.{MapsHeld, WriterIn, Read
 use Rattle.hp_board.specs.Contents.{Contents}
 use Rattle.hp_board.specs.Loans.{IsOutFor, WaitsForThread, WaitsToArm}
 use Rattle.hp_board.proofs.Loans.{state_in}
-use Rattle.hp_board.proofs.OwnEntries.{one_thread, one_asked}
+use Rattle.hp_board.proofs.OwnEntries.{one_asked}
 use Rattle.hp_board.specs.Turns.{IsHookOut, IsNotYet, turn_by}
 use Rattle.hp_board.specs.declared.turn.Turn.{Turn}
 use Rattle.hp_board.specs.declared.turn.Turn.TheVariants.{Made, Answered, NotYet}
 use Rattle.hp_event.specs.declared.answer.Answer.{Answer}
-
-some_none : {A : Type 0} (x : A) → Some x ≡ None → ⊥
-some_none x h = cc
-
-same_some : {A : Type 0} (a b : A) → Some a ≡ Some b → a ≡ b
-same_some a b h = cc
 
 -- what comes next and arms nobody whose hook is away doesn't wait for one
 pub comes_unless : (b : Contents) (s k : ℕ) (op : Op) (e : Event) → next_event b.head b.events k op ≡ Some e →
@@ -52,15 +48,15 @@ armed_one (Armed seat cpu value) c d h g = sym (eqb-true cpu c h) ∙ eqb-true c
 armed_one e c d h g = absurd (false≢true h)
 
 -- of two waits for a hook both are for one
-pub one_wait : (b : Contents) (s t k : ℕ) (op : Op) → IsLawful b.head b.events → IsHookOut s k op b → IsHookOut t k op b → s ≡ t
-one_wait b s t k op lawful (inl w) (inl v) =
+pub one_hook_out : (b : Contents) (s t k : ℕ) (op : Op) → IsLawful b.head b.events → IsHookOut s k op b → IsHookOut t k op b → s ≡ t
+one_hook_out b s t k op lawful (inl w) (inl v) =
     let a = w.kept.why_is in
     let c = v.kept.why_is in
-    let same = one_thread b.head b.events k w.cpu v.cpu lawful a c in
+    let same = one_wait b.head b.events k w.cpu v.cpu lawful a c in
     same_some s t (sym w.asks ∙ (one_asked b.head b.events k w.cpu v.cpu a c lawful same ∙ v.asks))
-one_wait b s t k op lawful (inl w) (inr v) = absurd (some_none v.event (sym v.next_is ∙ w.kept.no_event))
-one_wait b s t k op lawful (inr w) (inl v) = absurd (some_none w.event (sym w.next_is ∙ v.kept.no_event))
-one_wait b s t k op lawful (inr w) (inr v) =
+one_hook_out b s t k op lawful (inl w) (inr v) = absurd (some_none v.event (sym v.next_is ∙ w.kept.no_event))
+one_hook_out b s t k op lawful (inr w) (inl v) = absurd (some_none w.event (sym w.next_is ∙ v.kept.no_event))
+one_hook_out b s t k op lawful (inr w) (inr v) =
     let o = w.out in
     let p = v.out in
     let is = same_some w.event v.event (sym w.next_is ∙ v.next_is) in
@@ -90,7 +86,7 @@ waits_out b s k op why lawful allowed h = of why
     no_thread cpu kept none (inr t) = some_none t.event (sym t.next_is ∙ kept.no_event)
 
     of : (why : Why) → IsNotYet k op b why → why ≡ HookOut s
-    of (HookOut t) is = ap HookOut (one_wait b t s k op lawful is h)
+    of (HookOut t) is = ap HookOut (one_hook_out b t s k op lawful is h)
     of (ApTurn cpu) is = absurd (no_thread cpu is.0 is.1 h)
     of (MapsHeld seat) is = absurd (apart _ is.why_is is.no_event)
     of (WriterIn seat) is = absurd (apart _ is.why_is is.no_event)

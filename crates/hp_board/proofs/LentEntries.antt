@@ -1,9 +1,9 @@
 -- The entry of a processor that a hook is lent for, by what the machine says of the entries that are due.
 use Rattle.std.proofs.Common.{◌≡◌, ℕ, ◌<◌, ◌≤◌, true, Option, Some, None, IfSome, IfNone, ap, sym, ◌∙◌, arith}
+use Rattle.hp_states.proofs.Basics.{same_some, some_none}
 use mathlib.Core.Logic.{dite}
 use native.Mathlib.Decide.{ℕ_discrete}
 use Rattle.hp_states.specs.CpuSets.{has}
-use Rattle.hp_event.specs.declared.event.Event.{Event}
 use Rattle.hp_event.specs.declared.event.Event.TheVariants.{Call}
 use Rattle.hp_model.specs.How.{answer_at}
 use Rattle.hp_model.specs.Lawful.{IsLawful}
@@ -17,12 +17,6 @@ use Rattle.hp_board.specs.Contents.{Contents}
 use Rattle.hp_board.specs.Loans.{AreOut, IsOutFor}
 use Rattle.hp_board.proofs.Below.{lent_possible}
 use Rattle.hp_board.proofs.Loans.{out_there}
-
-some_none : {A : Type 0} (x : A) → Some x ≡ None → ⊥
-some_none x e = cc
-
-same_event : (x y : Event) → Some x ≡ Some y → x ≡ y
-same_event x y e = cc
 
 -- an entry of it is due
 is_due : (b : Contents) (c : ℕ) → AreOut b → has b.lent c ≡ true → (seat : ℕ) × IsDueOn b.head b.events c seat
@@ -53,7 +47,7 @@ pub entry_found : (b : Contents) (c d k : ℕ) (x : Entry) → AreOut b → has 
 entry_found b c d k x out lent found due =
     let e = entry_event b.head b.events x in
     let seat : x.seat ≡ k = (due_stands b.head b.events k e due).2 in
-    let same = same_event e found.1.entry (sym due ∙ found.1.due) in (
+    let same = same_some e found.1.entry (sym due ∙ found.1.due) in (
       ap (due_entry b.head b.events) seat ∙ due,
       ap cpu_of same ∙ (found.1.cpu_is ∙ first_is b c d out lent found.0 found.2),
     )

@@ -1,6 +1,7 @@
 -- What is lent, and for which entries: hooks are lent for entries that are due, each of another processor and for another state.
-use Rattle.std.proofs.Common.{◌≡◌, ℕ, Bool, true, false, ◌&&◌, not, is_some, cond, Option, Some, None, IfSome, List, refl, ap, sym, ◌∙◌, subst, inl, inr, ◌⊎◌, ⊎_elim, arith}
+use Rattle.std.proofs.Common.{◌≡◌, ℕ, Bool, true, false, ◌&&◌, not, is_some, cond, Option, Some, None, IfSome, List, refl, ap, sym, ◌∙◌, subst, ◌⊎◌, ⊎_elim, arith}
 use Rattle.std.proofs.lemmas.Bool.{true≢false, false≢true}
+use Rattle.hp_states.proofs.Basics.{cases_bool, none_some, same_some}
 use Rattle.hp_states.specs.CpuSets.{has}
 use Rattle.hp_states.specs.declared.dir.Dir.{Dir}
 use Rattle.hp_states.specs.Rules.{counts_of}
@@ -28,22 +29,12 @@ use Rattle.hp_hook.specs.Counted.{Counts}
 use Rattle.hp_table.specs.Step.{Step, step_at, is_home, AllHome}
 use Rattle.hp_account.specs.TableChanges.{is_registering}
 use Rattle.hp_account.specs.declared.under_way.Entry.{Entry}
-use Rattle.hp_account.specs.declared.under_way.Means.{Means}
-use Rattle.hp_account.specs.declared.under_way.Means.TheVariants.{Presumed, Empty, Injected, Hook}
+use Rattle.hp_account.specs.declared.under_way.MadeBy.{MadeBy}
+use Rattle.hp_account.specs.declared.under_way.MadeBy.TheVariants.{Presumed, Empty, Injected, Hook}
 use Rattle.hp_account.specs.Entries.{entry_event, how_by, how_of_means}
 use Rattle.hp_board.specs.Contents.{Contents}
 use Rattle.hp_board.specs.Answered.{aside_of}
 use Rattle.hp_board.specs.Loans.{IsLoan, is_hook, aside_at, loan_of, loan, IsOutFor, AreOut}
-
-none_some : {A : Type 0} (x : A) → None ≡ Some x → ⊥
-none_some x e = cc e
-
-same_aside : (x y : Aside) → Some x ≡ Some y → x ≡ y
-same_aside x y e = cc
-
-pub bool_is : (b : Bool) → (b ≡ true) ⊎ (b ≡ false)
-bool_is true = inl refl
-bool_is false = inr refl
 
 abbrev pub called_in : Event → Bool
 called_in (Call seat cpu state inst dir how) = is_called how
@@ -65,11 +56,11 @@ none_out b all none =
 -- hooks are lent for no processor exactly where all are home
 pub home_of_none : (b : Contents) → AreOut b → ((c : ℕ) → has b.lent c ≡ false) → AllHome b.places
 home_of_none b out none s = ⊎_elim (λ is. is)
-    (λ away. let o = out.only s away in absurd (true≢false (sym o.lent ∙ none o.cpu))) (bool_is (is_home (step_at b.places s)))
+    (λ away. let o = out.only s away in absurd (true≢false (sym o.lent ∙ none o.cpu))) (cases_bool (is_home (step_at b.places s)))
 
 pub none_of_home : (b : Contents) → AreOut b → AllHome b.places → (c : ℕ) → has b.lent c ≡ false
 none_of_home b out all c = ⊎_elim
-    (λ lent. let w = out.each c lent in absurd (true≢false (sym (all w.state) ∙ w.out.away))) (λ is. is) (bool_is (has b.lent c))
+    (λ lent. let w = out.each c lent in absurd (true≢false (sym (all w.state) ∙ w.out.away))) (λ is. is) (cases_bool (has b.lent c))
 
 -- the entry of a processor that a hook is lent for
 pub out_there : (b : Contents) (k j c s i : ℕ) (d : Dir) (how : How) → IsLawful b.head b.events → AreOut b →
@@ -110,7 +101,7 @@ home_beside_begin b k t op out stands s = ⊎_elim (λ is. is)
     (λ away. let o = out.only s away in
     let calls = due_calls b.head b.events o.seat o.seat o.cpu s o.inst o.dir o.how o.due in
     absurd (no_registration_begins b.head b.events o.seat o.cpu s o.inst o.dir o.how k t op calls.0 stands.0))
-    (bool_is (is_home (step_at b.places s)))
+    (cases_bool (is_home (step_at b.places s)))
 
 pub home_beside_end : (b : Contents) (k : ℕ) (answer : _) → IsLawful b.head b.events → AreOut b → Stands b.head b.events (RegEnd k answer) →
     AllHome b.places
@@ -118,7 +109,7 @@ home_beside_end b k answer lawful out stands s = ⊎_elim (λ is. is)
     (λ away. let o = out.only s away in
     let calls = due_calls b.head b.events o.seat o.seat o.cpu s o.inst o.dir o.how o.due in
     absurd (no_registration_ends b.head b.events o.seat o.cpu s o.inst o.dir o.how k answer lawful calls.0 stands.0))
-    (bool_is (is_home (step_at b.places s)))
+    (cases_bool (is_home (step_at b.places s)))
 
 pub home_beside : (b : Contents) (e : Event) → IsLawful b.head b.events → AreOut b → Stands b.head b.events e → is_registering e ≡ true →
     AllHome b.places
@@ -169,7 +160,7 @@ at_step c i s d (Some step) a is = go step.kept.home refl is
           step = step;
           there = refl;
           away = e;
-          aside_is = sym (same_aside (aside_of c (record { state = s; inst = i }) d step.kept.counts) a is);
+          aside_is = sym (same_some (aside_of c (record { state = s; inst = i }) d step.kept.counts) a is);
         }
 
 if_lent : (h : Bool) (o : Option Aside) (a : Aside) → cond h o None ≡ Some a → (h ≡ true) × (o ≡ Some a)
@@ -228,32 +219,32 @@ disarms_not es k c s i d how e h = go (is_some (walk c es))
     go false = refl
 
 -- an entry by its hook, and not
-means_hook : (m : Means) (answered : How) → is_called answered ≡ true → is_called (how_of_means m answered) ≡ true → m ≡ Hook
+means_hook : (m : MadeBy) (answered : How) → is_called answered ≡ true → is_called (how_of_means m answered) ≡ true → m ≡ Hook
 means_hook Presumed answered a is = absurd (false≢true is)
 means_hook Empty answered a is = absurd (false≢true is)
 means_hook Injected answered a is = absurd (false≢true is)
 means_hook Hook answered a is = refl
 
 -- whether an entry asks its hook
-asks_by : (m : Means) (answered : How) → is_called answered ≡ true → is_called (how_of_means m answered) ≡ is_hook m
+asks_by : (m : MadeBy) (answered : How) → is_called answered ≡ true → is_called (how_of_means m answered) ≡ is_hook m
 asks_by Presumed answered a = refl
 asks_by Empty answered a = refl
 asks_by Injected answered a = refl
 asks_by Hook answered a = a
 
-pub hook_is : (m : Means) → is_hook m ≡ true → m ≡ Hook
+pub hook_is : (m : MadeBy) → is_hook m ≡ true → m ≡ Hook
 hook_is Hook h = refl
 hook_is m h = absurd (false≢true h)
 
 pub asks_hook : (head : Head) (es : List Event) (x : Entry) →
-    is_called (how_by x (answer_of_plan head es x.cpu x.key.state x.key.inst x.dir)) ≡ is_hook x.means
+    is_called (how_by x (answer_of_plan head es x.cpu x.key.state x.key.inst x.dir)) ≡ is_hook x.made_by
 asks_hook head es x =
     let code = answer_of_plan head es x.cpu x.key.state x.key.inst x.dir in
-    asks_by x.means (how_answered (can_fail x.dir x.key.state x.place) code) (answered_called (can_fail x.dir x.key.state x.place) code)
+    asks_by x.made_by (how_answered (can_fail x.dir x.key.state x.place) code) (answered_called (can_fail x.dir x.key.state x.place) code)
 
 pub called_by_hook : (head : Head) (es : List Event) (x : Entry) →
-    is_called (how_by x (answer_of_plan head es x.cpu x.key.state x.key.inst x.dir)) ≡ true → x.means ≡ Hook
-called_by_hook head es x called = hook_is x.means (sym (asks_hook head es x) ∙ called)
+    is_called (how_by x (answer_of_plan head es x.cpu x.key.state x.key.inst x.dir)) ≡ true → x.made_by ≡ Hook
+called_by_hook head es x called = hook_is x.made_by (sym (asks_hook head es x) ∙ called)
 
 -- the entry that is due, where something is lent for it
 pub record IsLentBy (b : Contents) (x : Entry) (a : Aside) : Type 0 where
@@ -261,7 +252,7 @@ pub record IsLentBy (b : Contents) (x : Entry) (a : Aside) : Type 0 where
   pub there : step_at b.places x.key.state ≡ Some step
   pub away : step.kept.home ≡ false
   pub lent : has b.lent x.cpu ≡ true
-  pub means : x.means ≡ Hook
+  pub made_by : x.made_by ≡ Hook
   pub cpu_is : a.cpu ≡ x.cpu
   pub aside_is : a ≡ aside_of x.cpu x.key x.dir step.kept.counts
 
@@ -278,7 +269,7 @@ lent_by b by x a lawful out due is =
       there = l.there;
       away = l.away;
       lent = h.0;
-      means = called_by_hook b.head b.events x o.1;
+      made_by = called_by_hook b.head b.events x o.1;
       cpu_is = ap (λ (z : Aside). z.cpu) l.aside_is;
       aside_is = l.aside_is;
     }

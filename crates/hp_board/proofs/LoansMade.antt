@@ -1,6 +1,7 @@
 -- A hook that is lent: what is out then, and what is lent.
 use Rattle.std.proofs.Common.{◌≡◌, ◌≢◌, ℕ, Bool, true, false, ◌||◌, eqb, IsSome, cond, Option, Some, None, refl, ap, sym, ◌∙◌, subst}
 use Rattle.std.proofs.lemmas.Bool.{true≢false, eq-eqb, ne_eqb, and_parts}
+use Rattle.hp_states.proofs.Basics.{or_true}
 use mathlib.Core.Logic.{dite}
 use native.Mathlib.Decide.{ℕ_discrete}
 use Rattle.hp_states.specs.CpuSets.{has}
@@ -19,10 +20,10 @@ use Rattle.hp_model.proofs.EntryStays.{due_one}
 use Rattle.hp_table.specs.Step.{Step, step_at, changed, changed_at, lent_step, is_home}
 use Rattle.hp_table.proofs.Places.{step_at-changed_same, step_at-set_other}
 use Rattle.hp_account.specs.declared.under_way.Entry.{Entry}
-use Rattle.hp_account.specs.declared.under_way.Means.TheVariants.{Hook}
+use Rattle.hp_account.specs.declared.under_way.MadeBy.TheVariants.{Hook}
 use Rattle.hp_account.specs.Entries.{entry_event, how_by}
 use Rattle.hp_account.specs.Table.{IsTableOf}
-use Rattle.hp_machine.proofs.Entries.{by_hook}
+use Rattle.hp_machine.proofs.MadeEntries.{by_hook}
 use Rattle.hp_board.specs.Answered.{aside_of}
 use Rattle.hp_board.specs.Contents.{Contents}
 use Rattle.hp_board.specs.Loans.{aside_at, can_lend, is_hook, loan_of, loan, IsOutFor, IsOutOn, AreOut}
@@ -43,22 +44,22 @@ pub record CanLend (b : Contents) (by : ℕ) (x : Entry) : Type 0 where
   pub lawful : IsLawful b.head b.events
   pub out : AreOut b
   pub due : due_entry b.head b.events by ≡ Some (entry_event b.head b.events x)
-  pub means : x.means ≡ Hook
+  pub made_by : x.made_by ≡ Hook
   pub step : Step
   pub there : step_at b.places x.key.state ≡ Some step
   pub home : step.kept.home ≡ true
 
 pub can_lend_it : (b : Contents) (by : ℕ) (x : Entry) → IsLawful b.head b.events → AreOut b → IsTableOf b.head b.events b.places →
-    due_entry b.head b.events by ≡ Some (entry_event b.head b.events x) → x.means ≡ Hook → is_home (step_at b.places x.key.state) ≡ true →
+    due_entry b.head b.events by ≡ Some (entry_event b.head b.events x) → x.made_by ≡ Hook → is_home (step_at b.places x.key.state) ≡ true →
     CanLend b by x
-can_lend_it b by x lawful out table due means home =
+can_lend_it b by x lawful out table due made_by home =
     let stands = (due_stands b.head b.events by (entry_event b.head b.events x) due).0 in
-    let h = by_hook b.head b.events b.places x lawful table stands means in
+    let h = by_hook b.head b.events b.places x lawful table stands made_by in
     record {
       lawful = lawful;
       out = out;
       due = due;
-      means = means;
+      made_by = made_by;
       step = h.step;
       there = h.there;
       home = sym (ap is_home h.there) ∙ home;
@@ -66,19 +67,15 @@ can_lend_it b by x lawful out table due means home =
 
 -- an entry that is due and can't be lent: its hook is none, or away
 pub cannot_lend : (b : Contents) (by : ℕ) (x : Entry) → IsLawful b.head b.events → IsTableOf b.head b.events b.places →
-    due_entry b.head b.events by ≡ Some (entry_event b.head b.events x) → x.means ≡ Hook →
+    due_entry b.head b.events by ≡ Some (entry_event b.head b.events x) → x.made_by ≡ Hook →
     (IsSome (step_at b.places x.key.state) × (is_home (step_at b.places x.key.state) ≡ true) → ⊥) →
     can_lend (due_entry b.head b.events by) b.places ≡ true → ⊥
-cannot_lend b by x lawful table due means never can =
+cannot_lend b by x lawful table due made_by never can =
     let stands = (due_stands b.head b.events by (entry_event b.head b.events x) due).0 in
-    let h = by_hook b.head b.events b.places x lawful table stands means in
+    let h = by_hook b.head b.events b.places x lawful table stands made_by in
     let p = and_parts (is_called (how_by x (code_of b x))) (is_home (step_at b.places x.key.state))
     (sym (ap (λ e. can_lend e b.places) due) ∙ can) in
     never (subst (λ o. IsSome o) (sym h.there) refl, p.1)
-
-or_true : (b : Bool) → (b || true) ≡ true
-or_true true = refl
-or_true false = refl
 
 put_old : (old new : CpuSet) (c d : ℕ) → PutInto old new c → has old d ≡ true → has new d ≡ true
 put_old old new c d put is = put d ∙ (ap (λ z. eqb d c || z) is ∙ or_true (eqb d c))
@@ -117,7 +114,7 @@ mine b by x lent can put =
       dir = x.dir;
       how = how_by x (code_of b x);
       due = ap (due_entry b.head b.events) (seat_is b by x can) ∙ can.due;
-      called = asks_hook b.head b.events x ∙ ap is_hook can.means;
+      called = asks_hook b.head b.events x ∙ ap is_hook can.made_by;
       lent = put_new b.lent lent x.cpu put;
       away = ap is_home (lent_here b by x lent can);
     }

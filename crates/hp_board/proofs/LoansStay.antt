@@ -1,6 +1,7 @@
 -- What is lent stays so where a board goes on: after an event of a seat that nothing is lent to, and where one hook comes home.
 use Rattle.std.proofs.Common.{◌≡◌, ◌≢◌, ℕ, Bool, true, false, ◌&&◌, not, eqb, cond, Option, Some, None, List, [], ◌∷◌, ◌++◌, refl, ap, sym, ◌∙◌, subst}
 use Rattle.std.proofs.lemmas.Bool.{true≢false, false≢true, eqb-true, eq-eqb, ne_eqb, and_parts}
+use Rattle.hp_states.proofs.Basics.{none_some, same_some}
 use Rattle.hp_states.specs.CpuSets.{has}
 use Rattle.hp_states.specs.Rules.{site_at}
 use Rattle.hp_states.specs.Sections.{is_ap_state}
@@ -25,12 +26,6 @@ use Rattle.hp_board.specs.Answered.{aside_of}
 use Rattle.hp_board.specs.Contents.{Contents, with_event}
 use Rattle.hp_board.specs.Loans.{aside_at, loan_of, loan, IsOutFor, AreOut, IsCalm}
 use Rattle.hp_board.proofs.Loans.{IsLent, lent_to, out_of, not_mine, disarms_not, called_in, state_in, home_beside_begin, home_beside_end}
-
-none_some : {A : Type 0} (x : A) → None ≡ Some x → ⊥
-none_some x e = cc e
-
-same_aside : (x y : Aside) → Some x ≡ Some y → x ≡ y
-same_aside x y e = cc
 
 -- A board goes on: hooks are lent for fewer processors or the same, whose entries stay due, at states that stay as they are; and each hook
 -- that is away is one of these.
@@ -274,9 +269,6 @@ was_in old new c d taken is =
 pub taken_out : (old new : CpuSet) (c : ℕ) → TakenFrom old new c → has new c ≡ true → ⊥
 taken_out old new c taken is = (was_in old new c c taken is).0 refl
 
-same_event : (x y : Event) → Some x ≡ Some y → x ≡ y
-same_event x y e = cc
-
 -- the hook of a seat comes home, and the entry is made by its answer
 given_lent : (b : Contents) (by : ℕ) (a : Aside) (lent : CpuSet) → IsLawful b.head b.events → AreOut b → (l : IsLent b by a) →
     Stands b.head b.events (Call by a.cpu l.state l.inst a.dir l.how) → TakenFrom b.lent lent a.cpu →
@@ -306,7 +298,7 @@ given_lent b by a lent lawful out l stands taken =
     other_seat : (s : ℕ) (o : IsOutFor b s) → by ≡ o.seat → o.cpu ≡ a.cpu
     other_seat s o same =
         let both = sym o.due ∙ (ap (due_entry b.head b.events) (sym same) ∙ l.due) in
-        ap cpu_of (same_event (Call o.seat o.cpu s o.inst o.dir o.how) (Call by a.cpu l.state l.inst a.dir l.how) both)
+        ap cpu_of (same_some (Call o.seat o.cpu s o.inst o.dir o.how) (Call by a.cpu l.state l.inst a.dir l.how) both)
 
     here : (s : ℕ) (o : IsOutFor b s) → l.state ≡ s → o.cpu ≡ a.cpu
     here s o same =
@@ -354,7 +346,7 @@ pub given : (b : Contents) (by : ℕ) (a : Aside) (e : Event) (lent : CpuSet) �
     Goes b (with_event (record b { lent = lent }) e)
 given b by a e lent lawful out is due stands taken =
     let l = lent_to b by a is in
-    let same = same_event (Call by a.cpu l.state l.inst a.dir l.how) e (sym l.due ∙ due) in
+    let same = same_some (Call by a.cpu l.state l.inst a.dir l.how) e (sym l.due ∙ due) in
     subst (λ x. Goes b (with_event (record b { lent = lent }) x)) same
     (given_lent b by a lent lawful out l (subst (Stands b.head b.events) (sym same) stands) taken)
 
@@ -367,7 +359,7 @@ given_home b n by a out g is taken = go (loan n by) refl
     go None e = refl
     go (Some x) e =
         let was = loan_back b n by x out g e in
-        let same = same_aside x a (sym was ∙ is) in
+        let same = same_some x a (sym was ∙ is) in
         absurd (taken_out b.lent n.lent a.cpu taken (subst (λ (z : Aside). has n.lent z.cpu ≡ true) same (lent_to n by x e).lent))
 
 pub given_others : (b n : Contents) (by k : ℕ) (a : Aside) → AreOut b → Goes b n → loan b by ≡ Some a → TakenFrom b.lent n.lent a.cpu →

@@ -1,6 +1,7 @@
 -- An entry that is a client's own to make calls no hook that is lent to another seat; and a client waits for one thread.
-use Rattle.std.proofs.Common.{◌≡◌, ℕ, Bool, true, false, ◌&&◌, not, is_none, cond, Option, Some, None, List, refl, ap, sym, ◌∙◌, subst, inl, inr, ◌⊎◌, ⊎_elim}
-use Rattle.std.proofs.lemmas.Bool.{false≢true, eqb-true, eq-eqb, and_parts}
+use Rattle.std.proofs.Common.{◌≡◌, ℕ, Bool, true, false, ◌&&◌, not, cond, Some, None, List, refl, ap, sym, ◌∙◌, subst, inl, inr, ◌⊎◌, ⊎_elim}
+use Rattle.std.proofs.lemmas.Bool.{false≢true}
+use Rattle.hp_states.proofs.Basics.{cases_bool, same_some, some_none}
 use Rattle.hp_states.specs.declared.dir.Dir.{Dir}
 use Rattle.hp_states.specs.Sections.{is_ap_state}
 use Rattle.hp_event.specs.Hows.{is_called}
@@ -9,41 +10,30 @@ use Rattle.hp_event.specs.declared.how.How.TheVariants.{RanOk, RanFault, Injecte
 use Rattle.hp_event.specs.declared.event.Role.TheVariants.{Client}
 use Rattle.hp_event.specs.declared.head.Head.{Head}
 use Rattle.hp_event.specs.declared.event.Event.{Event}
-use Rattle.hp_model.specs.ApTurn.{IsApTurn, is_held_up}
-use Rattle.hp_model.specs.Batch.{is_upmany, to_begin}
-use Rattle.hp_model.specs.BatchTurn.{turn_of, is_it, brings_up, lowest_walking}
+use Rattle.hp_model.specs.ApTurn.{IsApTurn}
 use Rattle.hp_model.specs.Caller.{is_presumed, is_made_by_ap}
 use Rattle.hp_model.specs.How.{answer_at as answer_of_plan}
 use Rattle.hp_model.specs.Lawful.{IsLawful}
-use Rattle.hp_model.specs.Lists.{is_empty}
 use Rattle.hp_model.specs.MapLock.{Operation, operation}
 use Rattle.hp_model.specs.NextEvent.{due_entry}
 use Rattle.hp_model.specs.Registrations.{Registration, registration}
 use Rattle.hp_model.specs.Seats.{ap_seat, role_of}
 use Rattle.hp_model.specs.StandsCalls.{Calls, WalkEntry, RegistrationEntry}
-use Rattle.hp_model.specs.Suspend.{held_by}
 use Rattle.hp_model.proofs.EntryStays.{due_calls}
 use Rattle.hp_model.proofs.Induction.{kept}
 use Rattle.hp_model.proofs.Kept.{WalkKept}
 use Rattle.hp_model.proofs.OneNext.{owners}
 use Rattle.hp_model.proofs.OneRegistration.{same_registration_entry}
 use Rattle.hp_model.proofs.OneEntry.{SameEntry, one_walk_entry}
-use Rattle.hp_model.proofs.Owners.{Owners}
 use Rattle.hp_model.proofs.Stages.{ap_no_client}
 use Rattle.hp_table.specs.Step.{step_at, is_home}
 use Rattle.hp_account.specs.declared.under_way.Entry.{Entry}
-use Rattle.hp_account.specs.declared.under_way.Means.TheVariants.{Hook}
+use Rattle.hp_account.specs.declared.under_way.MadeBy.TheVariants.{Hook}
 use Rattle.hp_account.specs.Entries.{entry_event, how_by}
 use Rattle.hp_account.specs.UnderWay.{hook_asked}
 use Rattle.hp_board.specs.Contents.{Contents}
 use Rattle.hp_board.specs.Loans.{is_hook, loan, AreOut}
-use Rattle.hp_board.proofs.Loans.{asks_hook, bool_is, not_mine}
-
-same_some : {A : Type 0} (x y : A) → Some x ≡ Some y → x ≡ y
-same_some x y e = cc
-
-some_none : {A : Type 0} (x : A) → Some x ≡ None → ⊥
-some_none x e = cc
+use Rattle.hp_board.proofs.Loans.{asks_hook, not_mine}
 
 -- an entry that its hook makes is no presumed one
 not_presumed : (how : How) → is_called how ≡ true → is_presumed how ≡ false
@@ -102,9 +92,9 @@ not_by_thread head es k c s i d how lawful client calls = go (is_made_by_ap s ho
 
 -- so the hook of a client's own entry is home, where nothing is lent to its seat
 pub own_home : (b : Contents) (by : ℕ) (x : Entry) → IsLawful b.head b.events → AreOut b → role_of by b.events ≡ Some Client →
-    due_entry b.head b.events by ≡ Some (entry_event b.head b.events x) → loan b by ≡ None → x.means ≡ Hook →
+    due_entry b.head b.events by ≡ Some (entry_event b.head b.events x) → loan b by ≡ None → x.made_by ≡ Hook →
     is_home (step_at b.places x.key.state) ≡ true
-own_home b by x lawful out client due nothing means = ⊎_elim (λ is. is) (λ away. absurd (never away)) (bool_is (is_home (step_at b.places x.key.state)))
+own_home b by x lawful out client due nothing made_by = ⊎_elim (λ is. is) (λ away. absurd (never away)) (cases_bool (is_home (step_at b.places x.key.state)))
   where
     never : is_home (step_at b.places x.key.state) ≡ false → ⊥
     never away =
@@ -112,7 +102,7 @@ own_home b by x lawful out client due nothing means = ⊎_elim (λ is. is) (λ a
         let es = b.events in
         let s = x.key.state in
         let how = how_by x (answer_of_plan head es x.cpu s x.key.inst x.dir) in
-        let called : is_called how ≡ true = asks_hook head es x ∙ ap is_hook means in
+        let called : is_called how ≡ true = asks_hook head es x ∙ ap is_hook made_by in
         let o = out.only s away in
         let mine = due_calls head es by x.seat x.cpu s x.key.inst x.dir how due in
         let theirs = due_calls head es o.seat o.seat o.cpu s o.inst o.dir o.how o.due in
@@ -123,56 +113,12 @@ own_home b by x lawful out client due nothing means = ⊎_elim (λ is. is) (λ a
         (own_seat head es x.seat x.cpu s x.key.inst x.dir how lawful own mine.0) in
         not_mine b by s o nothing (same ∙ mine.1)
 
--- a client waits for the thread of one processor
-is_lowest : (c : ℕ) (v : Option ℕ) → is_it c v ≡ true → v ≡ Some c
-is_lowest c None h = absurd (false≢true h)
-is_lowest c (Some d) h = ap Some (eqb-true d c h)
-
-one_held_up : (head : Head) (es : List Event) (k c d : ℕ) → brings_up k (operation es) ≡ true → is_held_up head es k c ≡ true →
-    is_held_up head es k d ≡ true → c ≡ d
-one_held_up head es k c d up h g =
-    let low : (c : ℕ) → is_held_up head es k c ≡ true → lowest_walking head es ≡ Some c = λ c h.
-    is_lowest c (lowest_walking head es)
-    (and_parts (is_empty (to_begin head es) && is_none (turn_of head es k)) (is_it c (lowest_walking head es))
-    (sym (ap (λ b. cond b ((is_empty (to_begin head es) && is_none (turn_of head es k)) && is_it c (lowest_walking head es)) true) up) ∙ h)).1 in
-    same_some c d (sym (low c h) ∙ low d g)
-
-single : (es : List Event) (o : Operation) (k : ℕ) → operation es ≡ Some o → o.seat ≡ k → brings_up k (operation es) ≡ false →
-    held_by is_upmany (operation es) ≡ false
-single es o k at s none =
-    let e = eq-eqb o.seat k s in
-    let h : brings_up k (Some o) ≡ is_upmany o.op = rw e refl in
-    ap (held_by is_upmany) at ∙ (sym h ∙ (sym (ap (brings_up k) at) ∙ none))
-
 not_both : (head : Head) (es : List Event) (x y s i t j : ℕ) (d e : Dir) (how h : How) → IsLawful head es →
     WalkEntry head es x s i d how → RegistrationEntry head es y t j e h → ⊥
 not_both head es x y s i t j d e how h lawful w r =
     let at = w.in_flight in
     let q : WalkKept head x w.of es = rw at at ((kept head es lawful).at x).kept in
     some_none r.of (sym r.in_flight ∙ q.no_registration)
-
-pub one_thread : (head : Head) (es : List Event) (k c d : ℕ) → IsLawful head es → IsApTurn head es k c → IsApTurn head es k d → c ≡ d
-one_thread head es k c d lawful a b = go (brings_up k (operation es)) refl
-  where
-    o : Owners es
-    o = owners head es lawful
-
-    alone : brings_up k (operation es) ≡ false →
-        ((e : WalkEntry head es c a.state a.inst a.dir a.how) × (e.of.seat ≡ k))
-        ⊎ ((e : RegistrationEntry head es c a.state a.inst a.dir a.how) × (e.of.seat ≡ k)) →
-        ((e : WalkEntry head es d b.state b.inst b.dir b.how) × (e.of.seat ≡ k))
-        ⊎ ((e : RegistrationEntry head es d b.state b.inst b.dir b.how) × (e.of.seat ≡ k)) → c ≡ d
-    alone none (inl w) (inl v) =
-        let p = o.walk_op c w.0.of w.0.in_flight in
-        o.one_walk c d w.0.of v.0.of w.0.in_flight v.0.in_flight (single es p.0 k p.1 (p.2 ∙ w.1) none)
-    alone none (inl w) (inr r) = absurd (not_both head es c d a.state a.inst b.state b.inst a.dir b.dir a.how b.how lawful w.0 r.0)
-    alone none (inr r) (inl w) = absurd (not_both head es d c b.state b.inst a.state a.inst b.dir a.dir b.how a.how lawful w.0 r.0)
-    alone none (inr r) (inr q) =
-        (same_registration_entry head es c d a.state b.state a.inst b.inst a.dir b.dir a.how b.how r.0 q.0).0
-
-    go : (up : Bool) → brings_up k (operation es) ≡ up → c ≡ d
-    go true up = one_held_up head es k c d up a.held_up b.held_up
-    go false none = alone none a.entry b.entry
 
 -- whose next entry calls one hook
 pub one_asked : (head : Head) (es : List Event) (k c d : ℕ) (a : IsApTurn head es k c) (b : IsApTurn head es k d) → IsLawful head es → c ≡ d →

@@ -1,6 +1,7 @@
 -- What a turn makes of a board and of the hook that it is asked with.
 use Rattle.std.proofs.Common.{◌≡◌, ℕ, Bool, true, false, not, ◌&&◌, ◌||◌, is_some, Option, Some, None, List, length, refl, sym, ap, ◌∙◌, subst}
 use Rattle.std.proofs.lemmas.Bool.{true≢false, eq-eqb}
+use Rattle.hp_states.proofs.Basics.{and_false, and_true, none_of}
 use Rattle.hp_event.specs.declared.answer.Answer.{Answer}
 use Rattle.hp_event.specs.declared.op.Op.{Op}
 use Rattle.hp_event.specs.declared.head.Head.{Head}
@@ -26,14 +27,6 @@ busy_of es k r flies by = let own = eq-eqb r.seat k by in rw (flies, own) (go (h
     go : (b : Bool) → (b || true) ≡ true
     go true = refl
     go false = refl
-
-and_false : (b : Bool) → (b && false) ≡ false
-and_false true = refl
-and_false false = refl
-
-and_true : (b : Bool) → (b && true) ≡ b
-and_true true = refl
-and_true false = refl
 
 pub brings : (head : Head) (es : List Event) (p : Pending) (e : Event) → IsLawful head es → IsAllowed head es p →
     next_event head es p.seat p.op ≡ Some e → is_registering e ≡ true → has_hook es p.seat p.op ≡ brings_hook e
@@ -68,11 +61,6 @@ turn_made old new k at op e next is place = go (answer_by e) refl
 pub unanswered : (answer : Option Answer) (at : ℕ) → goes_on (turn_by answer at) ≡ true → answer ≡ None
 unanswered None at on = refl
 unanswered (Some answer) at on = absurd (true≢false (sym on))
-
--- the hook afterwards
-none_of : {X : Type 0} (o : Option X) → is_some o ≡ false → o ≡ None
-none_of None h = refl
-none_of (Some x) h = absurd (true≢false h)
 
 taken_away : (b c : Bool) → ((b && not b) || c) ≡ c
 taken_away true c = refl

@@ -1,6 +1,7 @@
 -- A turn that waits: nothing of the operation comes next, or a write of `fail` that is kept out.
-use Rattle.std.proofs.Common.{◌≡◌, ℕ, Bool, true, false, ◌&&◌, ◌||◌, is_some, Some, None, List, refl, sym, ◌∙◌, inl, inr, ◌⊎◌, ⊎_elim}
+use Rattle.std.proofs.Common.{◌≡◌, ℕ, Bool, true, false, ◌&&◌, is_some, Some, None, List, refl, sym, ◌∙◌, inl, inr, ◌⊎◌, ⊎_elim}
 use Rattle.std.proofs.lemmas.Bool.{false≢true, true≢false}
+use Rattle.hp_board.proofs.TurnsMade.{kept}
 use Rattle.hp_table.specs.Step.{AllHome}
 use Rattle.hp_machine.specs.Next.{IsKept}
 use Rattle.hp_event.specs.declared.op.Op.{Op}
@@ -32,10 +33,6 @@ by_armed : (P : Event → Type 0) → ((seat cpu : ℕ) (value : _) → P (Armed
 by_armed P armed es (Call k c s i d how) (Armed seat cpu value) h = armed seat cpu value
 by_armed P armed es (Call k c s i d how) e h = absurd (never (is_some (walk c es)) h)
 by_armed P armed es c e h = absurd (false≢true h)
-
-kept : (b : Bool) → ((b && true) || false) ≡ b
-kept true = refl
-kept false = refl
 
 pub arms_leaves : (es : List Event) (c e : Event) (had : Bool) → arms_walker es c e ≡ true → has_hook_after es (Some e) had ≡ had
 arms_leaves es c e had h = by_armed (λ x. has_hook_after es (Some x) had ≡ had) (λ seat cpu value. kept had) es c e h

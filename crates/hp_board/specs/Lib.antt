@@ -2,10 +2,13 @@ pub mod Contents
 pub mod Answered
 pub mod Loans
 pub mod Turns
+pub mod Meeting
 pub mod Moving
 pub mod Hooks
 pub mod HookCount
+pub mod HookLaws
 pub mod Starts
 pub mod Retired
 pub mod Again
 pub mod Against
+pub mod TurnLaws

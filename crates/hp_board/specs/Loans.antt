@@ -18,9 +18,10 @@ use Rattle.hp_model.specs.NextEvent.{next_event, due_entry}
 use Rattle.hp_model.specs.Subsystems.{plan_of}
 use Rattle.hp_table.specs.Step.{Step, step_at, is_home}
 use Rattle.hp_locks.specs.declared.why.Why.TheVariants.{ApTurn}
-use Rattle.hp_account.specs.declared.under_way.Means.{Means}
-use Rattle.hp_account.specs.declared.under_way.Means.TheVariants.{Hook}
+use Rattle.hp_account.specs.declared.under_way.MadeBy.{MadeBy}
+use Rattle.hp_account.specs.declared.under_way.MadeBy.TheVariants.{Hook}
 use Rattle.hp_machine.specs.Next.{IsKept}
+use Rattle.hp_machine.specs.StandsNext.{due_of}
 use Rattle.hp_account.specs.UnderWay.{hook_asked}
 use Rattle.hp_board.specs.Answered.{aside_of, answer_of_loan}
 use Rattle.hp_board.specs.Contents.{Contents}
@@ -44,9 +45,13 @@ abbrev pub can_lend : Option Event → List (Option Step) → Bool
 can_lend (Some (Call seat cpu state inst dir how)) places = is_called how && is_home (step_at places state)
 can_lend _ places = false
 
-abbrev pub is_hook : Means → Bool
+abbrev pub is_hook : MadeBy → Bool
 is_hook Hook = true
 is_hook _ = false
+
+-- so is the entry that is due from a seat
+abbrev pub CanLendTo : Contents → (seat : ℕ) → Type 0
+CanLendTo b k = can_lend (due_of b k) b.places ≡ true
 
 -- the hook of a state is away, lent for an entry that is due and that its answer makes
 pub record IsOutFor (b : Contents) (state : ℕ) : Type 0 where
@@ -84,6 +89,10 @@ pub record IsLoan (head : Head) (events : List Event) (seat : ℕ) (a : Aside) :
   pub seen_is : a.seen ≡ counts_of a.plan (sites a.key.state events)
   pub base_is : a.base ≡ length (sites a.key.state events)
   pub answer_is : answer_of_loan a ≡ answer_at head events a.cpu a.key.state a.key.inst a.dir
+
+-- whatever is lent to a seat is so
+abbrev pub AreLoans : Contents → Type 0
+AreLoans b = (k : ℕ) (a : Aside) → loan b k ≡ Some a → IsLoan b.head b.events k a
 
 -- an entry calls the hook of a state, which is away
 pub record CallsAway (b : Contents) (state : ℕ) (next : Option Event) : Type 0 where

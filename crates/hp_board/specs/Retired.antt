@@ -6,11 +6,14 @@ use Rattle.hp_states.specs.declared.limits.TheConstants.{ONLINE}
 use Rattle.hp_event.specs.declared.event.Event.{Event}
 use Rattle.hp_event.specs.declared.head.Head.{Head}
 use Rattle.hp_hook.specs.Counted.{Counts}
+use Rattle.hp_hook.specs.declared.rack.Rack.{Rack}
 use Rattle.hp_model.specs.Lists.{numbers}
 use Rattle.hp_model.specs.Registered.{Registered, registered}
+use Rattle.hp_model.specs.Registrations.{registration}
 use Rattle.hp_model.specs.Subsystems.{sub_numbered, plan_of}
 use Rattle.hp_account.specs.Table.{counts_by}
 use Rattle.hp_table.specs.Step.{Step}
+use Rattle.hp_board.specs.Contents.{Contents}
 
 -- what the hook of a place has counted
 abbrev pub hook_at : Option Step → List Counts
@@ -38,3 +41,12 @@ pub record IsRacked {H : Type 0} (seen : H → Counts) (old new : List H) (hooks
   pub added : List H
   pub behind : new ≡ old ++ added
   pub are : map seen added ≡ hooks
+
+-- so of a rack
+abbrev pub PutsBehind : {H : Type 0} → (seen : H → Counts) → (old new : Rack H) → List Counts → Type 0
+PutsBehind seen old new hooks = IsRacked seen old.hooks.items new.hooks.items hooks
+
+-- while no registration is in flight they are those of the registered states
+abbrev pub PutsRegistered : {H : Type 0} → (seen : H → Counts) → Contents → (old new : Rack H) → Type 0
+PutsRegistered seen b old new =
+    registration b.events ≡ None → PutsBehind seen old new (registered_hooks b.head b.events)

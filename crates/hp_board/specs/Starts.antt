@@ -1,21 +1,36 @@
--- Why a board doesn't start: the first of some conditions on its head, in their order. This project's own.
-use Rattle.std.specs.Prelude.{◌≡◌, ◌<◌, ◌≤◌, true, false, length}
-use Rattle.hp_states.specs.declared.limits.TheConstants.{MAX_CPUS, MAX_SUBS}
+-- The start of a board, and why it doesn't start: the first thing that is at fault in its head, or memory was wanting. This project's own.
+use Rattle.std.specs.Prelude.{◌≡◌, ◌+◌, [], List, None, replicate}
+use Rattle.hp_states.specs.declared.limits.TheConstants.{ONLINE}
+use Rattle.hp_event.specs.declared.head.Sub.{Sub}
 use Rattle.hp_event.specs.declared.head.Head.{Head}
 use Rattle.hp_model.specs.Heads.{IsHead}
-use Rattle.hp_model.specs.Processors.{is_present}
-use Rattle.hp_machine.specs.Heads.{AreAbsent}
+use Rattle.hp_machine.specs.Heads.{IsFirstFault}
+use Rattle.hp_machine.specs.declared.heads.HeadFault.{HeadFault}
+use Rattle.hp_board.specs.Contents.{Contents}
+use Rattle.hp_board.specs.declared.start.CpuPlan.{CpuPlan}
 use Rattle.hp_board.specs.declared.start.StartError.{StartError}
 use Rattle.hp_board.specs.declared.start.StartError.TheVariants.{NoProcessor, TooManyCpus, BadAbsent, NoBoot, TooManySubs, NoMemory}
 
-abbrev pub HasCpus : Head → Type 0
-HasCpus head = (0 < head.possible) × (head.possible ≤ MAX_CPUS)
+-- the head of a board with these processors and subsystems
+abbrev pub head_of : CpuPlan → List Sub → Head
+head_of plan subs = record { possible = plan.possible; absent = plan.absent; subs = subs }
+
+-- no event was made, and nothing is registered
+abbrev pub IsStarted : Head → Contents → Type 0
+IsStarted head board = board ≡ record { head = head; events = []; places = replicate (ONLINE + 1) None; lent = board.lent }
 
 abbrev pub IsStartRefusal : Head → StartError → Type 0
-IsStartRefusal head NoProcessor = head.possible ≡ 0
-IsStartRefusal head TooManyCpus = MAX_CPUS < head.possible
-IsStartRefusal head BadAbsent = HasCpus head × (AreAbsent head → ⊥)
-IsStartRefusal head NoBoot = HasCpus head × AreAbsent head × (is_present head 0 ≡ false)
-IsStartRefusal head TooManySubs =
-    HasCpus head × AreAbsent head × (is_present head 0 ≡ true) × (MAX_SUBS < length head.subs)
+IsStartRefusal head NoProcessor = IsFirstFault head HeadFault.NoProcessor
+IsStartRefusal head TooManyCpus = IsFirstFault head HeadFault.TooManyCpus
+IsStartRefusal head BadAbsent = IsFirstFault head HeadFault.BadAbsent
+IsStartRefusal head NoBoot = IsFirstFault head HeadFault.NoBoot
+IsStartRefusal head TooManySubs = IsFirstFault head HeadFault.TooManySubs
 IsStartRefusal head NoMemory = IsHead head
+
+-- a refusal by such a fault
+abbrev pub refusal_by : HeadFault → StartError
+refusal_by HeadFault.NoProcessor = NoProcessor
+refusal_by HeadFault.TooManyCpus = TooManyCpus
+refusal_by HeadFault.BadAbsent = BadAbsent
+refusal_by HeadFault.NoBoot = NoBoot
+refusal_by HeadFault.TooManySubs = TooManySubs

@@ -12,6 +12,7 @@ use Rattle.hp_model.specs.Events.{answer_by}
 use Rattle.hp_model.specs.Needs.{need}
 use Rattle.hp_model.specs.NextEvent.{next_event, due_entry, is_full}
 use Rattle.hp_machine.specs.Next.{IsKept}
+use Rattle.hp_machine.specs.StandsNext.{next_event_of}
 use Rattle.hp_board.specs.declared.turn.Turn.{Turn}
 use Rattle.hp_board.specs.declared.turn.Turn.TheVariants.{Made, Answered, NotYet}
 use Rattle.hp_board.specs.Contents.{Contents, with_event}
@@ -69,3 +70,7 @@ IsServed k old new _ = ⊥
 -- an event comes next that takes room: the first of an operation or the begin of a walk
 abbrev pub TakesRoom : Head → (events : List Event) → (next : Option Event) → Type 0
 TakesRoom head events next = IsSomeAnd next (λ event. IsSome (need head events event))
+
+-- so does what comes next of a seat and its operation
+abbrev pub NextTakesRoom : Contents → (seat : ℕ) → Op → Type 0
+NextTakesRoom b k op = TakesRoom b.head b.events (next_event_of b k op)

@@ -1,12 +1,12 @@
 //! Seats that come in and leave.
 
-ghost use Rattle.std.specs.Prelude.{◌≡◌, ◌≢◌, ◌↔◌, ℕ, IsTrue, None, Some, IfOk, IfErr, OnOk, OnErr, length};
+ghost use Rattle.std.specs.Prelude.{◌≡◌, ◌↔◌, ℕ, IsTrue, None, IfOk, IfErr, OnOk, OnErr, length};
 ghost use Rattle.hp_board.specs.Contents.{with_event};
 ghost use Rattle.hp_board.specs.Loans.{loan};
-ghost use Rattle.hp_event.specs.declared.event.Event.TheVariants.{Admit, Leave};
-ghost use Rattle.hp_machine.specs.Admission.{refusal_of};
-ghost use Rattle.hp_model.specs.Lawful.{Stands};
+ghost use Rattle.hp_event.specs.declared.event.Event.TheVariants.{Leave};
+ghost use Rattle.hp_machine.specs.Admission.{refusal_of, IsAdmitRefusal, WantsOnlyMemory};
 ghost use Rattle.hp_model.specs.Seats.{admits};
+ghost use Rattle.hp_machine.specs.StandsNext.{CanMake, admission};
 
 use crate::board::Board;
 use hp_event::Role;
@@ -27,12 +27,10 @@ impl<H: Hook> Board<H> {
     /// own; that each processor has one hotplug thread is that of `kernel/cpu.c`.
     pub fn admit(&mut self, role: Role) -> Result<u32, AdmitError>
         ensures seat { IfOk result (λ seat. seat ≡ admits self.old.events) }
-        ensures ok { OnOk result (self.new ≡ with_event self.old (Admit (admits self.old.events) role)) }
+        ensures ok { OnOk result (self.new ≡ with_event self.old (admission self.old role)) }
         ensures free { OnOk result (refusal_of self.old.head self.old.events role ≡ None) }
-        ensures refused { IfErr result (λ error. error ≢ AdmitError.NoMemory →
-            refusal_of self.old.head self.old.events role ≡ Some error) }
-        ensures no_memory { IfErr result (λ error. error ≡ AdmitError.NoMemory →
-            refusal_of self.old.head self.old.events role ≡ None) }
+        ensures refused { IfErr result (IsAdmitRefusal self.old role) }
+        ensures no_memory { IfErr result (WantsOnlyMemory self.old role) }
         ensures stays { (k : ℕ) → loan self.new k ≡ loan self.old k }
         ensures err { OnErr result (self.new ≡ self.old) }
     {
@@ -45,7 +43,7 @@ impl<H: Hook> Board<H> {
     ///
     /// Takes no memory. Seats are this project's own.
     pub fn can_leave(&self, by: u32) -> bool
-        ensures { IsTrue result ↔ Stands self.now.head self.now.events (Leave by) }
+        ensures { IsTrue result ↔ CanMake self.now (Leave by) }
     {
         self.machine.can_leave(by)
     }
@@ -55,7 +53,7 @@ impl<H: Hook> Board<H> {
     /// The seat is in, reads nothing, has nothing in flight, and no entry is due from it. So nothing is lent
     /// to it, and what is lent to others stays so. Takes no memory. Seats are this project's own.
     pub fn leave(&mut self, by: u32) -> u32
-        requires { Stands self.old.head self.old.events (Leave by) }
+        requires { CanMake self.old (Leave by) }
         ensures place { result ≡ length self.old.events }
         ensures left { self.new ≡ with_event self.old (Leave by) }
         ensures stays { (k : ℕ) → loan self.new k ≡ loan self.old k }

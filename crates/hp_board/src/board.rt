@@ -1,8 +1,8 @@
 //! The board.
 
-ghost use Rattle.std.specs.Prelude.{◌≡◌, ◌<◌, ◌≤◌, ◌↔◌, ℕ, Some, IfOk, IfSome, IfNone, option_map};
+ghost use Rattle.std.specs.Prelude.{◌≡◌, ◌<◌, ◌↔◌, ℕ, Some, IfOk, IfSome, IfNone, option_map};
 ghost use Rattle.hp_machine.specs.Clients.{clients};
-ghost use Rattle.hp_account.specs.UnderWay.{IsDueOn, NoneDue, IsThreadDue, NoThreadDue};
+ghost use Rattle.hp_account.specs.UnderWay.{IsNextDue, NoneDueFrom, IsNextThreadDue, NoThreadDueFrom};
 ghost use Rattle.hp_model.specs.ApTurn.{IsApTurn};
 ghost use Rattle.hp_model.specs.Lists.{among};
 ghost use Rattle.hp_model.specs.MapLock.{Operation, operation};
@@ -78,9 +78,8 @@ impl<H: Hook> Board<H> {
     /// Takes no memory, and time for the processors that walk. After `cpuhp_invoke_ap_callback` of
     /// `kernel/cpu.c`.
     pub fn next_due(&self, from: u32) -> Option<(u32, u32)>
-        ensures some { IfSome result (λ due. (from ≤ due.0) × IsDueOn self.now.head self.now.events due.0 due.1
-            × NoneDue self.now.head self.now.events from due.0) }
-        ensures none { IfNone result (NoneDue self.now.head self.now.events from self.now.head.possible) }
+        ensures some { IfSome result (IsNextDue self.now.head self.now.events from) }
+        ensures none { IfNone result (NoneDueFrom self.now.head self.now.events from) }
     {
         self.machine.next_due(from)
     }
@@ -91,9 +90,8 @@ impl<H: Hook> Board<H> {
     /// Takes no memory, and time for the processors whose threads make the next entries. After
     /// `cpuhp_thread_fun` of `kernel/cpu.c`.
     pub fn next_thread_due(&self, from: u32) -> Option<(u32, u32)>
-        ensures some { IfSome result (λ due. (from ≤ due.0) × IsThreadDue self.now.head self.now.events due.0 due.1
-            × NoThreadDue self.now.head self.now.events from due.0) }
-        ensures none { IfNone result (NoThreadDue self.now.head self.now.events from self.now.head.possible) }
+        ensures some { IfSome result (IsNextThreadDue self.now.head self.now.events from) }
+        ensures none { IfNone result (NoThreadDueFrom self.now.head self.now.events from) }
     {
         self.machine.next_thread_due(from)
     }

@@ -1,18 +1,18 @@
 //! Hooks lent and given back.
 
-ghost use Rattle.std.specs.Prelude.{◌≡◌, ◌≢◌, ◌↔◌, ◌==◌, ◌&&◌, ◌||◌, not, ℕ, true, false, None, Some, IsTrue, IfSome, IfNone, IsSome, is_some};
-ghost use Rattle.hp_board.specs.Loans.{loan, can_lend, is_hook};
+ghost use Rattle.std.specs.Prelude.{◌≡◌, ◌≢◌, ◌↔◌, ℕ, true, false, None, Some, IsTrue, IfSome, IfNone, IsSome, is_some};
+ghost use Rattle.hp_board.specs.Loans.{loan, is_hook, CanLendTo};
 ghost use Rattle.hp_board.specs.Turns.{IsServed};
 ghost use Rattle.hp_board.specs.declared.turn.Turn.TheVariants.{Made};
 ghost use Rattle.hp_account.specs.Entries.{entry_event};
-ghost use Rattle.hp_account.specs.declared.under_way.Means.TheVariants.{Hook as ByHook};
-ghost use Rattle.hp_model.specs.NextEvent.{due_entry};
+ghost use Rattle.hp_account.specs.declared.under_way.MadeBy.TheVariants.{Hook as ByHook};
 ghost use Rattle.hp_states.specs.CpuSets.{has};
-ghost use Rattle.hp_table.specs.Step.{step_at, is_home, AllHome};
+ghost use Rattle.hp_table.specs.Step.{is_home, AllHome};
+ghost use Rattle.hp_machine.specs.Lent.{step_of, IsPut, IsTaken};
 
 use crate::board::Board;
 use crate::loan::{Back, Loan};
-use hp_account::{Entry, Means};
+use hp_account::{Entry, MadeBy};
 use hp_hook::Hook;
 use hp_states::MAX_CPU_SET;
 
@@ -44,10 +44,9 @@ impl<H: Hook> Board<H> {
     /// Whether an entry is made by its hook's answer, and that hook is away.
     #[inline(always)]
     pub(crate) fn is_out(&self, entry: &Entry) -> bool
-        ensures by_hook { result ≡ true → entry.now.means ≡ ByHook }
-        ensures away { result ≡ true → is_home (step_at self.now.places entry.now.key.state) ≡ false }
-        ensures home { result ≡ false → entry.now.means ≡ ByHook →
-            is_home (step_at self.now.places entry.now.key.state) ≡ true }
+        ensures by_hook { result ≡ true → entry.now.made_by ≡ ByHook }
+        ensures away { result ≡ true → is_home (step_of self.now entry.now) ≡ false }
+        ensures home { result ≡ false → entry.now.made_by ≡ ByHook → is_home (step_of self.now entry.now) ≡ true }
     {
         if self.machine.lent().is_empty() {
             return false;
@@ -72,9 +71,9 @@ impl<H: Hook> Board<H> {
     /// seats stays so. Makes no event, and takes no memory. After `cpuhp_thread_fun` of `kernel/cpu.c`; that
     /// hooks are lent is this project's own.
     pub fn lend(&mut self, by: u32) -> Option<Loan<H>>
-        ensures some { IsSome result ↔ (can_lend (due_entry self.old.head self.old.events by) self.old.places ≡ true) }
+        ensures some { IsSome result ↔ CanLendTo self.old by }
         ensures lent { IfSome result (λ l. loan self.new by ≡ Some l) }
-        ensures put { IfSome result (λ l. (cpu : ℕ) → has self.new.lent cpu ≡ (cpu == l.cpu || has self.old.lent cpu)) }
+        ensures put { IfSome result (λ l. IsPut l.cpu self.old.lent self.new.lent) }
         ensures events { (self.new.head ≡ self.old.head) × (self.new.events ≡ self.old.events) }
         ensures none { IfNone result (self.new ≡ self.old) }
         ensures stays { (k : ℕ) → k ≢ by → loan self.new k ≡ loan self.old k }
@@ -102,7 +101,7 @@ impl<H: Hook> Board<H> {
     pub fn give(&mut self, by: u32, back: Back<H>) -> u32
         requires { loan self.old by ≡ Some back }
         ensures served { IsServed by (record self.old { lent = self.new.lent }) self.new (Made result) }
-        ensures taken { (cpu : ℕ) → has self.new.lent cpu ≡ (not (cpu == back.cpu) && has self.old.lent cpu) }
+        ensures taken { IsTaken back.cpu self.old.lent self.new.lent }
         ensures home { loan self.new by ≡ None }
         ensures stays { (k : ℕ) → k ≢ by → loan self.new k ≡ loan self.old k }
     {
@@ -128,7 +127,7 @@ impl<H: Hook> Board<H> {
 
 /// Whether an entry is made by its hook's answer.
 pub(crate) fn is_by_hook(entry: &Entry) -> bool
-    ensures { result ≡ is_hook entry.now.means }
+    ensures { result ≡ is_hook entry.now.made_by }
 {
-    matches!(entry.means, Means::Hook)
+    matches!(entry.made_by, MadeBy::Hook)
 }

@@ -10,11 +10,12 @@
 //! up for its journal and its hooks.
 //!
 //! Contracts see the head, the events, what stands at each state, and the processors that hooks are lent for
-//! (`specs/Contents.antt`). `Turns.antt` says what a turn makes of them, by hp_model's `next_event`,
-//! `due_entry` and `is_full`; `Loans.antt` which hooks are out, what is lent to a seat, and what waits for a
-//! hook; `Hooks.antt` what becomes of the hook that is asked with; `Admission.antt` and `Starts.antt` each
-//! refusal; `Retired.antt` which hooks there are at the end, by the journal. Its journal is lawful at any time (`Board::sound`). The
-//! functions of `laws.rt` and `hook_laws.rt` have empty bodies: their contracts are laws of turns.
+//! (`specs/Contents.antt`). `Turns.antt` says what a turn makes of them, by hp_model's `next_event`, `due_entry`
+//! and `is_full`; `Loans.antt` which hooks are out, what is lent to a seat, and what waits for a hook;
+//! `Meeting.antt` whether what comes next meets a hook that is out; `Hooks.antt` what becomes of the hook that is
+//! asked with; `Admission.antt` and `Starts.antt` each refusal; `Retired.antt` which hooks there are at the end, by
+//! the journal. Its journal is lawful at any time (`Board::sound`). The functions of `laws.rt` and `hook_laws.rt`
+//! have empty bodies: their contracts are laws of turns, which `TurnLaws.antt` and `HookLaws.antt` state.
 #![tactic(auto)]
 
 mod admission;

@@ -1,9 +1,8 @@
 //! The end of a board.
 
-ghost use Rattle.std.specs.Prelude.{◌≡◌, ◌≢◌, true, ◌+◌, ◌<◌, ◌≤◌, ℕ, None, Some, [], ◌∷◌, ◌++◌, IfOk, IfErr, IfSome, IfNone, OnOk, OnErr, vec_len, vec_capacity};
+ghost use Rattle.std.specs.Prelude.{◌≡◌, ◌≢◌, true, ◌+◌, ◌<◌, ◌≤◌, ℕ, Some, [], ◌∷◌, ◌++◌, IfOk, IfErr, IfSome, IfNone, OnOk, OnErr, vec_len, vec_capacity};
 ghost use Rattle.hp_states.specs.declared.limits.TheConstants.{ONLINE};
-ghost use Rattle.hp_board.specs.Retired.{IsRacked, hook_at, hooks_of, registered_hooks};
-ghost use Rattle.hp_model.specs.Registrations.{registration};
+ghost use Rattle.hp_board.specs.Retired.{IsRacked, hook_at, hooks_of, PutsBehind, PutsRegistered};
 ghost use Rattle.hp_table.specs.Step.{step_at, is_home, AllHome};
 
 use crate::board::Board;
@@ -31,10 +30,8 @@ impl<H: Hook> Board<H> {
         requires { AllHome self.places }
         ensures head { IfOk result (λ journal. journal.head ≡ self.head) }
         ensures events { IfOk result (λ journal. journal.events ≡ self.events) }
-        ensures hooks { OnOk result (IsRacked H.counts
-            rack.old.hooks.items rack.new.hooks.items (hooks_of self.places)) }
-        ensures registered { OnOk result (registration self.events ≡ None → IsRacked H.counts
-            rack.old.hooks.items rack.new.hooks.items (registered_hooks self.head self.events)) }
+        ensures hooks { OnOk result (PutsBehind H.counts rack.old rack.new (hooks_of self.places)) }
+        ensures registered { OnOk result (PutsRegistered H.counts self rack.old rack.new) }
         ensures err { IfErr result (λ refused. refused.1 ≡ self) }
         ensures rack { OnErr result (rack.new.hooks.items ≡ rack.old.hooks.items) }
     {

@@ -1,8 +1,6 @@
 //! What holds of a board at any time.
 
-ghost use Rattle.std.specs.Prelude.{◌≡◌, ℕ, Some};
-ghost use Rattle.hp_board.specs.Loans.{AreOut, IsLoan, loan};
-ghost use Rattle.hp_event.specs.declared.aside.Aside.{Aside as AnAside};
+ghost use Rattle.hp_board.specs.Loans.{AreOut, AreLoans};
 ghost use Rattle.hp_account.specs.Table.{IsTableOf};
 ghost use Rattle.hp_model.specs.Lawful.{IsLawful};
 ghost use Rattle.hp_table.specs.Sound.{IsSound};
@@ -21,7 +19,7 @@ impl<H: Hook> Board<H> {
         ensures table { IsTableOf self.now.head self.now.events self.now.places }
         ensures places { IsSound self.now.places }
         ensures out { AreOut self.now }
-        ensures loans { (k : ℕ) (a : AnAside) → loan self.now k ≡ Some a → IsLoan self.now.head self.now.events k a }
+        ensures loans { AreLoans self.now }
     {
         // what is so of every board
         let _ = &self.machine;

@@ -1,15 +1,14 @@
 //! The start of a board.
 
-ghost use Rattle.std.specs.Prelude.{◌≡◌, ◌+◌, ◌<◌, [], None, All, IfOk, IfErr, OnOk, replicate};
-ghost use Rattle.hp_board.specs.Starts.{IsStartRefusal};
+ghost use Rattle.std.specs.Prelude.{◌≡◌, All, IfOk, IfErr, OnOk};
+ghost use Rattle.hp_board.specs.Starts.{head_of, IsStarted, IsStartRefusal, refusal_by};
 ghost use Rattle.hp_model.specs.Heads.{IsHead, IsSub};
-ghost use Rattle.hp_states.specs.declared.limits.TheConstants.{ONLINE};
 
 use crate::board::Board;
 use hp_event::{Head, Numbers, Subs};
 use hp_hook::Hook;
-use hp_machine::{Machine, are_absent};
-use hp_states::{MAX_CPUS, MAX_SUBS, NoMemory};
+use hp_machine::{HeadFault, Machine, head_fault};
+use hp_states::NoMemory;
 use std::alloc::Global;
 
 /// The processors of a board.
@@ -38,6 +37,20 @@ pub enum StartError {
     NoMemory = 6,
 }
 
+impl From<HeadFault> for StartError {
+    ghost from_gives = { λ fault e. e ≡ refusal_by fault };
+
+    fn from(fault: HeadFault) -> StartError {
+        match fault {
+            HeadFault::NoProcessor => StartError::NoProcessor,
+            HeadFault::TooManyCpus => StartError::TooManyCpus,
+            HeadFault::BadAbsent => StartError::BadAbsent,
+            HeadFault::NoBoot => StartError::NoBoot,
+            HeadFault::TooManySubs => StartError::TooManySubs,
+        }
+    }
+}
+
 impl<H: Hook> Board<H> {
     /// A board with these processors and subsystems, without events: the first processor is up, and
     /// nothing is registered but the built-in states.
@@ -55,36 +68,18 @@ impl<H: Hook> Board<H> {
     /// boots is that of `boot_cpu_init` of `kernel/cpu.c`; the limits are this project's own.
     pub fn start(alloc: Global, plan: CpuPlan, subs: Subs) -> Result<Board<H>, StartError>
         requires { All IsSub subs }
-        ensures ok { IfOk result (λ board. board
-            ≡ record {
-              head = record { possible = plan.possible; absent = plan.absent; subs = subs };
-              events = [];
-              places = replicate (ONLINE + 1) None;
-              lent = board.lent;
-            }) }
-        ensures head { OnOk result (IsHead (record { possible = plan.possible; absent = plan.absent; subs = subs })) }
-        ensures refused { IfErr result (IsStartRefusal (record { possible = plan.possible; absent = plan.absent; subs = subs })) }
+        ensures ok { IfOk result (IsStarted (head_of plan subs)) }
+        ensures head { OnOk result (IsHead (head_of plan subs)) }
+        ensures refused { IfErr result (IsStartRefusal (head_of plan subs)) }
     {
-        if plan.possible == 0 {
-            return Err(StartError::NoProcessor);
-        }
-        if plan.possible > MAX_CPUS {
-            return Err(StartError::TooManyCpus);
-        }
         let CpuPlan { possible, absent } = plan;
         let head = Head {
             possible,
             absent,
             subs,
         };
-        if !are_absent(&head) {
-            return Err(StartError::BadAbsent);
-        }
-        if !head.is_present(0) {
-            return Err(StartError::NoBoot);
-        }
-        if head.subs.as_slice().len() > MAX_SUBS as usize {
-            return Err(StartError::TooManySubs);
+        if let Some(fault) = head_fault(&head) {
+            return Err(StartError::from(fault));
         }
         match begin(alloc, head) {
             Ok(board) => Ok(board),
@@ -96,13 +91,7 @@ impl<H: Hook> Board<H> {
 /// A board with a head that one can be started with.
 fn begin<H: Hook>(alloc: Global, head: Head) -> Result<Board<H>, NoMemory>
     requires { IsHead head }
-    ensures { IfOk result (λ board. board
-        ≡ record {
-          head = head;
-          events = [];
-          places = replicate (ONLINE + 1) None;
-          lent = board.lent;
-        }) }
+    ensures { IfOk result (IsStarted head) }
 {
     let machine = Machine::start(alloc, head)?;
     Ok(Board { machine })

@@ -1,26 +1,19 @@
 //! Turns.
 
-ghost use Rattle.std.specs.Prelude.{◌≡◌, ◌↔◌, ℕ, true, IsTrue, None, Some, Ok, IfOk, IfSome, IfNone, OnOk, OnErr, false, is_some};
-ghost use Rattle.hp_board.specs.Hooks.{has_hook, has_hook_after, leaves_hook};
-ghost use Rattle.hp_board.specs.Loans.{loan, CallsAway, IsOutFor, IsCalm};
-ghost use Rattle.hp_board.specs.Turns.{IsTurn, IsServed, IsNotYet, IsHookOut, TakesRoom, turn_by, goes_on};
+ghost use Rattle.std.specs.Prelude.{◌≡◌, ◌↔◌, ℕ, true, IsTrue, None, Some, Ok, IfOk, IfSome, IfNone, OnOk, OnErr, false};
+ghost use Rattle.hp_board.specs.Hooks.{has_hook, HasItsHook, HasHookLeft, KeepsItsHook, GetsStatesHook};
+ghost use Rattle.hp_board.specs.Loans.{loan, CallsAway, IsCalm};
+ghost use Rattle.hp_board.specs.Turns.{IsTurn, IsServed, IsHookOut, turn_by, goes_on, NextTakesRoom};
 ghost use Rattle.hp_board.specs.declared.turn.Turn.TheVariants.{NotYet};
-ghost use Rattle.hp_account.specs.Entries.{entry_event};
-ghost use Rattle.hp_machine.specs.Next.{IsKept};
-ghost use Rattle.hp_account.specs.UnderWay.{hook_asked};
-ghost use Rattle.hp_model.specs.ApTurn.{IsApTurn};
+ghost use Rattle.hp_machine.specs.Next.{IsDue};
 ghost use Rattle.hp_model.specs.Events.{answer_by, is_call};
-ghost use Rattle.hp_model.specs.Lent.{arms_walker};
-ghost use Rattle.hp_model.specs.Walks.{walk};
 ghost use Rattle.hp_states.specs.CpuSets.{has};
-ghost use Rattle.hp_table.specs.Step.{step_at, is_home, HasCounted};
-ghost use Rattle.hp_event.specs.declared.event.Event.TheVariants.{Call};
-ghost use Rattle.hp_account.specs.TableChanges.{registering_step};
+ghost use Rattle.hp_table.specs.Step.{step_at, is_home};
 ghost use Rattle.hp_locks.specs.declared.why.Why.TheVariants.{HookOut};
-ghost use Rattle.hp_model.specs.NextEvent.{next_event, due_entry};
-ghost use Rattle.hp_model.specs.Pending.{IsAllowed, IsInFlight};
 ghost use Rattle.hp_event.specs.declared.op.Op.{Op as AnOp};
-ghost use Rattle.hp_model.specs.Registrations.{registration};
+ghost use Rattle.hp_machine.specs.MayAsk.{MayAsk, HasInFlight};
+ghost use Rattle.hp_board.specs.Meeting.{ArmsBeside, IsOutInWalk, NoneOutInWalk, IsWhyNotYet, ThreadCalls, ThreadCallsHome};
+ghost use Rattle.hp_machine.specs.StandsNext.{due_of};
 
 use crate::board::Board;
 use hp_account::Entry;
@@ -73,26 +66,19 @@ impl<H: Hook> Board<H> {
     /// nothing was made nothing has changed, the ask neither. What is lent to other seats stays so. After the
     /// calls of `kernel/cpu.c`; that each goes on by one event at a time is this project's own.
     pub fn turn(&mut self, by: u32, ask: &mut Ask<H>) -> Result<Turn, NoMemory>
-        requires allowed { IsAllowed self.old.head self.old.events (record { seat = by; op = ask.old.op }) }
-        requires hook { is_some ask.old.hook ≡ has_hook self.old.events by ask.old.op }
+        requires allowed { MayAsk self.old by ask.old.op }
+        requires hook { HasItsHook self.old by ask.old.op ask.old.hook }
         requires nothing { loan self.old by ≡ None }
         ensures turn { IfOk result (IsTurn by ask.old.op self.old self.new) }
         ensures op { ask.new.op ≡ ask.old.op }
-        ensures has_hook { OnOk result (is_some ask.new.hook
-            ≡ has_hook_after self.old.events (next_event self.old.head self.old.events by ask.old.op) (is_some ask.old.hook)) }
-        ensures same_hook { OnOk result (
-            leaves_hook self.old.events (next_event self.old.head self.old.events by ask.old.op) ≡ true →
-            ask.new.hook ≡ ask.old.hook) }
-        ensures handed { OnOk result (
-            leaves_hook self.old.events (next_event self.old.head self.old.events by ask.old.op) ≡ false →
-            IfSome ask.new.hook (λ h. HasCounted (H.counts h) (registering_step (registration self.old.events) self.old.places))) }
-        ensures again { IfOk result (λ turn. goes_on turn ≡ true →
-            is_some ask.new.hook ≡ has_hook self.new.events by ask.old.op) }
+        ensures has_hook { OnOk result (HasHookLeft self.old by ask.old ask.new) }
+        ensures same_hook { OnOk result (KeepsItsHook self.old by ask.old ask.new) }
+        ensures handed { OnOk result (GetsStatesHook H.counts self.old by ask.old ask.new) }
+        ensures again { IfOk result (λ turn. goes_on turn ≡ true → HasItsHook self.new by ask.old.op ask.new.hook) }
         ensures stays { (k : ℕ) → loan self.new k ≡ loan self.old k }
         ensures hook_out { (s : ℕ) → IsHookOut s by ask.old.op self.old ↔ (result ≡ Ok (NotYet (HookOut s))) }
         ensures err { OnErr result ((self.new ≡ self.old) × (ask.new ≡ ask.old)) }
-        ensures memory { OnErr result (TakesRoom self.old.head self.old.events
-            (next_event self.old.head self.old.events by ask.old.op)) }
+        ensures memory { OnErr result (NextTakesRoom self.old by ask.old.op) }
     {
         self.machine.sound();
         match self.machine.next(by, &ask.op) {
@@ -120,8 +106,7 @@ impl<H: Hook> Board<H> {
     /// The state whose hook is lent for the entry of the walk of a processor that an event arms, if it is.
     fn keeps_out(&self, event: &Event) -> Option<u32>
         requires { is_call event.now ≡ false }
-        ensures out { IfSome result (λ s. (o : IsOutFor self.now s)
-            × (arms_walker self.now.events (Call o.seat o.cpu s o.inst o.dir o.how) event.now ≡ true)) }
+        ensures out { IfSome result (ArmsBeside self.now event.now) }
         ensures calm { IfNone result (IsCalm self.now event.now) }
     {
         self.machine.sound();
@@ -133,9 +118,8 @@ impl<H: Hook> Board<H> {
 
     /// The state whose hook is lent for the entry of the walk of a processor, if one is.
     fn armed_out(&self, cpu: u32) -> Option<u32>
-        ensures some { IfSome result (λ s. (o : IsOutFor self.now s) × (o.cpu ≡ cpu) × (is_some (walk cpu self.now.events) ≡ true)) }
-        ensures none { IfNone result ((s : ℕ) (o : IsOutFor self.now s) → o.cpu ≡ cpu →
-            is_some (walk cpu self.now.events) ≡ false) }
+        ensures some { IfSome result (IsOutInWalk self.now cpu) }
+        ensures none { IfNone result (NoneOutInWalk self.now cpu) }
     {
         self.machine.sound();
         if !self.is_lent(cpu) {
@@ -150,8 +134,7 @@ impl<H: Hook> Board<H> {
     /// The entry of a processor that a hook is lent for.
     fn lent_entry(&self, cpu: u32) -> Entry
         requires { has self.now.lent cpu ≡ true }
-        ensures due { due_entry self.now.head self.now.events result.seat
-            ≡ Some (entry_event self.now.head self.now.events result) }
+        ensures due { IsDue self.now.head self.now.events result.seat (Some result) }
         ensures cpu { result.cpu ≡ cpu }
     {
         self.machine.sound();
@@ -166,8 +149,7 @@ impl<H: Hook> Board<H> {
 
     /// What a client waits for: where that is a thread whose entry calls a hook that is away, for the hook.
     fn waits_for(&self, why: Why) -> Why
-        ensures { (seat : ℕ) (op : AnOp) → IsKept self.now.head self.now.events seat op why →
-            IsNotYet seat op self.now result }
+        ensures { IsWhyNotYet self.now why result }
     {
         self.machine.sound();
         match why {
@@ -183,10 +165,8 @@ impl<H: Hook> Board<H> {
     /// if that hook is away.
     fn asked_away(&self, cpu: u32) -> Option<u32>
         ensures some { IfSome result (λ s. is_home (step_at self.now.places s) ≡ false) }
-        ensures asks { IfSome result (λ s. (seat : ℕ) (turn : IsApTurn self.now.head self.now.events seat cpu) →
-            hook_asked turn.state turn.how ≡ Some s) }
-        ensures none { IfNone result ((seat s : ℕ) (turn : IsApTurn self.now.head self.now.events seat cpu) →
-            hook_asked turn.state turn.how ≡ Some s → is_home (step_at self.now.places s) ≡ true) }
+        ensures asks { IfSome result (ThreadCalls self.now cpu) }
+        ensures none { IfNone result (ThreadCallsHome self.now cpu) }
     {
         if self.machine.lent().is_empty() {
             return None;
@@ -202,12 +182,10 @@ impl<H: Hook> Board<H> {
     ///
     /// Takes no memory. This project's own.
     pub fn can_ask(&self, by: u32, ask: &Ask<H>) -> bool
-        ensures allowed { result ≡ true →
-            IsAllowed self.now.head self.now.events (record { seat = by; op = ask.now.op }) }
-        ensures hook { result ≡ true → is_some ask.now.hook ≡ has_hook self.now.events by ask.now.op }
+        ensures allowed { result ≡ true → MayAsk self.now by ask.now.op }
+        ensures hook { result ≡ true → HasItsHook self.now by ask.now.op ask.now.hook }
         ensures nothing { result ≡ true → loan self.now by ≡ None }
-        ensures always { IsAllowed self.now.head self.now.events (record { seat = by; op = ask.now.op }) →
-            is_some ask.now.hook ≡ has_hook self.now.events by ask.now.op →
+        ensures always { MayAsk self.now by ask.now.op → HasItsHook self.now by ask.now.op ask.now.hook →
             loan self.now by ≡ None → result ≡ true }
     {
         if self.has_lent(by) {
@@ -224,8 +202,7 @@ impl<H: Hook> Board<H> {
 
     /// Whether a seat has no other operation than this in flight.
     fn is_of(&self, seat: u32, op: &Op) -> bool
-        ensures { IsTrue result
-            ↔ ((x : AnOp) → IsInFlight self.now.events (record { seat = seat; op = x }) → x ≡ op.now) }
+        ensures { IsTrue result ↔ ((x : AnOp) → HasInFlight self.now.events seat x → x ≡ op.now) }
     {
         match self.machine.op(seat) {
             Some(in_flight) => is_same(&in_flight, op),
@@ -247,8 +224,7 @@ impl<H: Hook> Board<H> {
         requires { loan self.old by ≡ None }
         ensures served { IsServed by self.old self.new result }
         ensures stays { (k : ℕ) → loan self.new k ≡ loan self.old k }
-        ensures hook_out { (s : ℕ) → CallsAway self.old s (due_entry self.old.head self.old.events by)
-            ↔ (result ≡ NotYet (HookOut s)) }
+        ensures hook_out { (s : ℕ) → CallsAway self.old s (due_of self.old by) ↔ (result ≡ NotYet (HookOut s)) }
     {
         self.machine.sound();
         match self.machine.due(by) {

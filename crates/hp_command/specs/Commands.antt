@@ -1,5 +1,5 @@
 -- The commands, by the words that ask for them. This project's own.
-use Rattle.std.specs.Prelude.{◌≡◌, ◌⊎◌, ℕ, List, [], ◌∷◌, codes}
+use Rattle.std.specs.Prelude.{◌≡◌, ◌≢◌, ◌⊎◌, ℕ, List, [], ◌∷◌, codes}
 use Rattle.hp_command.specs.Options.{AreOptions}
 use Rattle.hp_command.specs.declared.command.Command.{Command}
 use Rattle.hp_command.specs.declared.command.Command.TheVariants.{Play, States, Replay, Gen, Bench}
@@ -28,3 +28,15 @@ pub record IsCommand (words : List (List ℕ)) (command : Command) : Type 0 wher
 pub record HasOptions (words : List (List ℕ)) : Type 0 where
   pub rest : List (List ℕ)
   pub begins : (words ≡ codes "gen" ∷ rest) ⊎ (words ≡ codes "bench" ∷ rest)
+
+-- the words are those of no command
+abbrev pub AreNoCommand : (words : List (List ℕ)) → Type 0
+AreNoCommand words = (command : Command) → IsCommand words command → ⊥
+
+-- and of one at most
+abbrev pub AreOneCommand : (words : List (List ℕ)) → Type 0
+AreOneCommand words = (one other : Command) → IsCommand words one → IsCommand words other → one ≡ other
+
+-- a word isn't that of a command without options
+abbrev pub IsNoLoneCommand : (word : List ℕ) → Type 0
+IsNoLoneCommand word = (word ≢ codes "play") × (word ≢ codes "states") × (word ≢ codes "replay")

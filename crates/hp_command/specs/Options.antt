@@ -23,10 +23,19 @@ BeginsPlain None = ⊤
 BeginsPlain (Some []) = ⊥
 BeginsPlain (Some (byte ∷ bytes)) = byte ≢ 45
 
+-- the words are those of no options whose texts do
+abbrev pub HaveNoPlainTexts : (words : List (List ℕ)) → Type 0
+HaveNoPlainTexts words =
+    (seed size : Option (List ℕ)) → AreWordsOfBoth words seed size → BeginsPlain seed → BeginsPlain size → ⊥
+
 -- the number that a text is the digits of, and the default where there is no text
 abbrev pub Says : (default : ℕ) → (text : Option (List ℕ)) → ℕ → Type 0
 Says default None n = n ≡ default
 Says default (Some text) n = text ≡ decimal n
+
+-- a text says no number of 64 bits
+abbrev pub SaysNoNumber : (default : ℕ) → (text : Option (List ℕ)) → Type 0
+SaysNoNumber default text = (n : ℕ) → n < 2 ^ 64 → Says default text n → ⊥
 
 -- these texts say the options
 pub record AreSaid (seed size : Option (List ℕ)) (options : Options) : Type 0 where
@@ -41,3 +50,6 @@ pub record AreOptions (words : List (List ℕ)) (options : Options) : Type 0 whe
   pub size : Option (List ℕ)
   pub spelled : AreWordsOfBoth words seed size
   pub said : AreSaid seed size options
+
+abbrev pub AreNoOptions : (words : List (List ℕ)) → Type 0
+AreNoOptions words = (options : Options) → AreOptions words options → ⊥

@@ -1,8 +1,7 @@
 //! The commands, and the words that ask for them.
 
-ghost use Rattle.std.specs.Prelude.{◌≡◌, ◌≢◌, IfOk, IfErr, IfSome, IfNone, [], ◌∷◌, map, string_bytes, codes};
-ghost use Rattle.hp_command.specs.Commands.{HasOptions, IsCommand};
-ghost use Rattle.hp_command.specs.declared.command.Command.{Command as TheCommand};
+ghost use Rattle.std.specs.Prelude.{IfOk, IfErr, IfSome, IfNone, [], ◌∷◌, map, string_bytes};
+ghost use Rattle.hp_command.specs.Commands.{AreNoCommand, HasOptions, IsCommand, IsNoLoneCommand};
 
 use crate::options::{Options, options_of};
 use hp_states::NoMemory;
@@ -26,8 +25,7 @@ pub enum Command {
 /// The command that this one word asks for, if it is one without options.
 fn lone(word: &str) -> Option<Command>
     ensures some { IfSome result (IsCommand (word.now ∷ [])) }
-    ensures none { IfNone result ((word.now ≢ codes "play")
-        × (word.now ≢ codes "states") × (word.now ≢ codes "replay")) }
+    ensures none { IfNone result (IsNoLoneCommand word.now) }
 {
     if word == "play" {
         return Some(Command::Play);
@@ -53,8 +51,7 @@ fn lone(word: &str) -> Option<Command>
 /// Takes memory for the options, which `clap` reads; where there is none: `NoMemory`.
 pub fn command_of(alloc: Global, words: &[String]) -> Result<Option<Command>, NoMemory>
     ensures some { IfOk result (λ found. IfSome found (IsCommand (map string_bytes words.now))) }
-    ensures none { IfOk result (λ found. IfNone found ((command : TheCommand) →
-        IsCommand (map string_bytes words.now) command → ⊥)) }
+    ensures none { IfOk result (λ found. IfNone found (AreNoCommand (map string_bytes words.now))) }
     ensures no_memory { IfErr result (λ _. HasOptions (map string_bytes words.now)) }
 {
     let Some((word, rest)) = words.split_first() else {

@@ -1,8 +1,9 @@
 //! The options of a command, as numbers.
 
-ghost use Rattle.std.specs.Prelude.{◌≡◌, ℕ, ◌<◌, ◌^◌, IfOk, IfSome, IfNone, map, option_map, string_bytes};
-ghost use Rattle.hp_command.specs.Options.{AreOptions, AreSaid, Says};
-ghost use Rattle.hp_command.specs.declared.options.Options.{Options as TheOptions};
+ghost use Rattle.std.specs.Prelude.{IfOk, IfSome, IfNone, map, string_bytes};
+ghost use Rattle.std.specs.Option.{option_copied};
+ghost use Rattle.hp_command.specs.Options.{AreNoOptions, AreOptions, Says, SaysNoNumber};
+ghost use Rattle.hp_command.specs.TextsFound.{SayNoOptions, SayOptions};
 
 use crate::number::number_of;
 use crate::texts::{Texts, texts_of};
@@ -25,9 +26,8 @@ pub struct Options {
 
 /// The number that a text says, and the default where there is no text.
 fn value_of(text: Option<&str>, default: u64) -> Option<u64>
-    ensures some { IfSome result (Says default (option_map (λ t. t.now) text.entry)) }
-    ensures none { IfNone result ((n : ℕ) → n < 2 ^ 64 →
-        Says default (option_map (λ t. t.now) text.entry) n → ⊥) }
+    ensures some { IfSome result (Says default (option_copied text.entry)) }
+    ensures none { IfNone result (SaysNoNumber default (option_copied text.entry)) }
 {
     match text {
         None => Some(default),
@@ -37,11 +37,8 @@ fn value_of(text: Option<&str>, default: u64) -> Option<u64>
 
 /// The options that the texts say, if both say a number in its range.
 fn said_by(texts: &Texts<'_>) -> Option<Options>
-    ensures some { IfSome result (AreSaid (option_map (λ t. t.now) texts.now.seed)
-        (option_map (λ t. t.now) texts.now.size)) }
-    ensures none { IfNone result ((options : TheOptions) →
-        AreSaid (option_map (λ t. t.now) texts.now.seed)
-        (option_map (λ t. t.now) texts.now.size) options → ⊥) }
+    ensures some { IfSome result (SayOptions texts.now) }
+    ensures none { IfNone result (SayNoOptions texts.now) }
 {
     let seed = value_of(texts.seed, DEFAULT_SEED)?;
     let size = value_of(texts.size, DEFAULT_SIZE)?;
@@ -58,8 +55,7 @@ fn said_by(texts: &Texts<'_>) -> Option<Options>
 /// there is none: `NoMemory`.
 pub fn options_of(alloc: Global, words: &[String]) -> Result<Option<Options>, NoMemory>
     ensures some { IfOk result (λ found. IfSome found (AreOptions (map string_bytes words.now))) }
-    ensures none { IfOk result (λ found. IfNone found ((options : TheOptions) →
-        AreOptions (map string_bytes words.now) options → ⊥)) }
+    ensures none { IfOk result (λ found. IfNone found (AreNoOptions (map string_bytes words.now))) }
 {
     match texts_of(alloc, words)? {
         Some(texts) => Ok(said_by(&texts)),

@@ -1,9 +1,10 @@
 //! The texts of the options, before they are read as numbers.
 
-ghost use Rattle.std.specs.Prelude.{◌≡◌, ℕ, List, Option, map, option_map, string_bytes, codes, IfOk, IfSome, IfNone};
+ghost use Rattle.std.specs.Prelude.{◌≡◌, map, string_bytes, codes, IfOk, IfSome, IfNone};
 ghost use Rattle.std.specs.List.{list_any};
 ghost use Rattle.std.specs.Str.{bytes_eq};
-ghost use Rattle.hp_command.specs.Options.{AreWordsOfBoth, BeginsPlain};
+ghost use Rattle.hp_command.specs.Options.{HaveNoPlainTexts};
+ghost use Rattle.hp_command.specs.TextsFound.{AreTextsIn};
 
 use clap::error::ErrorKind;
 use clap::{Arg, Command};
@@ -32,12 +33,8 @@ pub struct Texts<'a> {
 /// that is a word of its own and begins with a dash may be refused: no number does. Takes memory for
 /// what `clap` keeps; where there is none: `NoMemory`.
 pub fn texts_of(alloc: Global, words: &[String]) -> Result<Option<Texts<'_>>, NoMemory>
-    ensures some { IfOk result (λ found. IfSome found (λ texts. AreWordsOfBoth
-        (map string_bytes words.now)
-        (option_map (λ t. t.now) texts.seed) (option_map (λ t. t.now) texts.size))) }
-    ensures none { IfOk result (λ found. IfNone found ((seed size : Option (List ℕ)) →
-        AreWordsOfBoth (map string_bytes words.now) seed size →
-        BeginsPlain seed → BeginsPlain size → ⊥)) }
+    ensures some { IfOk result (λ found. IfSome found (AreTextsIn (map string_bytes words.now))) }
+    ensures none { IfOk result (λ found. IfNone found (HaveNoPlainTexts (map string_bytes words.now))) }
 {
     if ends_options(words) {
         return Ok(None);

@@ -4,7 +4,8 @@
 //! `journal_error_line` make the line that says why an input is refused. `write_answer` writes bytes and answers
 //! a status; `status` has all that a program ends with.
 //!
-//! What was read, `specs/Reading.antt` says; the lines, `specs/Refusals.antt`.
+//! What was read, `specs/Reading.antt` says; what was written, `specs/Writing.antt`; the lines,
+//! `specs/Refusals.antt`.
 #![tactic(auto)]
 
 mod read;

@@ -1,7 +1,7 @@
 //! What is read.
 
-ghost use Rattle.std.specs.Prelude.{◌≡◌, ◌+◌, ◌<◌, IfOk, OnOk, OnErr, IfErr};
-ghost use Rattle.hp_edge.specs.Reading.{WasRead};
+ghost use Rattle.std.specs.Prelude.{◌≡◌, ◌<◌, IfOk, OnOk, IfErr};
+ghost use Rattle.hp_edge.specs.Reading.{Reads, CountsIfFailed, KeepsIfNoMemory};
 
 use hp_io::{ReadError, Source, read_up_to};
 use std::alloc::Global;
@@ -18,10 +18,10 @@ pub fn read_input<S: Source>(
     limit: u32,
 ) -> Result<Vec<u8>, ReadError>
     requires { S.faults source.old < u64.MAX }
-    ensures read { IfOk result (λ bytes. WasRead limit (S.left source.old) (S.left source.new) bytes.items) }
+    ensures read { IfOk result (λ bytes. Reads S.Source limit source.old source.new bytes.items) }
     ensures faults { OnOk result (S.faults source.new ≡ S.faults source.old) }
-    ensures failed { IfErr result (λ error. error ≡ ReadError.Failed → S.faults source.new ≡ S.faults source.old + 1) }
-    ensures no_memory { IfErr result (λ error. error ≡ ReadError.NoMemory → S.faults source.new ≡ S.faults source.old) }
+    ensures failed { IfErr result (λ error. CountsIfFailed S.Source source.old source.new error) }
+    ensures no_memory { IfErr result (λ error. KeepsIfNoMemory S.Source source.old source.new error) }
 {
     read_up_to(alloc, source, limit as usize)
 }

@@ -1,7 +1,7 @@
 //! What is written.
 
-ghost use Rattle.std.specs.Prelude.{◌≡◌, ◌≢◌, ℕ, ◌+◌, ◌<◌, length, take};
-ghost use Rattle.std.specs.Io.KnownBytes.{append_known};
+ghost use Rattle.std.specs.Prelude.{◌≡◌, ◌≢◌, ◌<◌};
+ghost use Rattle.hp_edge.specs.Writing.{WroteAll, WrotePart};
 
 use crate::status::WRITE_FAULT;
 use hp_io::{Failed, Sink, write_all};
@@ -13,11 +13,8 @@ use hp_io::{Failed, Sink, write_all};
 pub fn write_answer<K: Sink>(sink: &mut K, bytes: &[u8], status: u8) -> u8
     requires faults { K.faults sink.old < u64.MAX }
     requires status { status ≢ WRITE_FAULT }
-    ensures written { result ≢ WRITE_FAULT → (result ≡ status)
-        × (K.taken sink.new ≡ append_known (K.taken sink.old) bytes.now) × (K.faults sink.new ≡ K.faults sink.old) }
-    ensures fault { result ≡ WRITE_FAULT →
-        (n : ℕ) × (n < length bytes.now) × (K.taken sink.new ≡ append_known (K.taken sink.old) (take n bytes.now))
-        × (K.faults sink.new ≡ K.faults sink.old + 1) }
+    ensures written { result ≢ WRITE_FAULT → WroteAll K.Sink sink.old sink.new bytes.now status result }
+    ensures fault { result ≡ WRITE_FAULT → WrotePart K.Sink sink.old sink.new bytes.now }
 {
     match write_all(sink, bytes) {
         Ok(()) => status,

@@ -5,6 +5,7 @@ use Rattle.std.specs.Prelude.{◌==◌}
 use Rattle.std.specs.Cmp.{IsEquivalence}
 use Rattle.std.specs.Ordering.{int_eq}
 use Rattle.std.proofs.lemmas.Bool.Decides.{Decides-eqb, Decides-int_eq}
+use Rattle.hp_states.proofs.Basics.{and_parts}
 use Rattle.hp_states.specs.contracts.dir.DirPartialEq.TheImpl.{eq-value as dir_eq}
 use Rattle.hp_states.specs.contracts.cpu_set.CpuSetPartialEq.TheImpl.{eq-value as cpu_set_eq}
 use Rattle.hp_event.specs.contracts.answer.AnswerPartialEq.TheImpl.{eq-value as answer_eq}
@@ -32,10 +33,6 @@ Alike {A} E = (x y : A) → E x y ≡ true → x ≡ y
 
 -- ---- the fields of a variant, one behind another
 
-both : (s t : Bool) → (s && t) ≡ true → (s ≡ true) × (t ≡ true)
-both true t h = (refl, h)
-both false t h = absurd (true≢false (sym h))
-
 single : (x y : Unit {0}) → true ≡ true → x ≡ y
 single x y h = refl
 
@@ -43,7 +40,7 @@ last : {A : Type 0} {E : A → A → Bool} → Alike E → (x y : A × Unit {0})
 last alike x y h = λ i. (alike x.0 y.0 h i, tt)
 
 then : {A B : Type 0} {E : A → A → Bool} {F : B → B → Bool} → Alike E → Alike F → (x y : A × B) → (E x.0 y.0 && F x.1 y.1) ≡ true → x ≡ y
-then {A} {B} {E} {F} first rest x y h = let b = both (E x.0 y.0) (F x.1 y.1) h in λ i. (first x.0 y.0 b.0 i, rest x.1 y.1 b.1 i)
+then {A} {B} {E} {F} first rest x y h = let b = and_parts (E x.0 y.0) (F x.1 y.1) h in λ i. (first x.0 y.0 b.0 i, rest x.1 y.1 b.1 i)
 
 -- ---- the variants of an enum
 

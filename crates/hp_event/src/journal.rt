@@ -4,9 +4,11 @@
 //! wants memory or finds the journal full; what it did not use it gives back. That is this
 //! project's own.
 
-ghost use Rattle.std.specs.Prelude.{◌≡◌, ◌+◌, ◌-◌, ◌*◌, min, ◌<◌, ◌≤◌, ◌↔◌, [], ◌∷◌, ◌++◌, length, slice_get, OnOk, OnErr, Some, IsErrOf, IsTrue, vec_capacity};
+ghost use Rattle.std.specs.Prelude.{◌≡◌, ◌+◌, ◌-◌, ◌<◌, ◌≤◌, ◌↔◌, [], length, slice_get, OnOk, OnErr, Some, IsErrOf, IsTrue, vec_capacity};
 ghost use Rattle.std.specs.Vec.{VecUnchanged};
 ghost use Rattle.hp_event.specs.Texts.{text_of};
+ghost use Rattle.hp_event.specs.Story.{FitsMore, IsFullFor, with_event};
+ghost use Rattle.hp_event.specs.Room.{Doubles};
 
 use crate::event::Event;
 use crate::head::Head;
@@ -146,11 +148,9 @@ impl Journal {
     /// reservations and pushes costs a time linear in its length.
     pub fn reserve(&mut self, n: u32) -> Result<(), JournalError>
         ensures ok { OnOk result (self.new ≡ record self.old { promised = self.old.promised + n }) }
-        ensures room { OnOk result (length self.old.events + self.old.promised + n ≤ MAX_EVENTS) }
-        ensures full { IsErrOf result JournalError.Full
-            ↔ (MAX_EVENTS < length self.old.events + self.old.promised + n) }
-        ensures no_memory { IsErrOf result JournalError.NoMemory
-            → length self.old.events + self.old.promised + n ≤ MAX_EVENTS }
+        ensures room { OnOk result (FitsMore self.old n) }
+        ensures full { IsErrOf result JournalError.Full ↔ IsFullFor self.old n }
+        ensures no_memory { IsErrOf result JournalError.NoMemory → FitsMore self.old n }
         ensures err { OnErr result (self.new ≡ self.old) }
     {
         let taken = self.events.len() as u32 + self.promised;
@@ -169,11 +169,7 @@ impl Journal {
     /// At least one event is promised. Takes no memory.
     pub fn push(&mut self, event: Event)
         requires { 0 < self.old.promised }
-        ensures { self.new
-            ≡ record self.old {
-              events = self.old.events ++ event ∷ [];
-              promised = self.old.promised - 1;
-            } }
+        ensures { self.new ≡ with_event event self.old }
     {
         self.events.push_reserved(event);
         self.promised -= 1;
@@ -198,8 +194,7 @@ fn make_places(events: &mut Vec<Event>, wanted: u32) -> Result<(), AllocError>
     requires bounded { vec_capacity events.old ≤ MAX_EVENTS }
     ensures items { VecUnchanged events.old events.new }
     ensures made { OnOk result (wanted ≤ vec_capacity events.new) }
-    ensures doubled { OnOk result (vec_capacity events.old < wanted
-        → min (2 * vec_capacity events.old) MAX_EVENTS ≤ vec_capacity events.new) }
+    ensures doubled { OnOk result (Doubles (vec_capacity events.old) wanted (vec_capacity events.new)) }
     ensures bounded { vec_capacity events.new ≤ MAX_EVENTS }
     ensures err { OnErr result (vec_capacity events.new ≡ vec_capacity events.old) }
 {

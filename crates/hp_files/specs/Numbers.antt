@@ -17,6 +17,13 @@ newline_if is_ended = if is_ended then 10 ∷ [] else []
 abbrev pub negative_if : Bool → ℤ → ℤ
 negative_if is_negative z = if is_negative then neg_ℤ z else z
 
+-- one to ten digits, and the number that they are
+abbrev pub IsShortNumeralOf : (digits : List ℕ) → ℕ → Type 0
+IsShortNumeralOf digits n = IsNumeral 10 digits × (length digits ≤ 10) × (n ≡ digits_value 10 digits)
+
+abbrev pub IsNoShortNumeral : (digits : List ℕ) → Type 0
+IsNoShortNumeral digits = IsNumeral 10 digits → length digits ≤ 10 → ⊥
+
 -- One to ten digits, which may begin with zeros: behind a minus or without one they say a number of the type i32.
 pub record DigitsSay (is_negative : Bool) (digits : List ℕ) (number : ℤ) : Type 0 where
   pub are_digits : IsNumeral 10 digits

@@ -8,7 +8,7 @@ use Rattle.hp_event.specs.declared.head.Head.{Head}
 use Rattle.hp_event.specs.declared.event.Event.{Event}
 use Rattle.hp_model.specs.Registered as registered_of
 use Rattle.hp_model.specs.Refusals.{can_be_armed}
-use Rattle.hp_model.specs.RefusalsAtOnce.{Check, if_so, is_state}
+use Rattle.hp_model.specs.RefusalsAtOnce.{Check, first_that_holds, if_so, is_state}
 use Rattle.hp_model.specs.Sequence.{target_of}
 use Rattle.hp_table.specs.Named.{is_named}
 use Rattle.hp_table.specs.Step.{Step, step_at}
@@ -24,6 +24,10 @@ refusals_of_target_value table v =
     if_so (not (is_state v)) EINVAL
     ∷ if_so (not (is_named table (target_of v))) EINVAL
     ∷ if_so (not (is_stop (target_of v))) EINVAL ∷ []
+
+-- what a write of the value to `target` comes to by the table: its state, or the error number
+abbrev pub target_by : List (Option Step) → ℤ → Result ℕ ℕ
+target_by table v = unless_refused (first_that_holds (refusals_of_target_value table v)) (target_of v)
 
 -- whether what is registered has a callback of some direction
 abbrev pub has_callback_of : Option Step → Bool
@@ -42,6 +46,10 @@ refusals_of_fail_value table (pos s) shown =
     ∷ if_so (is_atomic_state s) EINVAL
     ∷ if_so (nat_le s BRINGUP_CPU && nat_lt BRINGUP_CPU shown) EINVAL
     ∷ if_so (not (has_callback_at table s)) EINVAL ∷ []
+
+-- what a write of it to `fail` comes to: the value, or the error number
+abbrev pub fail_by : List (Option Step) → ℤ → (shown : ℕ) → Result ℤ ℕ
+fail_by table v shown = unless_refused (first_that_holds (refusals_of_fail_value table v shown)) v
 
 -- the states that have names in the table are those that have them after the events
 abbrev pub HasNamesOf : Head → List Event → List (Option Step) → Type 0

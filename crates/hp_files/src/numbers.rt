@@ -1,8 +1,7 @@
 //! Numbers in files.
 
-ghost use Rattle.std.specs.Prelude.{◌≡◌, ◌==◌, ◌<◌, ◌≤◌, ◌^◌, ◌++◌, slice_index, ℕ, ℤ, pos, IfSome, IfOk, IfErr, MatchOption, length, drop};
-ghost use Rattle.std.specs.Str.Parse.{IsNumeral, digits_value};
-ghost use Rattle.hp_files.specs.Numbers.{DigitsSay, IsNumberText, minus_if, negative_if, without_newline, number_line};
+ghost use Rattle.std.specs.Prelude.{◌≡◌, ◌==◌, ◌<◌, ◌^◌, ◌++◌, slice_index, ℤ, pos, IfSome, IfOk, IfErr, MatchOption, length, drop};
+ghost use Rattle.hp_files.specs.Numbers.{DigitsSay, IsNumberText, minus_if, negative_if, without_newline, number_line, IsShortNumeralOf, IsNoShortNumeral};
 
 use itoa::Buffer;
 
@@ -35,9 +34,7 @@ fn split_minus(line: &[u8]) -> (bool, &[u8])
 /// The number that one to ten digits say.
 fn value_of(digits: &[u8]) -> Option<u64>
     ensures small { IfSome result (λ n. n < 10 ^ 10) }
-    ensures said { MatchOption result
-        (IsNumeral 10 digits.now → length digits.now ≤ 10 → ⊥)
-        (λ n. IsNumeral 10 digits.now × (length digits.now ≤ 10) × (n ≡ digits_value 10 digits.now)) }
+    ensures said { MatchOption result (IsNoShortNumeral digits.now) (IsShortNumeralOf digits.now) }
 {
     if digits.is_empty() || digits.len() > 10 {
         return None;

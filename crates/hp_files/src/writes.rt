@@ -1,9 +1,7 @@
 //! What may be written to the `target` and `fail` files.
 
 ghost use Rattle.std.specs.Prelude.{◌≡◌};
-ghost use Rattle.hp_model.specs.RefusalsAtOnce.{first_that_holds};
-ghost use Rattle.hp_model.specs.Sequence.{target_of};
-ghost use Rattle.hp_files.specs.Writes.{unless_refused, refusals_of_target_value, refusals_of_fail_value, has_callback_at};
+ghost use Rattle.hp_files.specs.Writes.{has_callback_at, target_by, fail_by};
 ghost use Rattle.hp_files.specs.WritesByJournal.{IsTargetByEvents, IsTargetByRefusal, IsFailByEvents, IsFailByRefusal};
 
 use hp_hook::Hook;
@@ -18,8 +16,7 @@ use hp_table::Table;
 /// There is no other refusal; the table is only read. Takes no memory. After `target_store` of
 /// `kernel/cpu.c`; that a walk can't be aimed at those states is this project's own.
 pub fn check_target<H: Hook>(table: &Table<H>, value: i32) -> Result<u32, u32>
-    ensures by_table { result
-        ≡ unless_refused (first_that_holds (refusals_of_target_value table.now value)) (target_of value) }
+    ensures by_table { result ≡ target_by table.now value }
     ensures by_events { IsTargetByEvents table.now value result }
     ensures by_refusal { IsTargetByRefusal table.now value result }
 {
@@ -43,8 +40,7 @@ pub fn check_target<H: Hook>(table: &Table<H>, value: i32) -> Result<u32, u32>
 /// There is no other refusal; the table is only read. Takes no memory. After `fail_store` of
 /// `kernel/cpu.c`; each condition is this project's own.
 pub fn check_fail<H: Hook>(table: &Table<H>, value: i32, shown: u32) -> Result<i32, u32>
-    ensures by_table { result
-        ≡ unless_refused (first_that_holds (refusals_of_fail_value table.now value shown)) value }
+    ensures by_table { result ≡ fail_by table.now value shown }
     ensures by_events { IsFailByEvents table.now value shown result }
     ensures by_refusal { IsFailByRefusal table.now value shown result }
 {

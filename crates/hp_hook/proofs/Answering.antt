@@ -1,9 +1,9 @@
 -- What is answered next: of the rules from `i` on, the first one decides, or else those behind it.
 use Rattle.std.proofs.Common.{◌≡◌, ℕ, ◌+◌, ◌<◌, ◌≤◌, ◌&&◌, Bool, true, false, if◌then◌else◌, List, take, drop, length, get_or, refl, ap, sym, ◌∙◌, arith}
 use Rattle.std.proofs.lemmas.List.{get_or-take, length-take-le, drop_all}
+use Rattle.hp_states.proofs.Basics.{drop_at}
 use Rattle.hp_states.specs.declared.plan.Rule.{Rule}
 use Rattle.hp_states.specs.Rules.{Site, matches, allows, raised, counted_answer}
-use Rattle.hp_hook.proofs.Counting.{first_of}
 
 -- what the rules from `i` on answer to a site that comes next
 abbrev pub answer_from : (i : ℕ) → List Rule → List ℕ → Site → ℕ
@@ -21,7 +21,7 @@ answer_at : (rules : List Rule) (seen : List ℕ) (site : Site) (i : ℕ) (d : R
 answer_at rules seen site i d within same =
     let in_seen : i < length seen = omega arith in
     let rule : Rule = get_or rules i d in
-    rw (first_of rules i d within, first_of seen i 0 in_seen)
+    rw (drop_at rules i d within, drop_at seen i 0 in_seen)
     (ap (λ (b : Bool). if b then rule.code else answer_from (i + 1) rules seen site)
     (raised_where (matches rule site) (allows rule.nth) (get_or seen i 0)))
 

@@ -1,8 +1,9 @@
 -- Counting from the last rule to the first: what holds once the rules from `i` on have counted.
 use Rattle.std.specs.Prelude.{All}
-use Rattle.std.proofs.Common.{◌≡◌, ℕ, ◌+◌, ◌-◌, ◌<◌, ◌≤◌, ◌&&◌, Bool, if◌then◌else◌, List, ◌∷◌, take, drop, set, length, get_or, refl, ap, subst, sym, ◌∙◌, add-one, arith}
-use Rattle.std.proofs.Math.Seq.{drop-cons, take-set-lt}
+use Rattle.std.proofs.Common.{◌≡◌, ℕ, ◌+◌, ◌-◌, ◌<◌, ◌≤◌, ◌&&◌, Bool, if◌then◌else◌, List, ◌∷◌, take, drop, set, length, get_or, refl, ap, subst, sym, ◌∙◌, arith}
+use Rattle.std.proofs.Math.Seq.{take-set-lt}
 use Rattle.std.proofs.lemmas.List.{get_or-take, take-take, take-set, drop-set, length-take-le, drop_all}
+use Rattle.hp_states.proofs.Basics.{drop_at}
 use Rattle.hp_states.specs.declared.plan.Rule.{Rule}
 use Rattle.hp_states.specs.Rules.{Site, matches, allows, raised, counted_answer}
 
@@ -12,9 +13,6 @@ pub record HasCounted (rules : List Rule) (old : List ℕ) (site : Site) (i : �
   pub before : take i seen ≡ take i old
   pub after : drop i seen ≡ raised (drop i rules) (drop i old) site
   pub answers : answer ≡ counted_answer (drop i rules) (drop i seen) site
-
-pub first_of : {A : Type 0} (xs : List A) (i : ℕ) (d : A) → i < length xs → drop i xs ≡ get_or xs i d ∷ drop (i + 1) xs
-first_of xs i d within = rw add-one (drop-cons xs i d within)
 
 same_cons : (m n : ℕ) (ms ns : List ℕ) → m ≡ n → ms ≡ ns → m ∷ ms ≡ n ∷ ns
 same_cons m n ms ns e es = cc
@@ -42,10 +40,10 @@ counted_at rules old site i seen answer d v a within old_len seen_len count says
       low = omega arith;
       before = take-set seen i v ∙ sym (take-take i (i + 1) seen le) ∙ ap (take i) h.before ∙ take-take i (i + 1) old le;
       after =
-          rw (drop-set seen i v in_seen, first_of rules i d within, first_of old i 0 in_old)
+          rw (drop-set seen i v in_seen, drop_at rules i d within, drop_at old i 0 in_old)
           (same_cons _ _ _ _ (count ∙ ap raise kept) h.after);
       answers =
-          rw (drop-set seen i v in_seen, first_of rules i d within)
+          rw (drop-set seen i v in_seen, drop_at rules i d within)
           (says ∙ ap (λ (n : ℕ). if matches (get_or rules i d) site && allows (get_or rules i d).nth v then (get_or rules i d).code else n) h.answers);
     }
 

@@ -1,9 +1,9 @@
 //! The hook that answers by the rules of a script, and the plan with its counts by which it does.
 
-ghost use Rattle.std.specs.Prelude.{◌≡◌, ◌<◌, ◌≤◌, ◌+◌, ◌&&◌, [], All, length, take, if◌then◌else◌};
+ghost use Rattle.std.specs.Prelude.{◌≡◌, ◌<◌, ◌≤◌, ◌+◌, ◌&&◌, [], All, length, take};
 ghost use Rattle.hp_states.specs.declared.limits.TheConstants.{MAX_EVENTS};
-ghost use Rattle.hp_states.specs.Rules.{allows, counted_answer, counts_of, matches, raised, site_at};
-ghost use Rattle.hp_hook.specs.Counted.{answer_to, loaded};
+ghost use Rattle.hp_states.specs.Rules.{allows, counts_of, matches, raised, site_at};
+ghost use Rattle.hp_hook.specs.Counted.{answer_to, count_after, counts_in, loaded, next_answer};
 
 use crate::hook::Hook;
 use hp_states::{Dir, HookPlan, MAX_RULES, Rule};
@@ -60,8 +60,7 @@ impl CountedPlan {
     /// There is no condition, and nothing is counted: asked again it answers the same. Takes no
     /// memory, and time for at most 8 rules. This project's own.
     pub fn answer_to(&self, cpu: u32, inst: u32, dir: Dir) -> u32
-        ensures { let site = site_at cpu inst dir in
-            result ≡ counted_answer self.now.plan (raised self.now.plan self.now.seen site) site }
+        ensures { result ≡ next_answer self.now.plan self.now.seen (site_at cpu inst dir) }
     {
         first_answer(self.plan.rules(), &self.seen, cpu, inst, dir)
     }
@@ -86,8 +85,7 @@ impl CountedPlan {
         requires { All (λ n. n < MAX_EVENTS) self.old.seen }
         ensures plan { self.new.plan ≡ self.old.plan }
         ensures seen { self.new.seen ≡ raised self.old.plan self.old.seen (site_at cpu inst dir) }
-        ensures answer { let site = site_at cpu inst dir in
-            result ≡ counted_answer self.old.plan (raised self.old.plan self.old.seen site) site }
+        ensures answer { result ≡ next_answer self.old.plan self.old.seen (site_at cpu inst dir) }
     {
         count_rules(self.plan.rules(), &mut self.seen, cpu, inst, dir)
     }
@@ -195,8 +193,7 @@ fn answers_next(rule: &Rule, count: u32, cpu: u32, inst: u32, dir: Dir) -> bool
 /// The code of the first rule that answers the site that comes next, 0 where there is none.
 fn first_answer(rules: &[Rule], seen: &[u32], cpu: u32, inst: u32, dir: Dir) -> u32
     requires { length rules.now ≤ length seen.now }
-    ensures { let site = site_at cpu inst dir in result
-        ≡ counted_answer rules.now (raised rules.now (take (length rules.now) seen.now) site) site }
+    ensures { result ≡ next_answer rules.now (counts_in rules.now seen.now) (site_at cpu inst dir) }
 {
     for i in 0..rules.len() {
         if answers_next(&rules[i], seen[i], cpu, inst, dir) {
@@ -210,8 +207,7 @@ fn first_answer(rules: &[Rule], seen: &[u32], cpu: u32, inst: u32, dir: Dir) -> 
 /// and its `nth` is absent or is the raised count.
 fn count_site(rule: &Rule, count: &mut u32, cpu: u32, inst: u32, dir: Dir) -> bool
     requires { count.old < MAX_EVENTS }
-    ensures count { count.new
-        ≡ (if matches rule.now (site_at cpu inst dir) then count.old + 1 else count.old) }
+    ensures count { count.new ≡ count_after rule.now (site_at cpu inst dir) count.old }
     ensures answers { result
         ≡ (matches rule.now (site_at cpu inst dir) && allows rule.now.nth count.new) }
 {
@@ -227,11 +223,10 @@ fn count_site(rule: &Rule, count: &mut u32, cpu: u32, inst: u32, dir: Dir) -> bo
 /// that the first one that answers has the last word.
 fn count_rules(rules: &[Rule], seen: &mut [u32], cpu: u32, inst: u32, dir: Dir) -> u32
     requires enough { length rules.now ≤ length seen.old }
-    requires room { All (λ n. n < MAX_EVENTS) (take (length rules.now) seen.old) }
-    ensures seen { take (length rules.now) seen.new
-        ≡ raised rules.now (take (length rules.now) seen.old) (site_at cpu inst dir) }
-    ensures answer { let site = site_at cpu inst dir in result
-        ≡ counted_answer rules.now (raised rules.now (take (length rules.now) seen.old) site) site }
+    requires room { All (λ n. n < MAX_EVENTS) (counts_in rules.now seen.old) }
+    ensures seen { counts_in rules.now seen.new
+        ≡ raised rules.now (counts_in rules.now seen.old) (site_at cpu inst dir) }
+    ensures answer { result ≡ next_answer rules.now (counts_in rules.now seen.old) (site_at cpu inst dir) }
 {
     let mut answer = 0;
     for i in (0..rules.len()).rev() {

@@ -8,8 +8,8 @@
 //! [`MemSource`] and [`MemSink`] tell their bytes and fail at the calls that they are told to. [`RealSource`] and
 //! [`RealSink`] adapt standard input and output and tell no bytes: what the system does is trusted.
 //!
-//! The words of the contracts stand in `specs/Faults.antt` and `specs/Calls.antt`; those on told bytes are std's
-//! `prepend_known`, `append_known` and `IsAtEnd`. All rules here are this project's own.
+//! The words of the contracts stand in `specs/Faults.antt`, `specs/Calls.antt` and, on told bytes, `specs/Told.antt`,
+//! over std's `prepend_known`, `append_known` and `IsAtEnd`. All rules here are this project's own.
 #![tactic(auto)]
 
 mod calls;

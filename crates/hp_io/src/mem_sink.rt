@@ -1,7 +1,7 @@
 //! A sink in memory.
 
-ghost use Rattle.std.specs.Prelude.{◌≡◌, ◌↔◌, ◌+◌, ◌-◌, ◌<◌, ◌≤◌, ◌⊎◌, [], ◌++◌, min, Some, length, take, drop, vec_len, vec_capacity, IsErr, IfOk, OnErr};
-ghost use Rattle.hp_io.specs.Calls.{calls_after, IsToFail};
+ghost use Rattle.std.specs.Prelude.{◌≡◌, ◌+◌, ◌<◌, ◌⊎◌, [], ◌++◌, min, Some, length, take, IsErr, IfOk, OnErr};
+ghost use Rattle.hp_io.specs.Calls.{calls_after, IsToFail, LacksRoom};
 ghost use Rattle.hp_io.specs.Faults.{CountsFault};
 
 use crate::calls::count_call;
@@ -58,7 +58,7 @@ impl Sink for MemSink {
         requires countable { self.old.faults < u64.MAX }
         ensures fails { IsToFail self.old.calls self.old.fails.items → IsErr result }
         ensures only { OnErr result (IsToFail self.old.calls self.old.fails.items
-            ⊎ (vec_capacity self.old.bytes < vec_len self.old.bytes + min self.old.step (length buf.now))) }
+            ⊎ LacksRoom self.old.bytes (min self.old.step (length buf.now))) }
         ensures count { IfOk result (λ n. n ≡ min self.old.step (length buf.now)) }
         ensures taken { IfOk result (λ n. self.new.bytes.items ≡ self.old.bytes.items ++ take n buf.now) }
         ensures refused { OnErr result (self.new.bytes.items ≡ self.old.bytes.items) }

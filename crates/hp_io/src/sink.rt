@@ -3,6 +3,7 @@
 ghost use Rattle.std.specs.Prelude.{◌≡◌, ◌<◌, ◌≤◌, ℕ, List, Option, length, take, IfOk, OnOk, OnErr};
 ghost use Rattle.std.specs.Io.KnownBytes.{append_known};
 ghost use Rattle.hp_io.specs.Faults.{CountsFault};
+ghost use Rattle.hp_io.specs.Told.{TookPart};
 
 use crate::failed::Failed;
 
@@ -35,8 +36,7 @@ pub trait Sink {
 pub fn write_all<K: Sink>(sink: &mut K, bytes: &[u8]) -> Result<(), Failed>
     requires { K.faults sink.old < u64.MAX }
     ensures all { OnOk result (K.taken sink.new ≡ append_known (K.taken sink.old) bytes.now) }
-    ensures part { OnErr result ((n : ℕ) × (n < length bytes.now)
-        × (K.taken sink.new ≡ append_known (K.taken sink.old) (take n bytes.now))) }
+    ensures part { OnErr result (TookPart bytes.now (K.taken sink.old) (K.taken sink.new)) }
     ensures counted { CountsFault result (K.faults sink.old) (K.faults sink.new) }
 {
     let mut at = 0;

@@ -3,6 +3,7 @@
 ghost use Rattle.std.specs.Prelude.{◌≡◌, ◌+◌, ◌<◌, ◌≤◌, ◌^◌, ℕ, List, Option, Some, length, take, vec_len, IfOk, IfSome, OnOk, OnErr};
 ghost use Rattle.std.specs.Io.KnownBytes.{prepend_known, IsAtEnd};
 ghost use Rattle.hp_io.specs.Faults.{CountsFault, CountsReadFault, message_of};
+ghost use Rattle.hp_io.specs.Told.{GaveAtMost, MovesBytes};
 ghost use Rattle.hp_io.specs.declared.source.ReadError.TheVariants.{NoMemory, Failed as SourceFailed};
 
 use crate::failed::Failed;
@@ -95,8 +96,7 @@ pub fn read_up_to<S: Source>(
 
     // An error has its cause, and what was read before it is gone from the front of what was left.
     ensures counted { CountsReadFault result (S.faults source.old) (S.faults source.new) }
-    ensures lost { OnErr result ((bs : List ℕ) × (length bs ≤ most + 1)
-        × (S.left source.old ≡ prepend_known bs (S.left source.new))) }
+    ensures lost { OnErr result (GaveAtMost (most + 1) (S.left source.old) (S.left source.new)) }
 {
     let mut chunk = vec![in alloc; 0u8; CHUNK.min(most + 1)]?;
     let mut bytes = Vec::new(alloc);
@@ -116,8 +116,7 @@ fn fill<S: Source>(
     requires room { vec_len bytes.old ≤ most + 1 }
     requires limit { most < 2 ^ 62 }
     requires countable { S.faults source.old < u64.MAX }
-    ensures kept { prepend_known bytes.new.items (S.left source.new)
-        ≡ prepend_known bytes.old.items (S.left source.old) }
+    ensures kept { MovesBytes bytes.old.items (S.left source.old) bytes.new.items (S.left source.new) }
     ensures limited { vec_len bytes.new ≤ most + 1 }
     ensures end { OnOk result (vec_len bytes.new ≤ most → IsAtEnd (S.left source.new)) }
     ensures counted { CountsReadFault result (S.faults source.old) (S.faults source.new) }
@@ -141,8 +140,7 @@ fn read_more<S: Source>(
     requires room { vec_len bytes.old ≤ most }
     requires limit { most < 2 ^ 62 }
     requires countable { S.faults source.old < u64.MAX }
-    ensures kept { prepend_known bytes.new.items (S.left source.new)
-        ≡ prepend_known bytes.old.items (S.left source.old) }
+    ensures kept { MovesBytes bytes.old.items (S.left source.old) bytes.new.items (S.left source.new) }
     ensures limited { vec_len bytes.new ≤ most + 1 }
     ensures more { IfOk result (λ n. vec_len bytes.new ≡ vec_len bytes.old + n) }
     ensures end { IfOk result (λ n. n ≡ 0 → IsAtEnd (S.left source.new)) }

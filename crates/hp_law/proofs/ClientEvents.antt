@@ -1,6 +1,8 @@
 -- An event of a client's operation that stands is the one that comes next of its seat and that operation.
-use Rattle.std.proofs.Common.{◌≡◌, ℕ, Bool, true, false, ◌||◌, Some, List, [], ◌∷◌, inl, inr, refl, sym, ap, ◌∙◌, subst}
+use Rattle.std.proofs.Common.{◌≡◌, ℕ, true, Some, List, [], ◌∷◌, inl, inr, refl, sym, ap, ◌∙◌, subst}
 use Rattle.std.proofs.lemmas.Bool.{eq-eqb}
+use Rattle.hp_machine.proofs.HolderRests.{next_same}
+use Rattle.hp_states.proofs.Basics.{or_true, same_some, not_equal}
 use Rattle.hp_event.specs.declared.answer.Answer.{Answer}
 use Rattle.hp_event.specs.declared.event.File.{File}
 use Rattle.hp_event.specs.declared.event.File.TheVariants.{State, Target, Fail, States}
@@ -27,7 +29,7 @@ use Rattle.hp_model.proofs.InFlight.{none_walking}
 use Rattle.hp_model.proofs.NextGives.{next_exactly}
 use Rattle.hp_model.proofs.OneNext.{owners}
 use Rattle.hp_model.proofs.Operations.{Operations, Entered}
-use Rattle.hp_model.proofs.Owners.{idle_op, idle_reg, not_self}
+use Rattle.hp_model.proofs.Owners.{idle_op, idle_reg}
 use Rattle.hp_model.proofs.RegistrationGives as by_registration
 use Rattle.hp_model.proofs.SomeMoves.{facts, entered_op}
 use Rattle.hp_machine.proofs.BusyNext.{found}
@@ -50,8 +52,8 @@ first head es k asked e lawful free names stands by of =
     (record { client = free.client; same = same; has_sub = names })).1 (stands, by, of)
   where
     same : (x : Op) → IsInFlight es (record { seat = k; op = x }) → x ≡ asked
-    same x (inl f) = absurd (not_self f.0.seat k (idle_op es k f.0 free.idle f.1) f.2)
-    same x (inr f) = absurd (not_self f.0.seat k (idle_reg es k f.0 free.idle f.1) f.2)
+    same x (inl f) = absurd (not_equal f.0.seat k (idle_op es k f.0 free.idle f.1) f.2)
+    same x (inr f) = absurd (not_equal f.0.seat k (idle_reg es k f.0 free.idle f.1) f.2)
 
 names_entered : (head : Head) (es : List Event) (o : Operation) → Operations head es → operation es ≡ Some o → names_sub head o.op ≡ true
 names_entered head es o k held = let e : Entered head o = rw held at k.entered in e.enters.has_sub
@@ -60,18 +62,11 @@ names_entered head es o k held = let e : Entered head o = rw held at k.entered i
 holder_busy : (es : List Event) (k : ℕ) (o : Operation) → operation es ≡ Some o → o.seat ≡ k → is_busy k es ≡ true
 holder_busy es k o held by = let own = eq-eqb o.seat k by in rw (held, own) refl
 
-any_op : (head : Head) (es : List Event) (k : ℕ) (x y : Op) → is_busy k es ≡ true → next_event head es k x ≡ next_event head es k y
-unfolding next_event
-any_op head es k x y busy = rw busy refl
-
-same_operation : (a b : Operation) → Some a ≡ Some b → a ≡ b
-same_operation a b h = cc
-
 of_holder : (head : Head) (es : List Event) (k : ℕ) (o : Operation) (x : Op) (e : Event) → IsLawful head es → operation es ≡ Some o →
     o.seat ≡ k → Stands head es e → seat_of e ≡ k → (is_map_op o.op ≡ true → BelongsTo o.op e) →
     (role_of k es ≡ Some Client) × (next_event head es k x ≡ Some e)
 of_holder head es k o x e lawful held by stands s of =
-    (client, any_op head es k x o.op (holder_busy es k o held by) ∙ next)
+    (client, next_same head es k x o.op (holder_busy es k o held by) ∙ next)
   where
     takes : is_map_op o.op ≡ true
     takes = entered_op head es o (facts head es lawful).operations held
@@ -80,7 +75,7 @@ of_holder head es k o x e lawful held by stands s of =
     client = subst (λ n. role_of n es ≡ Some Client) by ((owners head es lawful).op_client o held)
 
     same : (y : Op) → IsInFlight es (record { seat = k; op = y }) → y ≡ o.op
-    same y (inl f) = sym f.3 ∙ ap (λ (z : Operation). z.op) (same_operation f.0 o (sym f.1 ∙ held))
+    same y (inl f) = sym f.3 ∙ ap (λ (z : Operation). z.op) (same_some f.0 o (sym f.1 ∙ held))
     same y (inr f) = absurd ((owners head es lawful).apart o f.0 held f.1 (by ∙ sym f.2))
 
     next : next_event head es k o.op ≡ Some e
@@ -93,10 +88,6 @@ registering_alone : (head : Head) (es : List Event) (e : Event) → walking es �
     next_of_registration head es (registration es) ≡ Some e → under_way head es ≡ e ∷ []
 unfolding under_way
 registering_alone head es e still next = rw (still, next) refl
-
-or_true : (b : Bool) → (b || true) ≡ true
-or_true true = refl
-or_true false = refl
 
 registering_busy : (es : List Event) (k : ℕ) (r : Registration) → registration es ≡ Some r → r.seat ≡ k → is_busy k es ≡ true
 registering_busy es k r flies by = let own = eq-eqb r.seat k by in rw (flies, own) (or_true (holds_map k (operation es)))

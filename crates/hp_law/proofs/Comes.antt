@@ -1,6 +1,7 @@
 -- What comes next of a seat and an operation decides whether an event of it can stand.
 use Rattle.std.proofs.Common.{◌≡◌, ℕ, Bool, true, false, IsTrue, ◌↔◌, Option, Some, None, List, refl, sym, ap, ◌∙◌, subst}
 use Rattle.std.proofs.lemmas.Bool.{true≢false}
+use Rattle.hp_states.proofs.Basics.{none_some, same_some}
 use Rattle.hp_states.specs.declared.dir.Dir.{Dir}
 use Rattle.hp_event.specs.declared.how.How.{How}
 use Rattle.hp_event.specs.declared.event.Role.{Role}
@@ -24,18 +25,12 @@ use Rattle.hp_model.proofs.NextStands.{next_stands}
 use Rattle.hp_law.specs.Asked.{asked_by, IsOfOperation}
 use Rattle.hp_law.proofs.ClientEvents.{asked_for}
 
-pub same_event : (a b : Event) → Some a ≡ Some b → a ≡ b
-same_event a b h = cc
-
-none_some : (e : Event) → None ≡ Some e → ⊥
-none_some e h = cc
-
 -- what comes next is no event of the operation's own, where it is answered otherwise
 pub no_event : (head : Head) (es : List Event) (k : ℕ) (op : Op) (n : Next) (e : Event) → IsNext head es k op n →
     ((next : Event) (takes : ℕ) → n ≡ answer.Event next takes → ⊥) → IsOfOperation e → next_event head es k op ≡ Some e → ⊥
 no_event head es k op (answer.Event next takes) e is other of at = other next takes refl
 no_event head es k op (answer.Entry x) e is other of at =
-    subst IsOfOperation (sym (same_event (entry_event head es x) e (sym is ∙ at))) of
+    subst IsOfOperation (sym (same_some (entry_event head es x) e (sym is ∙ at))) of
 no_event head es k op answer.Full e is other of at = none_some e (sym (full_none head es k op is) ∙ at)
 no_event head es k op (answer.Wait why) e is other of at = none_some e (sym is.no_event ∙ at)
 
@@ -57,7 +52,7 @@ pub some_due : (head : Head) (es : List Event) (k : ℕ) (e entry : Event) (same
     seat_of e ≡ k → Some entry ≡ due_entry head es k → IsTrue same ↔ (entry ≡ e) → IsTrue same ↔ Stands head es e
 some_due head es k e entry same lawful call by is decides =
     let x = by_due head es k e (Some entry) lawful call by is in
-    (λ h. x.0 (ap Some (decides.0 h)), λ s. decides.1 (same_event entry e (x.1 s)))
+    (λ h. x.0 (ap Some (decides.0 h)), λ s. decides.1 (same_some entry e (x.1 s)))
 
 pub none_due : (head : Head) (es : List Event) (k : ℕ) (e : Event) → IsLawful head es → is_call e ≡ true →
     seat_of e ≡ k → None ≡ due_entry head es k → IsTrue false ↔ Stands head es e
@@ -71,7 +66,7 @@ pub comes_event : (head : Head) (es : List Event) (k : ℕ) (op : Op) (e next : 
 comes_event head es k op e next takes same lawful of k_is op_is is decides = (
   λ h. (next_stands head es k op e (is.0 ∙ ap Some (decides.0 h))).0,
   λ s. decides.1
-      (same_event next e
+      (same_some next e
       (sym is.0 ∙ (ap (λ n. next_event head es n op) k_is ∙ ap (next_event head es (seat_of e)) op_is)
       ∙ (asked_for head es e lawful of s).next)),
 )

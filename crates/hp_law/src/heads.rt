@@ -4,10 +4,8 @@ ghost use Rattle.std.specs.Prelude.{◌≡◌, ◌↔◌, ◌≤◌, IsTrue, All
 ghost use Rattle.hp_model.specs.Heads.{IsRule, IsSub, IsHead};
 
 use hp_event::{Head, Sub};
-use hp_machine::are_absent;
-use hp_states::{
-    MAX_CODE, MAX_CPUS, MAX_EVENTS, MAX_INSTANCE, MAX_RULE_CPU, MAX_RULES, MAX_SUBS, Rule, is_name,
-};
+use hp_machine::head_fault;
+use hp_states::{MAX_CODE, MAX_EVENTS, MAX_INSTANCE, MAX_RULE_CPU, MAX_RULES, Rule, is_name};
 
 /// Whether a number is absent or in a range.
 fn is_within(number: Option<u32>, low: u32, high: u32) -> bool
@@ -68,10 +66,5 @@ fn are_subs(subs: &[Sub]) -> bool
 pub fn is_head(head: &Head) -> bool
     ensures { IsTrue result ↔ IsHead head.now }
 {
-    let subs = head.subs.as_slice();
-    0 < head.possible
-        && head.possible <= MAX_CPUS
-        && are_absent(head)
-        && head.is_present(0)
-        && (subs.len() <= MAX_SUBS as usize && are_subs(subs))
+    head_fault(head).is_none() && are_subs(head.subs.as_slice())
 }

@@ -1,6 +1,6 @@
 -- What contracts see of the locks: who holds each, and of each seat whether it reads. This project's own, after
 -- `cpu_add_remove_lock`, `cpu_hotplug_lock` and `cpuhp_state_mutex` of `kernel/cpu.c`.
-use Rattle.std.specs.Prelude.{◌≡◌, ◌≤◌, ℕ, Bool, Option, List, length, get_or, set, false, count_by}
+use Rattle.std.specs.Prelude.{◌≡◌, ◌≤◌, ℕ, Bool, Option, List, [], ◌∷◌, ◌++◌, length, get_or, set, false, count_by}
 use Rattle.hp_locks.specs.declared.locks.TheConstants.{MAX_LOCKED}
 
 pub record Holders : Type 0 where
@@ -39,3 +39,8 @@ with_registrar k h = record { map = h.map; writer = h.writer; registrar = k; rea
 abbrev pub with_reader : (seat : ℕ) → Bool → Holders → Holders
 with_reader k reads h =
     record { map = h.map; writer = h.writer; registrar = h.registrar; reading = set h.reading k reads }
+
+-- and with one seat more, which holds nothing
+abbrev pub with_seat : Holders → Holders
+with_seat h =
+    record { map = h.map; writer = h.writer; registrar = h.registrar; reading = h.reading ++ false ∷ [] }

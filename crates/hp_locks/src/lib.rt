@@ -7,7 +7,8 @@
 //!
 //! After `cpu_add_remove_lock`, `cpu_hotplug_lock` and `cpuhp_state_mutex` of `kernel/cpu.c`. Its
 //! contract: each call gives its lock exactly where none of the waits of `specs/Waits.antt` stands,
-//! and else answers the first of them and changes nothing. Only `admit` takes memory.
+//! and else answers the first of them and changes nothing; `specs/Takes.antt` says what a seat makes of
+//! the locks then. Only `admit` takes memory.
 #![tactic(auto)]
 
 mod locks;

@@ -1,7 +1,8 @@
 //! Who holds which lock.
 
-ghost use Rattle.std.specs.Prelude.{◌≡◌, ◌++◌, ◌∷◌, [], ◌<◌, ◌≤◌, None, Some, true, false, length, set, IfErr, IfOk, OnOk, OnErr};
-ghost use Rattle.hp_locks.specs.Holders.{reads, readers, with_map, with_writer, with_registrar, with_reader};
+ghost use Rattle.std.specs.Prelude.{◌≡◌, [], ◌<◌, None, Some, true, false, length, IfErr, IfOk, OnOk, OnErr};
+ghost use Rattle.hp_locks.specs.Holders.{reads, readers, with_map, with_writer, with_registrar, with_reader, with_seat};
+ghost use Rattle.hp_locks.specs.Takes.{TakesMap, TakesWrite, TakesRegistration, BeginsToRead};
 ghost use Rattle.hp_locks.specs.Waits.{wait_for_map, wait_for_writer, wait_for_registration, wait_to_write, wait_to_register};
 
 use crate::why::Why;
@@ -61,13 +62,7 @@ impl Locks {
     pub fn admit(&mut self) -> Result<u32, NoMemory>
         requires { length self.old.reading < MAX_LOCKED }
         ensures seat { IfOk result (λ seat. seat ≡ length self.old.reading) }
-        ensures ok { OnOk result (self.new
-            ≡ record {
-              map = self.old.map;
-              writer = self.old.writer;
-              registrar = self.old.registrar;
-              reading = self.old.reading ++ false ∷ [];
-            }) }
+        ensures ok { OnOk result (self.new ≡ with_seat self.old) }
         ensures err { OnErr result (self.new ≡ self.old) }
     {
         let seat = self.reading.len() as u32;
@@ -88,7 +83,7 @@ impl Locks {
     /// changed. Takes no memory. After `cpu_maps_update_begin` of `kernel/cpu.c`.
     pub fn enter_maps(&mut self, seat: u32) -> Result<(), Why>
         requires { seat < length self.old.reading }
-        ensures ok { OnOk result ((wait_for_map self.old ≡ None) × (self.new ≡ with_map (Some seat) self.old)) }
+        ensures ok { OnOk result (TakesMap seat self.old self.new) }
         ensures why { IfErr result (λ why. wait_for_map self.old ≡ Some why) }
         ensures err { OnErr result (self.new ≡ self.old) }
     {
@@ -120,7 +115,7 @@ impl Locks {
     pub fn begin_write(&mut self, seat: u32) -> Result<(), Why>
         requires map { self.old.map ≡ Some seat }
         requires writer { self.old.writer ≡ None }
-        ensures ok { OnOk result ((wait_to_write self.old ≡ None) × (self.new ≡ with_writer (Some seat) self.old)) }
+        ensures ok { OnOk result (TakesWrite seat self.old self.new) }
         ensures why { IfErr result (λ why. wait_to_write self.old ≡ Some why) }
         ensures err { OnErr result (self.new ≡ self.old) }
     {
@@ -152,8 +147,7 @@ impl Locks {
     /// Takes no memory. After `cpus_read_lock` and `cpuhp_state_mutex` of `kernel/cpu.c`.
     pub fn begin_reg(&mut self, seat: u32) -> Result<(), Why>
         requires { seat < length self.old.reading }
-        ensures ok { OnOk result ((wait_to_register self.old ≡ None)
-            × (self.new ≡ with_registrar (Some seat) self.old)) }
+        ensures ok { OnOk result (TakesRegistration seat self.old self.new) }
         ensures why { IfErr result (λ why. wait_to_register self.old ≡ Some why) }
         ensures err { OnErr result (self.new ≡ self.old) }
     {
@@ -181,7 +175,7 @@ impl Locks {
     pub fn read_lock(&mut self, seat: u32) -> Result<(), Why>
         requires seat { seat < length self.old.reading }
         requires outside { reads self.old seat ≡ false }
-        ensures ok { OnOk result ((wait_for_writer self.old ≡ None) × (self.new ≡ with_reader seat true self.old)) }
+        ensures ok { OnOk result (BeginsToRead seat self.old self.new) }
         ensures why { IfErr result (λ why. wait_for_writer self.old ≡ Some why) }
         ensures err { OnErr result (self.new ≡ self.old) }
     {

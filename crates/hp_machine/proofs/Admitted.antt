@@ -1,7 +1,7 @@
 -- A seat can come in exactly where nothing refuses it.
 use Rattle.std.proofs.Common.{◌≡◌, ℕ, ◌+◌, ◌<◌, Bool, true, false, not, cond, ltb, leb, is_some, Option, Some, None, List, length, refl, sym, subst, arith}
-use Rattle.std.proofs.lemmas.Bool.{true≢false}
 use Rattle.std.proofs.lemmas.Bool.Decides.{nat_tests}
+use Rattle.hp_states.proofs.Basics.{none_of, not_false}
 use Rattle.hp_states.specs.declared.limits.TheConstants.{MAX_SEATS, MAX_EVENTS}
 use Rattle.hp_event.specs.declared.event.Role.{Role}
 use Rattle.hp_event.specs.declared.event.Role.TheVariants.{Client, Ap}
@@ -30,14 +30,6 @@ has_room n h = grind (arith, nat_tests)
 below : (n : ℕ) → leb MAX_SEATS n ≡ false → n < MAX_SEATS
 below n h = grind (arith, nat_tests)
 
-there : (b : Bool) → not b ≡ false → b ≡ true
-there true h = refl
-there false h = absurd (true≢false h)
-
-none_of : (o : Option ℕ) → is_some o ≡ false → o ≡ None
-none_of None h = refl
-none_of (Some n) h = absurd (true≢false h)
-
 pub admission_stands : (head : Head) (es : List Event) (role : Role) → refusal_of head es role ≡ None → Stands head es (Admit (admits es) role)
 admission_stands head es role h =
     let f = passes (leb MAX_SEATS (admits es)) Full (refused_for_role head es role) h in
@@ -52,7 +44,7 @@ admission_stands head es role h =
         let p =
         passes (not (is_present head cpu)) NotPresent (cond (is_some (ap_seat cpu es)) (Some ApTaken) (refused_for_room head es)) h in
         let t = passes (is_some (ap_seat cpu es)) ApTaken (refused_for_room head es) p.1 in
-        ((there (is_present head cpu) p.0, none_of (ap_seat cpu es) t.0), t.1)
+        ((not_false (is_present head cpu) p.0, none_of (ap_seat cpu es) t.0), t.1)
 
 -- and one that can come in isn't refused
 goes_on : (b : Bool) (e : AdmitError) (rest : Option AdmitError) → b ≡ false → rest ≡ None → cond b (Some e) rest ≡ None

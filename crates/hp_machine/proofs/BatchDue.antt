@@ -1,6 +1,7 @@
 -- Which entry is due from a seat in an upmany, and of which processor: the next of a walk, where it is the seat's, and its turn.
 use Rattle.std.proofs.Common.{◌≡◌, ℕ, Bool, true, false, not, ◌&&◌, ◌||◌, cond, eqb, Option, Some, None, List, ◌⊎◌, inl, inr, refl, ap, sym, subst, ◌∙◌}
 use Rattle.std.proofs.lemmas.Bool.{true≢false, false≢true, eqb-true, eq-eqb}
+use Rattle.hp_states.proofs.Basics.{unequal_turned, none_some, same_some}
 use Rattle.hp_states.specs.declared.dir.Dir.{Dir}
 use Rattle.hp_event.specs.declared.how.How.{How}
 use Rattle.hp_event.specs.declared.head.Head.{Head}
@@ -24,18 +25,18 @@ use Rattle.hp_model.specs.Suspend.{held_by}
 use Rattle.hp_model.specs.Walks.{Walk, walk, is_walking}
 use Rattle.hp_model.proofs.DueGives.{due_stands, due_gives, due_nothing}
 use Rattle.hp_model.proofs.OneNext.{owners}
-use Rattle.hp_model.proofs.Owners.{Owners, same_some, none_some, flip}
+use Rattle.hp_model.proofs.Owners.{Owners}
 use Rattle.hp_model.proofs.SeatNext.{threads_due, holders_due}
 use Rattle.hp_model.proofs.Stages.{called_by, ap_no_client}
 use Rattle.hp_model.proofs.WalkGives.{gives_entry, walk_given}
 use Rattle.hp_suspend.specs.declared.batch.Batch.{Batch as ABatch}
-use Rattle.hp_account.specs.declared.under_way.Coming.{Coming}
-use Rattle.hp_account.specs.declared.under_way.Coming.TheVariants as coming
+use Rattle.hp_account.specs.declared.under_way.NextStep.{NextStep}
+use Rattle.hp_account.specs.declared.under_way.NextStep.TheVariants as coming
 use Rattle.hp_account.specs.Batches.{IsKnown, IsUpmanyAt}
 use Rattle.hp_account.specs.Entries.{entry_event}
 use Rattle.hp_machine.specs.Next.{IsDue}
 use Rattle.hp_account.specs.UnderWay.{due_by, IsDueOn}
-use Rattle.hp_account.specs.Coming.{end_event}
+use Rattle.hp_account.specs.NextStep.{end_event}
 use Rattle.hp_account.specs.WalkComing.{event_of, IsOfWalk, IsNextOnIf}
 use Rattle.hp_machine.proofs.DueSaid.{due_none}
 use Rattle.hp_account.proofs.InBatch.{known_idle}
@@ -43,7 +44,7 @@ use Rattle.hp_account.proofs.InBatch.{known_idle}
 -- ---- the entry of one seat
 
 -- the entry of a seat, of what comes next in a walk
-picked : (head : Head) (es : List Event) (k c : ℕ) (w : Walk) (what : Coming) → IsOfWalk head es c w what →
+picked : (head : Head) (es : List Event) (k c : ℕ) (w : Walk) (what : NextStep) → IsOfWalk head es c w what →
     due_entry head es k ≡ call_by k (event_of head es what) → IsDue head es k (due_by k (Some what))
 picked head es k c w (coming.Entry client on None) p d = d
 picked head es k c w (coming.Entry client on (Some x)) p d = go (eqb x.seat k) d
@@ -55,7 +56,7 @@ picked head es k c w (coming.End e) p d =
     d ∙ ap (λ b. cond (b && eqb (seat_of (end_event e)) k) (Some (end_event e)) None) p.1
 
 -- where what is due from it comes next in the walk of a processor
-due_in_walk : (head : Head) (es : List Event) (k c : ℕ) (what : Option Coming) → IsNextOnIf head es c what →
+due_in_walk : (head : Head) (es : List Event) (k c : ℕ) (what : Option NextStep) → IsNextOnIf head es c what →
     due_entry head es k ≡ call_by k (next_on head es (Some c)) → IsDue head es k (due_by k what)
 due_in_walk head es k c None n d = d ∙ ap (λ w. call_by k (next_of_walk head es c w)) n
 due_in_walk head es k c (Some what) n d = picked head es k c n.of what n.parts (d ∙ ap (call_by k) n.gives)
@@ -110,7 +111,7 @@ threads_next head es o k c lawful known held a = go (walk c es) refl
         ∙ sym (ap (λ w. call_by k (next_of_walk head es c w)) at)
     go (Some w) at = threads_due head es lawful c k w a at
 
-pub threads_entry : (head : Head) (es : List Event) (k holder c : ℕ) (b : ABatch) (what : Option Coming) → IsLawful head es →
+pub threads_entry : (head : Head) (es : List Event) (k holder c : ℕ) (b : ABatch) (what : Option NextStep) → IsLawful head es →
     IsKnown head es → IsUpmanyAt head es holder b → ap_seat c es ≡ Some k → IsNextOnIf head es c what → IsDue head es k (due_by k what)
 threads_entry head es k holder c b what lawful known up a n =
     due_in_walk head es k c what n (threads_next head es up.of k c lawful known up.held a)
@@ -127,7 +128,7 @@ pub holders_none : (head : Head) (es : List Event) (k : ℕ) (b : ABatch) → Is
     turn_of head es k ≡ None → IsDue head es k None
 holders_none head es k b lawful up is = holders head es k b None lawful up is
 
-pub holders_entry : (head : Head) (es : List Event) (k c : ℕ) (b : ABatch) (what : Option Coming) → IsLawful head es →
+pub holders_entry : (head : Head) (es : List Event) (k c : ℕ) (b : ABatch) (what : Option NextStep) → IsLawful head es →
     IsUpmanyAt head es k b → turn_of head es k ≡ Some c → IsNextOnIf head es c what → IsDue head es k (due_by k what)
 holders_entry head es k c b what lawful up is n = due_in_walk head es k c what n (holders head es k b (Some c) lawful up is)
 
@@ -197,7 +198,7 @@ turn_if head es o k c held u = ap (λ z. cond (brings_up k z) (is_it c (turn_of 
         let same = eqb-true o.seat k s in
         let own = eq-eqb k o.seat (sym same) in
         rw (u, own) (ap (λ z. is_it c (turn_of head es z)) (sym same))
-    go false s = let other = flip o.seat k s in rw other refl
+    go false s = let other = unequal_turned o.seat k s in rw other refl
 
 pub none_on : (head : Head) (es : List Event) (k c : ℕ) → due_entry head es k ≡ None → IsDueOn head es c k → ⊥
 none_on head es k c none d = none_some d.entry (sym none ∙ d.due)

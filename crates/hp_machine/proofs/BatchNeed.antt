@@ -22,7 +22,7 @@ use Rattle.hp_suspend.specs.Tables.{AreSettled}
 use Rattle.hp_suspend.proofs.Places.{said_at}
 use Rattle.hp_table.specs.Keys.{keys_by}
 use Rattle.hp_table.specs.Step.{Step}
-use Rattle.hp_account.specs.declared.operation.Held.{Held}
+use Rattle.hp_account.specs.declared.operation.MapOperation.{MapOperation}
 use Rattle.hp_account.specs.Batches.{batch_of, IsUpmanyAt}
 use Rattle.hp_account.specs.Operations.{IsHeldBy}
 use Rattle.hp_account.proofs.InBatch.{not_batch}
@@ -92,7 +92,7 @@ batch_room head es b keys stands k seat cpu from to at rest are same =
         ap (λ t. cond t (room_at keys stands c) 0) (at.batching.left_is c) ∙ ap (λ n. cond (among c left) n 0) mine
 
 -- a walk of another operation takes what it crosses
-pub walk_room : (head : Head) (es : List Event) (held : Option Held) (places : List (Option Step)) (seat cpu from to : ℕ) →
+pub walk_room : (head : Head) (es : List Event) (held : Option MapOperation) (places : List (Option Step)) (seat cpu from to : ℕ) →
     IsHeldBy head es held → batch_of held ≡ None → CountsKeys head es places (WalkBegin seat cpu from to) →
     3 * keys_on (keys_by places) from to + 4 ≡ taken (need head es (WalkBegin seat cpu from to))
 walk_room head es held places seat cpu from to is none same =

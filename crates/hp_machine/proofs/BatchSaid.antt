@@ -1,8 +1,10 @@
 -- What comes next of the seat of an upmany that walks: the begin of the next walk, what comes next in the walk whose turn it is, or that
 -- it waits for a processor's thread.
-use Rattle.std.proofs.Common.{◌≡◌, ℕ, ◌<◌, true, false, not, ◌&&◌, cond, eqb, is_some, is_none, ◌↔◌, Option, Some, None, IfSome, IfNone, List, [], ◌∷◌, inl, inr, refl, ap, sym, subst, ◌∙◌, arith}
+use Rattle.std.proofs.Common.{◌≡◌, ℕ, ◌<◌, true, false, ◌&&◌, cond, eqb, is_some, is_none, ◌↔◌, Option, Some, None, IfSome, IfNone, List, ◌∷◌, inl, inr, refl, ap, sym, subst, ◌∙◌, arith}
 use Rattle.std.specs.Prelude.{slice_get}
-use Rattle.std.proofs.lemmas.Bool.{true≢false, false≢true, eqb-true, eq-eqb, and_parts}
+use Rattle.std.proofs.lemmas.Bool.{false≢true, eqb-true, eq-eqb, and_parts}
+use Rattle.hp_model.proofs.PromisedParts.{later_room}
+use Rattle.hp_states.proofs.Basics.{none_some, same_some}
 use Rattle.hp_states.specs.declared.limits.TheConstants.{ONLINE}
 use Rattle.hp_states.specs.CpuSets.{IsLowestFrom, HasNoneFrom}
 use Rattle.hp_event.specs.declared.op.Op.{Op}
@@ -11,7 +13,7 @@ use Rattle.hp_event.specs.declared.event.Event.{Event}
 use Rattle.hp_event.specs.declared.event.Event.TheVariants.{WalkBegin}
 use Rattle.hp_locks.specs.declared.why.Why.TheVariants.{ApTurn}
 use Rattle.hp_model.specs.ApTurn.{IsEntryOf, IsApTurn}
-use Rattle.hp_model.specs.Batch.{begun, is_upmany, batch, unbegun, to_begin, to_begin_of, is_batch_begun}
+use Rattle.hp_model.specs.Batch.{is_upmany, batch, unbegun, to_begin, to_begin_of, is_batch_begun}
 use Rattle.hp_model.specs.BatchTurn.{turn_of, is_it, brings_up, lowest_walking}
 use Rattle.hp_model.specs.Events.{seat_of}
 use Rattle.hp_model.specs.Lawful.{IsLawful}
@@ -28,15 +30,14 @@ use Rattle.hp_model.proofs.BatchLemmas.{upmany_begins, walking_begun}
 use Rattle.hp_model.proofs.InFlight.{walking_is}
 use Rattle.hp_model.proofs.NextGives.{next_gives}
 use Rattle.hp_model.proofs.OneNext.{owners}
-use Rattle.hp_model.proofs.Owners.{same_some, none_some}
 use Rattle.hp_model.proofs.Passing.{find_holds}
 use Rattle.hp_model.proofs.SeatNext.{holders_next, holders_wait}
 use Rattle.hp_model.proofs.SomeMoves.{facts, entered_op}
 use Rattle.hp_model.proofs.TurnLemmas.{OwnEvent, turn_own, seat_brings, held_up_parts}
 use Rattle.hp_model.proofs.WaitLemmas.{later_walk}
 use Rattle.hp_suspend.specs.declared.batch.Batch.{Batch as ABatch}
-use Rattle.hp_account.specs.declared.under_way.Coming.{Coming}
-use Rattle.hp_account.specs.declared.under_way.Coming.TheVariants as coming
+use Rattle.hp_account.specs.declared.under_way.NextStep.{NextStep}
+use Rattle.hp_account.specs.declared.under_way.NextStep.TheVariants as coming
 use Rattle.hp_account.specs.declared.flights.Flights.{Flights}
 use Rattle.hp_machine.specs.declared.next.Next.{Next}
 use Rattle.hp_machine.specs.declared.next.Next.TheVariants as answer
@@ -46,25 +47,13 @@ use Rattle.hp_account.specs.Entries.{entry_event}
 use Rattle.hp_account.specs.Flights.{IsFlights}
 use Rattle.hp_machine.specs.Next.{IsNext, IsKept}
 use Rattle.hp_machine.specs.Next.{next_by}
-use Rattle.hp_account.specs.Coming.{end_event}
+use Rattle.hp_account.specs.NextStep.{end_event}
 use Rattle.hp_account.specs.WalkComing.{IsNextOnIf}
 use Rattle.hp_machine.proofs.HolderRests.{held_as, held_allowed, holder_busy, next_same, held_up_rests, not_full}
 use Rattle.hp_account.proofs.InBatch.{some_walking, known_idle, first_left, none_left, lowest_here}
 use Rattle.hp_account.proofs.WalkMoves.{walk_begins}
 
 -- ---- a walk begins
-
--- a later walk of an upmany takes no room
-later_need : (head : Head) (es : List Event) (k c from to : ℕ) → is_batch_begun es ≡ true → need head es (WalkBegin k c from to) ≡ None
-later_need head es k c from to h =
-    let p = and_parts (held_by is_upmany (operation es)) (not (is_empty (begun es))) h in
-    let u = p.0 in
-    let n = not_empty (begun es) p.1 in
-    rw (u, n) refl
-  where
-    not_empty : (cs : List ℕ) → not (is_empty cs) ≡ true → is_empty cs ≡ false
-    not_empty [] e = absurd (true≢false (sym e))
-    not_empty (d ∷ ds) e = refl
 
 -- the next walk of an upmany that walks
 pub record NextBegins (head : Head) (es : List Event) (k c : ℕ) : Type 0 where
@@ -79,7 +68,7 @@ begins_next head es k c b lowest lawful turn h =
     (record {
       inside = (walk_begins head es o.seat c (settled c es) ONLINE lawful comes).inside;
       next = λ op. next_same head es o.seat op o.op (holder_busy es o turn.held) ∙ it;
-      takes_none = λ from to. later_need head es o.seat c from to begun_one;
+      takes_none = λ from to. later_room head es o.seat c from to begun_one;
     })
   where
     o : Operation
@@ -113,19 +102,19 @@ begins_next head es k c b lowest lawful turn h =
 
     it : next_event head es o.seat o.op ≡ Some (WalkBegin o.seat c (settled c es) ONLINE)
     it =
-        let none = later_need head es o.seat c (settled c es) ONLINE begun_one in
+        let none = later_room head es o.seat c (settled c es) ONLINE begun_one in
         next_gives head es (held_as o) (WalkBegin o.seat c (settled c es) ONLINE) lawful (held_allowed head es o lawful held)
         (comes, rw none refl) refl (entered_op head es o (facts head es lawful).operations held)
 
 -- ---- the walk whose turn it is
 
 -- what comes next in it is the seat's
-pub record GivesTurn (head : Head) (es : List Event) (seat : ℕ) (what : Option Coming) : Type 0 where
+pub record GivesTurn (head : Head) (es : List Event) (seat : ℕ) (what : Option NextStep) : Type 0 where
   pub next : Next
   pub is : next_by seat what ≡ Some next
   pub said : (op : Op) → IsNext head es seat op next
 
-gives_turn : (head : Head) (es : List Event) (o : Operation) (c : ℕ) (what : Option Coming) → IsLawful head es →
+gives_turn : (head : Head) (es : List Event) (o : Operation) (c : ℕ) (what : Option NextStep) → IsLawful head es →
     operation es ≡ Some o → is_upmany o.op ≡ true → turn_of head es o.seat ≡ Some c → IsNextOnIf head es c what →
     GivesTurn head es o.seat what
 gives_turn head es o c what lawful held u turn n = go what n
@@ -141,7 +130,7 @@ gives_turn head es o c what lawful held u turn n = go what n
     makes : (e : Event) → next_of_walk head es c (walk c es) ≡ Some e → own.event ≡ e
     makes e g = same_some own.event e (sym own.gives ∙ g)
 
-    go : (what : Option Coming) → IsNextOnIf head es c what → GivesTurn head es o.seat what
+    go : (what : Option NextStep) → IsNextOnIf head es c what → GivesTurn head es o.seat what
     go None n = absurd (none_some own.of (sym n ∙ own.in_flight))
     go (Some (coming.Entry client on None)) n = absurd (none_some own.event (sym n.gives ∙ own.gives))
     go (Some (coming.Entry client on (Some x))) n =
@@ -158,7 +147,7 @@ gives_turn head es o c what lawful held u turn n = go what n
           said = λ op. (next op ∙ ap Some same, rw none refl, n.parts.1);
         }
 
-pub gives_of : (head : Head) (es : List Event) (k c : ℕ) (what : Option Coming) → IsLawful head es → brings_up k (operation es) ≡ true →
+pub gives_of : (head : Head) (es : List Event) (k c : ℕ) (what : Option NextStep) → IsLawful head es → brings_up k (operation es) ≡ true →
     turn_of head es k ≡ Some c → IsNextOnIf head es c what → GivesTurn head es k what
 gives_of head es k c what lawful brings turn n = go (operation es) refl brings
   where

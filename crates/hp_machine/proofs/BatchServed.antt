@@ -3,6 +3,7 @@ use Rattle.std.proofs.Common.{◌≡◌, ℕ, ◌≤◌, Bool, true, false, not,
 use Rattle.std.specs.Prelude.{option_map}
 use Rattle.std.specs.Bool.{then_some}
 use Rattle.std.proofs.lemmas.Bool.{false≢true, eqb-true, eq-eqb, and_parts}
+use Rattle.hp_states.proofs.Basics.{none_some, same_some}
 use Rattle.hp_states.specs.CpuSets.{has}
 use Rattle.hp_event.specs.Story.{Story}
 use Rattle.hp_event.specs.declared.event.Event.TheVariants.{Call, WalkEnd}
@@ -16,7 +17,6 @@ use Rattle.hp_model.specs.Seats.{ap_seat, role_of}
 use Rattle.hp_model.specs.Suspend.{held_by}
 use Rattle.hp_model.specs.Walks.{Walk, walk}
 use Rattle.hp_model.proofs.OneNext.{owners}
-use Rattle.hp_model.proofs.Owners.{same_some, none_some}
 use Rattle.hp_model.proofs.QueueMoves.{own_among}
 use Rattle.hp_model.proofs.Stages.{ap_no_client}
 use Rattle.hp_model.proofs.TurnLemmas.{OwnEvent, turn_own}
@@ -25,7 +25,7 @@ use Rattle.hp_table.specs.Step.{Step}
 use Rattle.hp_walk.specs.Keys.{keys_by}
 use Rattle.hp_account.specs.declared.flights.Flight.{Flight}
 use Rattle.hp_account.specs.declared.account.Account.{Account}
-use Rattle.hp_account.specs.declared.under_way.Coming.{Coming}
+use Rattle.hp_account.specs.declared.under_way.NextStep.{NextStep}
 use Rattle.hp_account.specs.Batches.{IsKnown, IsUpmanyAt, IsServed, NoneServed, NoneServedFrom, IsServedFrom}
 use Rattle.hp_account.specs.Seats.{IsRoll}
 use Rattle.hp_machine.specs.Machine.{IsMachine}
@@ -41,7 +41,7 @@ use Rattle.hp_account.proofs.PlaceLemmas.{at_place-within}
 use Rattle.hp_account.proofs.TurnsMore.{own_is}
 
 -- an upmany of a machine
-module _ {j : Story} {p : Account} {coming : Option Coming} {places : List (Option Step)} {holder : ℕ} {b : ABatch}
+module _ {j : Story} {p : Account} {coming : Option NextStep} {places : List (Option Step)} {holder : ℕ} {b : ABatch}
     (m : IsMachine j p coming places) (up : IsUpmanyAt j.head j.events holder b)
   where
     upmany : is_upmany up.of.op ≡ true

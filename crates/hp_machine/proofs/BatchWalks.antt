@@ -1,6 +1,7 @@
 -- What the next event of an upmany's walk is: its processor's thread's entry, its seat's entry, or its end.
 use Rattle.std.proofs.Common.{◌≡◌, ℕ, Bool, true, false, not, cond, Option, Some, List, ◌⊎◌, inl, inr, refl, ap, sym, ◌∙◌}
 use Rattle.std.specs.Prelude.{option_map}
+use Rattle.hp_states.proofs.Basics.{same_some}
 use Rattle.hp_states.specs.declared.dir.Dir.{Dir}
 use Rattle.hp_states.specs.declared.place.Place.{Place}
 use Rattle.hp_states.specs.Sections.{is_ap_state}
@@ -19,7 +20,7 @@ use Rattle.hp_model.specs.Registered.{keys}
 use Rattle.hp_model.specs.Seats.{ap_seat}
 use Rattle.hp_model.specs.Walks.{walk}
 use Rattle.hp_model.proofs.OneNext.{owners}
-use Rattle.hp_model.proofs.Owners.{Owners, same_some}
+use Rattle.hp_model.proofs.Owners.{Owners}
 use Rattle.hp_table.specs.Step.{Step}
 use Rattle.hp_walk.specs.declared.step.Step.{Step as Ask}
 use Rattle.hp_walk.specs.declared.step.Step.TheVariants as ask

@@ -2,6 +2,8 @@
 use Rattle.std.proofs.Common.{◌≡◌, ℕ, ◌+◌, ◌<◌, ◌≤◌, Bool, true, false, cond, eqb, ◌&&◌, ◌||◌, not, is_some, Option, Some, None, IfSome, List, [], ◌∷◌, find, length, ◌⊎◌, refl, ap, sym, ◌∙◌, subst, inl, inr, arith}
 use Rattle.std.specs.Prelude.{option_map}
 use Rattle.std.proofs.lemmas.Bool.{true≢false, eq-eqb, eqb-true}
+use Rattle.hp_model.proofs.EntryStays.{walk_kept}
+use Rattle.hp_states.proofs.Basics.{same_some, none_some}
 use Rattle.hp_states.specs.CpuSets.{HasNoneFrom}
 use Rattle.hp_states.specs.declared.limits.TheConstants.{MAX_EVENTS}
 use Rattle.hp_event.specs.declared.op.Op.{Op}
@@ -35,16 +37,15 @@ use Rattle.hp_model.specs.Suspend.{held_by as held_by_op}
 use Rattle.hp_model.specs.Walks.{walk, walking, is_walking}
 use Rattle.hp_model.proofs.BatchLemmas.{between_rest}
 use Rattle.hp_model.proofs.OneNext.{owners}
-use Rattle.hp_model.proofs.Owners.{none_some}
 use Rattle.hp_model.proofs.RoomKept.{promises_fit}
 use Rattle.hp_model.proofs.SomeMoves.{some_of}
 use Rattle.hp_suspend.specs.declared.batch.Batch.{Batch as ABatch}
 use Rattle.hp_suspend.proofs.Few.{thawing_few, booting_few, batching_few}
-use Rattle.hp_account.specs.declared.under_way.Coming.{Coming}
-use Rattle.hp_account.specs.declared.under_way.Coming.TheVariants as coming
-use Rattle.hp_account.specs.declared.operation.Held.{Held}
-use Rattle.hp_account.specs.declared.operation.Sequence.{Sequence}
-use Rattle.hp_account.specs.declared.operation.Sequence.TheVariants.{Single, Freeze, Thaw, Boot, Batch, NoWalk}
+use Rattle.hp_account.specs.declared.under_way.NextStep.{NextStep}
+use Rattle.hp_account.specs.declared.under_way.NextStep.TheVariants as coming
+use Rattle.hp_account.specs.declared.operation.MapOperation.{MapOperation}
+use Rattle.hp_account.specs.declared.operation.Walks.{Walks}
+use Rattle.hp_account.specs.declared.operation.Walks.TheVariants.{Single, Freeze, Thaw, Boot, Batch, NoWalk}
 use Rattle.hp_machine.specs.declared.next.Next.TheVariants as answer
 use Rattle.hp_table.specs.Step.{Step}
 use Rattle.hp_account.specs.declared.account.Account.{Account}
@@ -52,16 +53,16 @@ use Rattle.hp_account.specs.Account.{IsAccount}
 use Rattle.hp_account.specs.Batches.{batch_of, IsWalking as IsBatchWalking}
 use Rattle.hp_machine.specs.Upmany.{IsHoldersTurn}
 use Rattle.hp_machine.specs.Between.{IsBetween, Gives}
-use Rattle.hp_account.specs.Coming.{IsInFlightOf, IsByThread, end_event}
+use Rattle.hp_account.specs.NextStep.{IsInFlightOf, IsByThread, end_event}
 use Rattle.hp_account.specs.Entries.{entry_event}
 use Rattle.hp_account.specs.Locks.{why_of}
 use Rattle.hp_machine.specs.Next.{IsNext, IsKept, next_by}
-use Rattle.hp_account.specs.Operations.{IsSequence, IsFew, IsHeld}
+use Rattle.hp_account.specs.Operations.{AreWalks, IsFew, IsHeld}
 use Rattle.hp_account.specs.Table.{IsTableOf}
 use Rattle.hp_account.specs.UnderWay.{IsUnderWay, is_batch_walking}
 use Rattle.hp_machine.specs.Room.{CountsKeys}
 use Rattle.hp_machine.proofs.FirstSaid.{why_said, room_said, no_room_said}
-use Rattle.hp_account.proofs.FlightFacts.{walk_kept, none_walks}
+use Rattle.hp_account.proofs.FlightFacts.{none_walks}
 use Rattle.hp_account.proofs.FlightFacts.{walks as walks_by}
 use Rattle.hp_account.proofs.InBatch.{of_batch, not_batch, walk_walking, lowest_here}
 use Rattle.hp_account.proofs.WalkMoves.{walk_begins}
@@ -129,7 +130,7 @@ waits_for_thread head es k cpu op lawful busy flies none turn = record {
         not_found head es k op None busy none (other_holder head es k (operation es) (no_map f.0 f.1 f.2 (operation es) refl))
 
 -- what is under way and the seat's is what comes next of it
-pub in_flight_said : (head : Head) (es : List Event) (k : ℕ) (what : Option Coming) → IsLawful head es → is_busy k es ≡ true →
+pub in_flight_said : (head : Head) (es : List Event) (k : ℕ) (what : Option NextStep) → IsLawful head es → is_busy k es ≡ true →
     IsUnderWay head es what → IfSome (next_by k what) (λ n. (op : Op) → IsNext head es k op n)
 in_flight_said head es k None lawful busy is = tt
 in_flight_said head es k (Some (coming.End e)) lawful busy is = go (eqb (seat_of (end_event e)) k) refl
@@ -196,7 +197,7 @@ beside head es k client lawful busy other none (inr f) =
     between head es k (holds_then es k busy free) f.3 none
 
 -- of an upmany that walks the holder goes on
-pub between_said : (head : Head) (es : List Event) (k : ℕ) (what : Option Coming) → IsLawful head es → is_busy k es ≡ true →
+pub between_said : (head : Head) (es : List Event) (k : ℕ) (what : Option NextStep) → IsLawful head es → is_busy k es ≡ true →
     IsUnderWay head es what → is_batch_walking es ≡ false → next_by k what ≡ None → IsBetween head es k
 between_said head es k None lawful busy (inl is) rests h =
     let idle = is.no_registration in
@@ -328,24 +329,20 @@ pub walk_counts : (head : Head) (es : List Event) (k cpu from to : ℕ) (places 
 walk_counts head es k cpu from to places lawful t g ready =
     event_counts head es places (WalkBegin k cpu (settled cpu es) to) lawful t (walk_comes head es k cpu to g ready)
 
--- the holder, as the account keeps it
-same_operation : (a b : Operation) → Some a ≡ Some b → a ≡ b
-same_operation a b e = cc
-
-pub held_by : (head : Head) (es : List Event) (k : ℕ) (h : Held) → IsBetween head es k → IsHeld head es h → k ≡ h.seat
+pub held_by : (head : Head) (es : List Event) (k : ℕ) (h : MapOperation) → IsBetween head es k → IsHeld head es h → k ≡ h.seat
 held_by head es k h b is =
-    sym b.seat_is ∙ ap (λ (o : Operation). o.seat) (same_operation b.of is.of (sym b.held ∙ is.held)) ∙ sym is.seat_is
+    sym b.seat_is ∙ ap (λ (o : Operation). o.seat) (same_some b.of is.of (sym b.held ∙ is.held)) ∙ sym is.seat_is
 
 pub nobody_holds : (head : Head) (es : List Event) (k : ℕ) → IsBetween head es k → operation es ≡ None → ⊥
 nobody_holds head es k b is = none_some b.of (sym is ∙ b.held)
 
-pub few_walks : (head : Head) (es : List Event) (h : Held) → IsLawful head es → IsHeld head es h → IsFew h.sequence
+pub few_walks : (head : Head) (es : List Event) (h : MapOperation) → IsLawful head es → IsHeld head es h → IsFew h.sequence
 few_walks head es h lawful is = go is.of.op h.sequence is.sequence_is
   where
     fits : length es ≤ MAX_EVENTS
     fits = let p = promises_fit head es lawful in omega (arith, p)
 
-    go : (asked : Op) (s : Sequence) → IsSequence head is.of.before es asked s → IsFew s
+    go : (asked : Op) (s : Walks) → AreWalks head is.of.before es asked s → IsFew s
     go asked (Single w) q = tt
     go asked (Freeze f) q = tt
     go op.Thaw (Thaw t) q = let f = thawing_few es t q in omega (arith, f, fits)

@@ -10,7 +10,7 @@ use Rattle.hp_model.specs.FirstEvent.{is_client}
 use Rattle.hp_model.specs.Lists.{numbers}
 use Rattle.hp_model.specs.Seats.{role_of}
 use Rattle.hp_account.specs.Places.{at_place}
-use Rattle.hp_account.specs.Seats.{Roll, IsRoll, clients_of}
+use Rattle.hp_account.specs.Seats.{SeatsView, IsRoll, clients_of}
 use Rattle.hp_machine.specs.Clients.{clients}
 
 get_place : {X : Type 0} (xs : List (Option X)) (n : ℕ) → at_place xs n ≡ get_or xs n None
@@ -40,7 +40,7 @@ count_upto f xs same (suc n) few =
     ∙ count_next xs n below (is_client (get_or xs n None)) refl
     ∙ ap (λ m. count_by is_client (take m xs)) next
 
-pub clients_are : (head : Head) (events : List Event) (r : Roll) → IsRoll head events r → clients_of r ≡ clients events
+pub clients_are : (head : Head) (events : List Event) (r : SeatsView) → IsRoll head events r → clients_of r ≡ clients events
 unfolding clients
 clients_are head events r is =
     ap (count_by is_client) (sym (take-length r.roles))

@@ -1,6 +1,7 @@
 -- The entry that is due from a seat is the one that is under way and the seat's to make.
 use Rattle.std.proofs.Common.{◌≡◌, ℕ, ◌≤◌, Bool, true, false, not, cond, eqb, leb, ◌&&◌, Some, None, List, [], ◌∷◌, find, IfSome, IfNone, ◌⊎◌, inl, inr, refl, ap, sym, subst, ◌∙◌, arith}
 use Rattle.std.proofs.lemmas.Bool.{true≢false, eqb-true, eq-eqb, leb-true, leb-false}
+use Rattle.hp_states.proofs.Basics.{none_some, same_some}
 use Rattle.hp_event.specs.declared.head.Head.{Head}
 use Rattle.hp_event.specs.declared.event.Event.{Event}
 use Rattle.hp_event.specs.declared.event.Role.TheVariants.{Client}
@@ -11,14 +12,13 @@ use Rattle.hp_model.specs.NextEvent.{due_entry}
 use Rattle.hp_model.specs.Seats.{ap_seat, role_of}
 use Rattle.hp_model.specs.UnderWay.{under_way}
 use Rattle.hp_model.proofs.OneNext.{owners}
-use Rattle.hp_model.proofs.Owners.{same_some, none_some}
 use Rattle.hp_model.proofs.Stages.{ap_no_client}
-use Rattle.hp_account.specs.declared.under_way.Coming.{Coming}
-use Rattle.hp_account.specs.declared.under_way.Coming.TheVariants as coming
+use Rattle.hp_account.specs.declared.under_way.NextStep.{NextStep}
+use Rattle.hp_account.specs.declared.under_way.NextStep.TheVariants as coming
 use Rattle.hp_account.specs.declared.under_way.Entry.{Entry}
 use Rattle.hp_account.specs.Entries.{entry_event}
 use Rattle.hp_machine.specs.Next.{IsDue}
-use Rattle.hp_account.specs.Coming.{IsComing, IsByThread, IsInFlightOf, due_beyond, thread_due_beyond, end_event}
+use Rattle.hp_account.specs.NextStep.{IsComing, IsByThread, IsInFlightOf, due_beyond, thread_due_beyond, end_event}
 use Rattle.hp_account.specs.UnderWay.{entry_of, due_by, IsDueOn, NoneDue, IsThreadDue, NoThreadDue}
 
 due_of : (head : Head) (events : List Event) (k : ℕ) (es : List Event) → under_way head events ≡ es →
@@ -42,7 +42,7 @@ made head events k x only = go (eqb x.seat k) (due_of head events k (entry_event
     go true h = h
     go false h = h
 
-pub due_is : (head : Head) (events : List Event) (k : ℕ) (what : Coming) → IsComing head events what →
+pub due_is : (head : Head) (events : List Event) (k : ℕ) (what : NextStep) → IsComing head events what →
     IsDue head events k (due_by k (Some what))
 due_is head events k (coming.Entry client cpu None) is = due_of head events k [] is.none
 due_is head events k (coming.Entry client cpu (Some x)) is = made head events k x is.only
@@ -64,11 +64,11 @@ due_here head events client cpu x is =
     }
 
 -- and of no other
-abbrev IsOf : Coming → (cpu : ℕ) → Type 0
+abbrev IsOf : NextStep → (cpu : ℕ) → Type 0
 IsOf (coming.Entry client on (Some x)) c = x.cpu ≡ c
 IsOf what c = ⊥
 
-due_only : (head : Head) (events : List Event) (what : Coming) (c k : ℕ) → IsComing head events what → IsDueOn head events c k →
+due_only : (head : Head) (events : List Event) (what : NextStep) (c k : ℕ) → IsComing head events what → IsDueOn head events c k →
     IsOf what c
 due_only head events (coming.Entry client cpu None) c k is d =
     absurd (none_some d.entry (sym (due_of head events k [] is.none) ∙ d.due))
@@ -82,7 +82,7 @@ due_only head events (coming.End e) c k is d =
     absurd (none_some d.entry (sym (due_of head events k (end_event e ∷ []) is.only ∙ no_entry k (end_event e) is.no_entry) ∙ d.due))
 
 -- the lowest from one on
-pub beyond_some : (head : Head) (events : List Event) (from : ℕ) (what : Coming) → IsComing head events what →
+pub beyond_some : (head : Head) (events : List Event) (from : ℕ) (what : NextStep) → IsComing head events what →
     IfSome (due_beyond from what) (λ due. (from ≤ due.0) × IsDueOn head events due.0 due.1 × NoneDue head events from due.0)
 beyond_some head events from (coming.Entry client cpu None) is = tt
 beyond_some head events from (coming.Entry client cpu (Some x)) is = go (leb from x.cpu) refl
@@ -99,7 +99,7 @@ beyond_some head events from (coming.Entry client cpu (Some x)) is = go (leb fro
     go false e = tt
 beyond_some head events from (coming.End e) is = tt
 
-pub beyond_none : (head : Head) (events : List Event) (from to : ℕ) (what : Coming) → IsComing head events what →
+pub beyond_none : (head : Head) (events : List Event) (from to : ℕ) (what : NextStep) → IsComing head events what →
     IfNone (due_beyond from what) (NoneDue head events from to)
 beyond_none head events from to (coming.Entry client cpu None) is = λ c k low high d. due_only head events (coming.Entry client cpu None) c k is d
 beyond_none head events from to (coming.Entry client cpu (Some x)) is = go (leb from x.cpu) refl
@@ -143,7 +143,7 @@ made_by_thread head events client cpu x is other = record { thread_is = go is.ma
     go (inl own) = absurd (true≢false (sym (eq-eqb x.seat client own) ∙ other))
     go (inr t) = subst (λ z. ap_seat z events ≡ Some x.seat) (sym is.cpu_is) t.thread_is
 
-pub thread_beyond_some : (head : Head) (events : List Event) (from : ℕ) (what : Coming) → IsLawful head events → IsComing head events what →
+pub thread_beyond_some : (head : Head) (events : List Event) (from : ℕ) (what : NextStep) → IsLawful head events → IsComing head events what →
     IfSome (thread_due_beyond from what)
     (λ due. (from ≤ due.0) × IsThreadDue head events due.0 due.1 × NoThreadDue head events from due.0)
 thread_beyond_some head events from (coming.Entry client cpu None) lawful is = tt
@@ -162,7 +162,7 @@ thread_beyond_some head events from (coming.Entry client cpu (Some x)) lawful is
     )
 thread_beyond_some head events from (coming.End e) lawful is = tt
 
-pub thread_beyond_none : (head : Head) (events : List Event) (from to : ℕ) (what : Coming) → IsLawful head events → IsComing head events what →
+pub thread_beyond_none : (head : Head) (events : List Event) (from to : ℕ) (what : NextStep) → IsLawful head events → IsComing head events what →
     IfNone (thread_due_beyond from what) (NoThreadDue head events from to)
 thread_beyond_none head events from to (coming.Entry client cpu None) lawful is =
     λ c k low high t. due_only head events (coming.Entry client cpu None) c k is t.due

@@ -1,11 +1,13 @@
 -- In a lawful journal nothing is registered above the highest state, no processor is armed there, and no file shows more.
-use Rattle.std.proofs.Common.{◌≡◌, ℕ, zero, suc, ◌+◌, ◌<◌, ◌≤◌, Bool, true, false, not, ◌||◌, ◌&&◌, cond, eqb, leb, ltb, is_none, Option, Some, None, List, [], ◌∷◌, ◌++◌, length, fold, refl, sym, ap, ◌∙◌, subst, ⊎_elim, arith, append_assoc}
+use Rattle.std.proofs.Common.{◌≡◌, ℕ, ◌+◌, ◌<◌, ◌≤◌, Bool, true, false, not, ◌||◌, ◌&&◌, cond, eqb, leb, ltb, is_none, Option, Some, None, List, [], ◌∷◌, ◌++◌, fold, refl, sym, ap, ◌∙◌, subst, ⊎_elim, arith, append_assoc}
 use Rattle.std.specs.Prelude.{ℤ, pos, negsuc}
 use Rattle.std.specs.List.{count_by}
-use Rattle.std.proofs.lemmas.List.{append-nil, length-append}
+use Rattle.std.proofs.lemmas.List.{append-nil}
 use Rattle.std.proofs.lemmas.List.Sums.{count_by-le-length}
 use Rattle.std.proofs.lemmas.Bool.{true≢false, cases_lt, eqb-true, leb-false, or_parts}
 use Rattle.std.proofs.lemmas.Bool.Decides.{nat_tests}
+use Rattle.hp_model.proofs.SumLemmas.{length-numbers}
+use Rattle.hp_states.proofs.Basics.{none_some, same_some}
 use Rattle.hp_states.specs.declared.limits.TheConstants.{ONLINE}
 use Rattle.hp_states.specs.declared.dir.Dir.{Dir}
 use Rattle.hp_states.specs.declared.dir.Dir.TheVariants.{Up, Down}
@@ -46,12 +48,6 @@ pub record AreStates (head : Head) (es : List Event) : Type 0 where
   pub registers_low : (r : Registration) → registration es ≡ Some r → r.state ≤ ONLINE
   pub armed_low : (c s : ℕ) → armed c es ≡ Some s → s ≤ ONLINE
 
-none_some : {A : Type 0} (x : A) → None ≡ Some x → ⊥
-none_some x h = cc
-
-same : {A : Type 0} (x y : A) → Some x ≡ Some y → x ≡ y
-same x y h = cc
-
 states_none : (head : Head) → AreStates head []
 unfolding registered registration armed
 states_none head = record {
@@ -66,7 +62,7 @@ setup_low : (head : Head) (es : List Event) (asked state number : ℕ) (form : F
 setup_low head es asked state number form true d below r =
     let s = slot_below head es asked state d (rw d at r) in omega (arith, s)
 setup_low head es asked state number form false d below r =
-    let is : asked ≡ state = same asked state (rw d at r) in omega (arith, is, below)
+    let is : asked ≡ state = same_some asked state (rw d at r) in omega (arith, is, below)
 
 there_low : (head : Head) (es : List Event) (s : ℕ) → AreStates head es → (registered head s es ≡ None → ⊥) → s ≤ ONLINE
 there_low head es s k there =
@@ -83,18 +79,18 @@ begin_low head es seat state (Setup asked number form) b k =
 begin_low head es seat state (Remove s form) b k =
     let p = passed head es seat (Remove s form) b.free.idle b.passes.not_waiting b.passes.not_refused in
     let late = none_holds (refusals_after_waits head es (Remove s form)) p.1 in
-    let at : s ≡ state = same s state b.state_is in
+    let at : s ≡ state = same_some s state b.state_is in
     subst (λ n. n ≤ ONLINE) at (there_low head es s k (λ none. true≢false (sym (ap is_none none) ∙ late.0)))
 begin_low head es seat state (Add s inst form) b k =
     let p = passed head es seat (Add s inst form) b.free.idle b.passes.not_waiting b.passes.not_refused in
     let late = none_holds (refusals_after_waits head es (Add s inst form)) p.1 in
-    let at : s ≡ state = same s state b.state_is in
+    let at : s ≡ state = same_some s state b.state_is in
     subst (λ n. n ≤ ONLINE) at
     (there_low head es s k (λ none. true≢false (sym (ap (λ r. not (is_multi_state r)) none) ∙ late.0)))
 begin_low head es seat state (Del s inst form) b k =
     let p = passed head es seat (Del s inst form) b.free.idle b.passes.not_waiting b.passes.not_refused in
     let late = none_holds (refusals_after_waits head es (Del s inst form)) p.1 in
-    let at : s ≡ state = same s state b.state_is in
+    let at : s ≡ state = same_some s state b.state_is in
     subst (λ n. n ≤ ONLINE) at
     (there_low head es s k (λ none. true≢false (sym (ap (λ r. not (is_multi_state r)) none) ∙ late.0)))
 begin_low head es seat state op b k = absurd (none_some state b.state_is)
@@ -105,7 +101,7 @@ arm_low : (head : Head) (es : List Event) (seat cpu : ℕ) (value : ℤ) (s : �
 arm_low head es seat cpu (pos n) s b h =
     let p = passed head es seat (Arm cpu (pos n)) b.free.idle b.passes.not_waiting b.passes.not_refused in
     let late = none_holds (refusals_after_waits head es (Arm cpu (pos n))) p.1 in
-    let at : n ≡ s = same n s h in
+    let at : n ≡ s = same_some n s h in
     subst (λ m. m ≤ ONLINE) at (below n late.0)
   where
     below : (n : ℕ) → ltb ONLINE n ≡ false → n ≤ ONLINE
@@ -153,7 +149,7 @@ states_step head es (RegBegin seat state op) comes k =
     record {
       none_above = λ s above. registered_push head s es e ∙ k.none_above s above;
       registers_low = λ x h.
-          let at : r ≡ x = same r x (sym (registration_push es e) ∙ h) in subst (λ (y : Registration). y.state ≤ ONLINE) at low;
+          let at : r ≡ x = same_some r x (sym (registration_push es e) ∙ h) in subst (λ (y : Registration). y.state ≤ ONLINE) at low;
       armed_low = λ c s h. k.armed_low c s (sym (armed_push c es e) ∙ h);
     }
 states_step head es (RegEnd seat answer) comes k =
@@ -227,13 +223,8 @@ pub shown_low : (keys : ℕ → List ℕ) (at : ℕ) (entries : List Event) → 
 shown_low keys at [] low none = low
 shown_low keys at (e ∷ es) low none = shown_low keys (shown_after keys at e) es (step_low keys at e low none) none
 
--- how many states have names
-count_numbers : (n : ℕ) → length (numbers n) ≡ n
-count_numbers zero = refl
-count_numbers (suc n) = let rest = count_numbers n in let more = length-append (numbers n) (n ∷ []) in omega (arith, rest, more)
-
 pub named_low : (head : Head) (es : List Event) → named_states head es ≤ ONLINE + 1
 unfolding named_states
 named_low head es =
-    subst (λ n. count_by (λ s. is_named head s es) (numbers (ONLINE + 1)) ≤ n) (count_numbers (ONLINE + 1))
+    subst (λ n. count_by (λ s. is_named head s es) (numbers (ONLINE + 1)) ≤ n) (length-numbers (ONLINE + 1))
     (count_by-le-length (λ s. is_named head s es) (numbers (ONLINE + 1)))

@@ -7,6 +7,8 @@ use Rattle.std.specs.List.{count_by}
 use Rattle.std.proofs.lemmas.Bool.{true≢false}
 use Rattle.std.proofs.lemmas.Bool.Decides.{nat_tests}
 use Rattle.std.proofs.lemmas.List.Sums.{length-filter}
+use Rattle.hp_model.proofs.ListLemmas.{filter_agree}
+use Rattle.hp_states.proofs.Basics.{none_some}
 use Rattle.hp_states.specs.declared.limits.TheConstants.{MAX_EVENTS, MAX_CPUS}
 use Rattle.hp_states.specs.declared.section.Range.{Range}
 use Rattle.hp_states.specs.Sections.{is_dynamic, range_asked_by}
@@ -34,7 +36,7 @@ use Rattle.hp_model.specs.SeatWaits.{wait}
 use Rattle.hp_model.specs.Subsystems.{names_sub}
 use Rattle.hp_model.specs.Waits.{Wait, maps_held, readers_in, reg_in, writer_in, is_waiting, wait_to_begin}
 use Rattle.hp_model.proofs.Passing.{passed, none_holds}
-use Rattle.hp_suspend.proofs.Places.{count_places, agree_below, passing}
+use Rattle.hp_suspend.proofs.Places.{count_places, passing}
 use Rattle.hp_table.specs.declared.error.TableError.{TableError}
 use Rattle.hp_table.specs.declared.error.TableError.TheVariants.{NoSpace}
 use Rattle.hp_table.specs.Slots.{IsLowestFree, IsFull}
@@ -44,13 +46,10 @@ use Rattle.hp_machine.specs.Blocked.{IsKeptBack}
 use Rattle.hp_machine.specs.First.{IsFirst}
 use Rattle.hp_account.specs.Locks.{why_of}
 use Rattle.hp_machine.specs.Next.{IsKept, IsWhy}
-use Rattle.hp_account.specs.Processors.{Standing, IsStanding}
+use Rattle.hp_account.specs.Processors.{ProcessorsView, IsStanding}
 use Rattle.hp_account.specs.Table.{IsTableOf}
 use Rattle.hp_machine.proofs.RefusalsSaid.{none_registers}
 use Rattle.hp_account.proofs.TableSays.{asks_first, lowest_alike, full_alike}
-
-none_some : {A : Type 0} (x : A) → None ≡ Some x → ⊥
-none_some x h = cc
 
 -- the slot of a range is the resolved state
 pub slot_said : (head : Head) (es : List Event) (places : List (Option Step)) (range : Range) (asked sub : ℕ) (form : Form)
@@ -99,7 +98,7 @@ take_all [] (suc n) h = refl
 take_all (x ∷ xs) zero h = absurd (omega arith)
 take_all (x ∷ xs) (suc n) h = ap (λ ys. x ∷ ys) (take_all xs n (omega arith))
 
-pub present_said : (head : Head) (es : List Event) (p : Standing) (n : ℕ) → IsHead head → IsStanding head es p →
+pub present_said : (head : Head) (es : List Event) (p : ProcessorsView) (n : ℕ) → IsHead head → IsStanding head es p →
     n ≡ min (length p.present) MAX_CPUS → count_by (λ b. b) (take n p.present) ≡ length (present head)
 present_said head es p n h is all =
     let few = h.few_possible in
@@ -107,7 +106,7 @@ present_said head es p n h is all =
     let most : length p.present ≤ n = omega (arith, few, places, all) in
     ap (count_by (λ b. b)) (take_all p.present n most) ∙ sym (length-filter (λ b. b) p.present)
     ∙ count_places p.present ∙ ap (passing (λ c. get_or p.present c false)) places
-    ∙ ap length (agree_below (λ c. get_or p.present c false) (λ c. is_present head c) head.possible is.present_is.each)
+    ∙ ap length (filter_agree (λ c. get_or p.present c false) (λ c. is_present head c) head.possible is.present_is.each)
 
 -- the first event of a client's seat that has nothing in flight
 pub first_refused : (head : Head) (es : List Event) (k n : ℕ) (op : Op) → role_of k es ≡ Some Client → names_sub head op ≡ true →

@@ -1,6 +1,7 @@
 -- An operation that there is no room for has no event.
 use Rattle.std.proofs.Common.{◌≡◌, ℕ, Bool, true, false, not, cond, Option, Some, None, List, refl, sym}
 use Rattle.std.proofs.lemmas.Bool.{true≢false, and_parts}
+use Rattle.hp_states.proofs.Basics.{not_true}
 use Rattle.hp_event.specs.declared.op.Op.{Op}
 use Rattle.hp_event.specs.declared.head.Head.{Head}
 use Rattle.hp_event.specs.declared.event.Event.{Event}
@@ -8,7 +9,6 @@ use Rattle.hp_model.specs.FirstEvent.{first_event}
 use Rattle.hp_model.specs.NextEvent.{next_event, is_full, lacks_room, if_room, next_in_flight}
 use Rattle.hp_model.specs.Room.{has_room}
 use Rattle.hp_model.specs.Seats.{is_busy}
-use Rattle.hp_model.proofs.OneFate.{not_true}
 
 -- where there is no room for a first event, none comes
 no_room : (head : Head) (es : List Event) (o : Option Event) → lacks_room head es o ≡ true → if_room head es o ≡ None

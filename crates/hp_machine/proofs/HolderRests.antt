@@ -2,6 +2,7 @@
 -- which it is, and nothing does while the seat waits for a processor's thread.
 use Rattle.std.proofs.Common.{◌≡◌, ℕ, true, false, Some, None, List, inl, inr, refl, ap, sym, ◌∙◌}
 use Rattle.std.proofs.lemmas.Bool.{eq-eqb}
+use Rattle.hp_states.proofs.Basics.{same_some}
 use Rattle.hp_event.specs.declared.op.Op.{Op}
 use Rattle.hp_event.specs.declared.head.Head.{Head}
 use Rattle.hp_event.specs.declared.event.Event.{Event}
@@ -13,7 +14,7 @@ use Rattle.hp_model.specs.Pending.{Pending, IsInFlight, IsAllowed}
 use Rattle.hp_model.specs.Seats.{is_busy}
 use Rattle.hp_model.proofs.NextGives.{next_nothing}
 use Rattle.hp_model.proofs.Operations.{Entered}
-use Rattle.hp_model.proofs.Owners.{Owners, same_some}
+use Rattle.hp_model.proofs.Owners.{Owners}
 use Rattle.hp_model.proofs.SomeMoves.{facts}
 
 -- the holder's operation, as one that isn't answered

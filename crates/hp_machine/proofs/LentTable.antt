@@ -1,6 +1,7 @@
 -- The table is the journal's still where a hook is lent, and where it comes home it is as after a call.
 use Rattle.std.proofs.Common.{◌≡◌, ℕ, Bool, true, false, cond, eqb, Option, Some, None, IfSome, List, [], ◌∷◌, zero, suc, refl, ap, sym, ◌∙◌, subst}
 use Rattle.std.specs.Prelude.{slice_set, IsSome}
+use Rattle.hp_states.proofs.Basics.{same_some}
 use mathlib.Core.Logic.{dite}
 use native.Mathlib.Decide.{ℕ_discrete}
 use Rattle.hp_states.specs.Rules.{Site}
@@ -54,9 +55,6 @@ known_lent : (head : Head) (op : Op) (found : Option Registered) (step : Step) �
 known_lent head (Setup asked sub form) found step h = h
 known_lent head (Remove state form) found step h = h
 known_lent head op found step h = tt
-
-same_some : {A : Type 0} (x y : A) → Some x ≡ Some y → x ≡ y
-same_some x y h = cc
 
 registration_lent : (head : Head) (es : List Event) (places : List (Option Step)) (s : ℕ) (step : Step) (r : Option Registration) →
     step_at places s ≡ Some step → IfSome r (HasRegistration head es places) →

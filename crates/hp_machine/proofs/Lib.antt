@@ -26,7 +26,7 @@ pub mod Leaves
 pub mod ClientsCounted
 pub mod Homes
 pub mod Admitted
-pub mod Entries
+pub mod MadeEntries
 pub mod LentTable
 pub mod Made
 pub mod Below

@@ -1,9 +1,9 @@
 -- The lowest entry that is due in an upmany is the lower one of its threads' lowest and of its seat's own.
 use Rattle.std.proofs.Common.{◌≡◌, ℕ, ◌<◌, ◌≤◌, Bool, true, false, ◌&&◌, cond, leb, ltb, ◌↔◌, Option, Some, None, IfSome, IfNone, List, ◌⊎◌, inl, inr, refl, subst, arith}
 use Rattle.std.proofs.lemmas.Bool.{leb-true, leb-false, ltb-true, ltb-false}
+use Rattle.hp_states.proofs.Basics.{none_some, same_some}
 use Rattle.hp_event.specs.declared.head.Head.{Head}
 use Rattle.hp_event.specs.declared.event.Event.{Event}
-use Rattle.hp_model.proofs.Owners.{same_some, none_some}
 use Rattle.hp_account.specs.UnderWay.{IsDueOn, NoneDue, IsThreadDue, NoThreadDue}
 use Rattle.hp_machine.specs.Upmany.{lower}
 

@@ -1,5 +1,5 @@
 -- A machine that makes an event: what its parts need, and what it is then.
-use Rattle.std.proofs.Common.{◌≡◌, ℕ, Option, List, Result, Ok, Err, OnOk, IfOk, [], ◌∷◌, ◌++◌, sym, ap, ◌∙◌, subst}
+use Rattle.std.proofs.Common.{◌≡◌, ℕ, Option, List, Result, Ok, Err, OnOk, [], ◌∷◌, ◌++◌, sym, ap, ◌∙◌, subst}
 use Rattle.hp_states.specs.declared.cpu_set.CpuSet.{CpuSet}
 use Rattle.hp_event.specs.Story.{Story}
 use Rattle.hp_event.specs.declared.event.Event.{Event}
@@ -9,7 +9,7 @@ use Rattle.hp_event.specs.declared.head.Head.{Head}
 use Rattle.hp_model.specs.Lawful.{Stands}
 use Rattle.hp_table.specs.Step.{Step}
 use Rattle.hp_account.specs.declared.account.Account.{Account}
-use Rattle.hp_account.specs.declared.under_way.Coming.{Coming}
+use Rattle.hp_account.specs.declared.under_way.NextStep.{NextStep}
 use Rattle.hp_account.specs.Accounted.{IsAccounted}
 use Rattle.hp_account.specs.Table.{IsTableOf}
 use Rattle.hp_account.specs.TableChanges.{table_after}
@@ -40,7 +40,7 @@ makes j places after e made stands same changed t =
     }
 
 -- it is a machine afterwards
-pub made_machine : (old new : Story) (account : Account) (coming : Option Coming) (made : Event) (after : List (Option Step)) →
+pub made_machine : (old new : Story) (account : Account) (coming : Option NextStep) (made : Event) (after : List (Option Step)) →
     new.head ≡ old.head → new.events ≡ old.events ++ made ∷ [] → IsAccounted new 0 account → IsUnderWay new.head new.events coming →
     IsTableOf old.head (old.events ++ made ∷ []) after → IsMachine new account coming after
 made_machine old new account coming made after head events kept under_way t =
@@ -61,11 +61,11 @@ made_seen old new places after lent e made head events m =
     ∙ ap (λ (p : List (Option Step)). record { head = old.head; events = old.events ++ e ∷ []; places = p; lent = lent }) m.changed)
 
 -- a seat came in, which leaves the table, or memory was wanting
-pub admitted_machine : {E : Type 0} (r : Result (Option Coming) E) (old new : Story) (account : Account) (seat : ℕ) (role : Role)
+pub admitted_machine : {T E : Type 0} (r : Result T E) (old new : Story) (account : Account) (coming : Option NextStep) (seat : ℕ) (role : Role)
     (places : List (Option Step)) → OnOk r (new.head ≡ old.head) → OnOk r (new.events ≡ old.events ++ Admit seat role ∷ []) →
-    OnOk r (IsAccounted new 0 account) → IfOk r (IsUnderWay new.head new.events) → IsTableOf old.head old.events places →
-    IfOk r (λ coming. IsMachine new account coming places)
-admitted_machine (Ok coming) old new account seat role places head events kept under_way t =
+    OnOk r (IsAccounted new 0 account) → OnOk r (IsUnderWay new.head new.events coming) → IsTableOf old.head old.events places →
+    OnOk r (IsMachine new account coming places)
+admitted_machine (Ok t) old new account coming seat role places head events kept under_way table =
     made_machine old new account coming (Admit seat role) places head events kept under_way
-    (table_same old.head old.events places (Admit seat role) tt t)
-admitted_machine (Err e) old new account seat role places head events kept under_way t = tt
+    (table_same old.head old.events places (Admit seat role) tt table)
+admitted_machine (Err e) old new account coming seat role places head events kept under_way table = tt

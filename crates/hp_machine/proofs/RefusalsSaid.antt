@@ -1,5 +1,5 @@
 -- What the parts of the account say of refusals is what the journal says.
-use Rattle.std.proofs.Common.{◌≡◌, ℕ, ◌+◌, ◌<◌, ◌≤◌, Bool, true, false, not, ◌||◌, cond, ltb, is_some, Option, Some, None, List, [], ◌∷◌, ◌++◌, length, map, get_or, refl, sym, ap, ◌∙◌, arith}
+use Rattle.std.proofs.Common.{◌≡◌, ℕ, ◌+◌, ◌<◌, Bool, true, false, not, ◌||◌, cond, ltb, is_some, Option, Some, None, List, [], ◌∷◌, ◌++◌, length, map, get_or, refl, sym, ap, ◌∙◌, arith}
 use Rattle.std.specs.Prelude.{ℤ, option_map, Result, Ok, Err, IfSome}
 use Rattle.std.specs.Result.{result_err}
 use Rattle.std.specs.List.{count_by}
@@ -7,6 +7,8 @@ use Rattle.std.proofs.lemmas.Bool.{or_parts}
 use Rattle.std.proofs.lemmas.Bool.Decides.{nat_tests}
 use Rattle.std.proofs.lemmas.List.{get_or-map, length-map}
 use Rattle.std.proofs.lemmas.List.Sums.{length-filter, sum_by-cons}
+use Rattle.hp_model.proofs.ListLemmas.{filter_agree}
+use Rattle.hp_states.proofs.Basics.{not_below, none_of}
 use Rattle.hp_states.specs.declared.limits.TheConstants.{ONLINE, EBUSY, EINVAL, ENOSPC}
 use Rattle.hp_states.specs.declared.section.Range.{Range}
 use Rattle.hp_states.specs.declared.dir.Dir.TheVariants.{Up, Down}
@@ -28,16 +30,15 @@ use Rattle.hp_model.specs.Sequence.{target_of}
 use Rattle.hp_model.specs.Subsystems.{sub_numbered, has_callback}
 use Rattle.hp_model.specs.Refusals.{one_online, refusals_of_target, refusals_after_waits, refusal}
 use Rattle.hp_model.specs.Suspend.{is_disabled}
-use Rattle.hp_model.proofs.InFlight.{none_of}
 use Rattle.hp_model.proofs.WaitLemmas.{is_writing, register_waits}
 use Rattle.hp_locks.specs.declared.why.Why.{Why}
 use Rattle.hp_table.specs.Instances.{has_no_room, is_multi_at, has_instance}
 use Rattle.hp_table.specs.Named.{is_named as is_named_in}
 use Rattle.hp_table.specs.Slots.{IsLowestFree, IsFull}
 use Rattle.hp_table.specs.Step.{Step, step_at}
-use Rattle.hp_suspend.proofs.Places.{count_places, agree_below, passing}
+use Rattle.hp_suspend.proofs.Places.{count_places, passing}
 use Rattle.hp_account.specs.Locks.{why_of}
-use Rattle.hp_account.specs.Processors.{Standing, IsStanding, online_count}
+use Rattle.hp_account.specs.Processors.{ProcessorsView, IsStanding, online_count}
 use Rattle.hp_account.specs.Table.{IsTableOf, IsStepOf, registered_by}
 use Rattle.hp_model.specs.Refusals.{refusals_of_way}
 use Rattle.hp_account.proofs.TableSays.{says, named_alike, count_alike, multi_alike, among_alike, insts_alike, asks_first, lowest_alike, full_alike}
@@ -54,16 +55,13 @@ flags test (x ∷ xs) =
 below : (a b : ℕ) → a < b → ltb a b ≡ true
 below a b h = grind (arith, nat_tests)
 
-not_below : (a b : ℕ) → b ≤ a → ltb a b ≡ false
-not_below a b h = grind (arith, nat_tests)
-
 -- as many are online as the journal says
-pub online_said : (head : Head) (es : List Event) (p : Standing) → IsStanding head es p → online_count p ≡ length (online head es)
+pub online_said : (head : Head) (es : List Event) (p : ProcessorsView) → IsStanding head es p → online_count p ≡ length (online head es)
 online_said head es p is =
     let on = map is_online_state p.settled in
     let places : length on ≡ head.possible = length-map p.settled is_online_state ∙ is.cpus in
     flags is_online_state p.settled ∙ sym (length-filter (λ b. b) on) ∙ count_places on ∙ ap (passing (λ c. get_or on c false)) places
-    ∙ ap length (agree_below (λ c. get_or on c false) (λ c. is_online c es) head.possible each)
+    ∙ ap length (filter_agree (λ c. get_or on c false) (λ c. is_online c es) head.possible each)
   where
     each : (c : ℕ) → c < head.possible → get_or (map is_online_state p.settled) c false ≡ is_online c es
     each c below =

@@ -2,9 +2,11 @@
 use Rattle.std.proofs.Common.{◌≡◌, ℕ, zero, suc, ◌+◌, ◌<◌, ◌≤◌, Bool, true, false, not, ◌&&◌, ◌||◌, cond, eqb, ltb, is_some, get_or, Option, Some, None, List, [], ◌∷◌, length, refl, sym, ap, ◌∙◌, subst, inl, inr, ◌⊎◌, arith}
 use Rattle.std.specs.Prelude.{IfSome, IfNone, filter, take}
 use Rattle.std.specs.List.{list_any}
-use Rattle.std.proofs.lemmas.Bool.{false≢true, and_parts, ltb-true, lt-ltb, eqb-true, eq-eqb, cases_lt}
+use Rattle.std.proofs.lemmas.Bool.{false≢true, and_parts, ltb-true, lt-ltb, eqb-true, cases_lt}
 use Rattle.std.proofs.lemmas.Bool.Decides.{nat_tests}
 use Rattle.std.proofs.lemmas.List.Folds.{list_any_at, list_any_more}
+use Rattle.hp_model.proofs.RoundsEnd.{in_numbers}
+use Rattle.hp_states.proofs.Basics.{and_false}
 use Rattle.hp_states.specs.declared.limits.TheConstants.{MAX_CPU_SET}
 use Rattle.hp_states.specs.declared.cpu_set.CpuSet.{CpuSet}
 use Rattle.hp_states.specs.CpuSets.{has, IsLowestFrom, HasNoneFrom}
@@ -13,7 +15,7 @@ use Rattle.hp_event.specs.declared.head.Head.{Head}
 use Rattle.hp_model.specs.Listed.{listed}
 use Rattle.hp_model.specs.Lists.{is_empty, occurs, among, numbers}
 use Rattle.hp_model.specs.Processors.{is_possible, is_present}
-use Rattle.hp_model.proofs.ListLemmas.{occurs-numbers, in_filter, into_filter, is_among, occurs_among}
+use Rattle.hp_model.proofs.ListLemmas.{occurs-numbers, in_filter, into_filter, is_among, occurs_among, once_in}
 
 same_answer : (a b : Bool) → (a ≡ true → b ≡ true) → (b ≡ true → a ≡ true) → a ≡ b
 same_answer true b h k = sym (h refl)
@@ -28,16 +30,13 @@ some_left p c xs h there = go (filter p xs) (into_filter p c xs h there)
     go [] l = absurd (omega arith)
     go (y ∷ ys) l = refl
 
-first_there : (y : ℕ) (ys : List ℕ) → 0 < occurs y (y ∷ ys)
-first_there y ys = let e = eq-eqb y y refl in rw e (omega arith)
-
 left_there : (p : ℕ → Bool) (xs : List ℕ) → not (is_empty (filter p xs)) ≡ true → (c : ℕ) × (p c ≡ true) × (0 < occurs c xs)
 left_there p xs h = go (filter p xs) refl h
   where
     go : (ys : List ℕ) → filter p xs ≡ ys → not (is_empty ys) ≡ true → (c : ℕ) × (p c ≡ true) × (0 < occurs c xs)
     go [] e h = absurd (false≢true h)
     go (y ∷ ys) e h =
-        let k : 0 < occurs y (filter p xs) = subst (λ zs. 0 < occurs y zs) (sym e) (first_there y ys) in
+        let k : 0 < occurs y (filter p xs) = subst (λ zs. 0 < occurs y zs) (sym e) (once_in y ys) in
         let f = in_filter p y xs k in (y, f.0, f.1)
 
 any_there : (p : ℕ → Bool) (c : ℕ) (xs : List ℕ) → p c ≡ true → 0 < occurs c xs → list_any p xs ≡ true
@@ -59,12 +58,8 @@ there_any p (x ∷ xs) h = go (p x) refl h (there_any p xs)
   where
     go : (b : Bool) → p x ≡ b → (b || list_any p xs) ≡ true →
         (list_any p xs ≡ true → (c : ℕ) × (p c ≡ true) × (0 < occurs c xs)) → (c : ℕ) × (p c ≡ true) × (0 < occurs c (x ∷ xs))
-    go true e l more = (x, e, first_there x xs)
+    go true e l more = (x, e, once_in x xs)
     go false e l more = let m = more l in let t = m.2 in (m.0, m.1, omega (arith, t))
-
--- a number is one of the numbers below another
-in_numbers : (c n : ℕ) → c < n → 0 < occurs c (numbers n)
-in_numbers c n below = let l = lt-ltb c n below in rw (occurs-numbers c n, l) (omega arith)
 
 below_numbers : (c n : ℕ) → 0 < occurs c (numbers n) → c < n
 below_numbers c n there = go (ltb c n) refl (rw (occurs-numbers c n) at there)
@@ -90,7 +85,7 @@ names_some set true none some = go (listed set) refl
     go : (xs : List ℕ) → listed set ≡ xs → false ≡ not (is_empty xs)
     go [] e = refl
     go (x ∷ xs) e =
-        let k : 0 < occurs x (listed set) = subst (λ zs. 0 < occurs x zs) (sym e) (first_there x xs) in
+        let k : 0 < occurs x (listed set) = subst (λ zs. 0 < occurs x zs) (sym e) (once_in x xs) in
         absurd (false≢true (sym (none refl x) ∙ has_listed set x k))
 names_some set false none some =
     let s = some refl in go (listed set) (in_listed set s.0 s.1 s.2)
@@ -175,10 +170,6 @@ lists_one_absent head set four =
 -- looking at the absent ones one after another
 no_less : (c n : ℕ) → n ≤ c → ltb c n ≡ false
 no_less c n h = grind (arith, nat_tests)
-
-and_false : (a : Bool) → (a && false) ≡ false
-and_false true = refl
-and_false false = refl
 
 pub absent_none : (head : Head) (set : CpuSet) (c : ℕ) → (head.possible ≤ c) ⊎ ((MAX_CPU_SET ≤ c) ⊎ (has set c ≡ false)) →
     is_absent_of head set c ≡ false

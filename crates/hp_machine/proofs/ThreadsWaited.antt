@@ -2,6 +2,8 @@
 use Rattle.std.proofs.Common.{◌≡◌, ℕ, Bool, true, false, cond, eqb, is_some, ◌↔◌, Option, Some, None, List, [], ◌∷◌, ◌⊎◌, inl, inr, refl, ap, sym, subst, ◌∙◌}
 use Rattle.std.specs.Prelude.{option_map, option_to_list}
 use Rattle.std.proofs.lemmas.Bool.{true≢false, false≢true, eqb-true, eq-eqb}
+use Rattle.hp_model.proofs.EntryStays.{walk_kept}
+use Rattle.hp_states.proofs.Basics.{none_some, same_some}
 use Rattle.hp_event.specs.declared.op.Op.TheVariants as op
 use Rattle.hp_event.specs.declared.head.Head.{Head}
 use Rattle.hp_event.specs.declared.event.Event.{Event}
@@ -21,18 +23,17 @@ use Rattle.hp_model.specs.Walks.{Walk, walk, walking}
 use Rattle.hp_model.proofs.InFlight.{walking_is, none_walking}
 use Rattle.hp_model.proofs.OneNext.{owners}
 use Rattle.hp_model.proofs.OneRegistration.{same_registration_entry}
-use Rattle.hp_model.proofs.Owners.{Owners, same_some, none_some}
+use Rattle.hp_model.proofs.Owners.{Owners}
 use Rattle.hp_model.proofs.Stages.{ap_no_client}
 use Rattle.hp_model.proofs.RegistrationGives.{gives_by_caller}
 use Rattle.hp_model.proofs.Induction.{kept}
 use Rattle.hp_model.proofs.Kept.{RegistrationKept}
-use Rattle.hp_account.specs.declared.under_way.Coming.{Coming}
-use Rattle.hp_account.specs.declared.under_way.Coming.TheVariants as coming
-use Rattle.hp_account.specs.Coming.{IsComing, IsInFlightOf, IsByThread, end_event, waits_by}
+use Rattle.hp_account.specs.declared.under_way.NextStep.{NextStep}
+use Rattle.hp_account.specs.declared.under_way.NextStep.TheVariants as coming
+use Rattle.hp_account.specs.NextStep.{IsComing, IsInFlightOf, IsByThread, end_event, waits_by}
 use Rattle.hp_account.specs.Entries.{entry_event}
 use Rattle.hp_machine.proofs.BatchSaid.{waits_for_lowest}
 use Rattle.hp_machine.proofs.BusyNext.{found}
-use Rattle.hp_account.proofs.FlightFacts.{walk_kept}
 use Rattle.hp_machine.proofs.HolderRests.{holder_busy, held_up_rests}
 
 -- ---- whose next entry is a thread's
@@ -62,7 +63,7 @@ same_client head es k c client lawful t flies = go t.entry flies
     go (inr e) (inr f) = sym f.2 ∙ (ap (λ z. z.seat) (same_some f.0 e.0.of (sym f.1 ∙ e.0.in_flight)) ∙ e.1)
 
 -- it waits for one thread at most
-one_wait : (head : Head) (es : List Event) (k c d : ℕ) → IsLawful head es → IsApTurn head es k c → IsApTurn head es k d → c ≡ d
+pub one_wait : (head : Head) (es : List Event) (k c d : ℕ) → IsLawful head es → IsApTurn head es k c → IsApTurn head es k d → c ≡ d
 one_wait head es k c d lawful t u = go t.entry u.entry
   where
     own : Owners es
@@ -126,7 +127,7 @@ no_own head es k c x lawful t only by = go t.entry
         thread e.0.of e.0.in_flight e.1 (ap_seat c es) refl listed
 
 -- ---- what the account answers
-pub coming_waits : (head : Head) (es : List Event) (what : Coming) → IsLawful head es → IsComing head es what → (k c : ℕ) →
+pub coming_waits : (head : Head) (es : List Event) (what : NextStep) → IsLawful head es → IsComing head es what → (k c : ℕ) →
     IsApTurn head es k c ↔ (waits_by k what ≡ Some c)
 coming_waits head es (coming.Entry client cpu None) lawful is k c = (there, λ h. back (eqb client k) refl h)
   where

@@ -11,4 +11,8 @@ pub mod Leaving
 pub mod Clients
 pub mod Heads
 pub mod Contents
+pub mod StandsNext
+pub mod MayAsk
+pub mod Lent
+pub mod Refused
 pub mod Admission

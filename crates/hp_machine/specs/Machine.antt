@@ -4,12 +4,12 @@ use Rattle.std.specs.Prelude.{Option, List}
 use Rattle.hp_event.specs.Story.{Story}
 use Rattle.hp_table.specs.Step.{Step}
 use Rattle.hp_account.specs.declared.account.Account.{Account}
-use Rattle.hp_account.specs.declared.under_way.Coming.{Coming}
+use Rattle.hp_account.specs.declared.under_way.NextStep.{NextStep}
 use Rattle.hp_account.specs.Accounted.{IsAccounted}
 use Rattle.hp_account.specs.Table.{IsTableOf}
 use Rattle.hp_account.specs.UnderWay.{IsUnderWay}
 
-pub record IsMachine (journal : Story) (account : Account) (coming : Option Coming) (places : List (Option Step)) : Type 0 where
+pub record IsMachine (journal : Story) (account : Account) (coming : Option NextStep) (places : List (Option Step)) : Type 0 where
   pub kept : IsAccounted journal 0 account
   pub under_way : IsUnderWay journal.head journal.events coming
   pub table_is : IsTableOf journal.head journal.events places

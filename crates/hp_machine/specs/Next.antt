@@ -16,9 +16,9 @@ use Rattle.hp_locks.specs.declared.why.Why.TheVariants.{MapsHeld, WriterIn, Read
 use Rattle.hp_account.specs.declared.under_way.Entry.{Entry}
 use Rattle.hp_machine.specs.declared.next.Next.{Next}
 use Rattle.hp_machine.specs.declared.next.Next.TheVariants as next
-use Rattle.hp_account.specs.declared.under_way.Coming.{Coming}
-use Rattle.hp_account.specs.declared.under_way.Coming.TheVariants as coming
-use Rattle.hp_account.specs.Coming.{end_event}
+use Rattle.hp_account.specs.declared.under_way.NextStep.{NextStep}
+use Rattle.hp_account.specs.declared.under_way.NextStep.TheVariants as coming
+use Rattle.hp_account.specs.NextStep.{end_event}
 use Rattle.hp_account.specs.Entries.{entry_event}
 
 -- the seat's operation isn't refused, and waits for this
@@ -55,7 +55,7 @@ IsDue head events k None = due_entry head events k ≡ None
 IsDue head events k (Some x) = due_entry head events k ≡ Some (entry_event head events x)
 
 -- what comes next of a seat in what is under way: its event, its entry, or that the client waits for a processor's thread
-abbrev pub next_by : (seat : ℕ) → Option Coming → Option Next
+abbrev pub next_by : (seat : ℕ) → Option NextStep → Option Next
 next_by k None = None
 next_by k (Some (coming.End e)) = if seat_of (end_event e) == k then Some (next.Event (end_event e) 0) else None
 next_by k (Some (coming.Entry client cpu None)) = if client == k then Some (next.Wait (ApTurn cpu)) else None

@@ -1,11 +1,11 @@
 //! Seats that come in and leave.
 
-ghost use Rattle.std.specs.Prelude.{◌≡◌, ◌≢◌, ◌↔◌, IsTrue, None, Some, IfOk, IfErr, OnOk, OnErr, length};
+ghost use Rattle.std.specs.Prelude.{◌≡◌, ◌↔◌, IsTrue, None, Some, IfOk, IfErr, OnOk, OnErr, length};
 ghost use Rattle.hp_event.specs.declared.event.Event.TheVariants.{Admit, Leave};
-ghost use Rattle.hp_machine.specs.Admission.{refusal_of};
+ghost use Rattle.hp_machine.specs.Admission.{refusal_of, IsAdmitRefusal, WantsOnlyMemory};
 ghost use Rattle.hp_machine.specs.Contents.{with_event};
 ghost use Rattle.hp_machine.specs.Leaving.{can_leave};
-ghost use Rattle.hp_model.specs.Lawful.{Stands};
+ghost use Rattle.hp_machine.specs.StandsNext.{CanMake, admission};
 ghost use Rattle.hp_model.specs.Seats.{admits};
 
 use crate::machine::Machine;
@@ -42,12 +42,10 @@ impl<H: Hook> Machine<H> {
     /// processor has one hotplug thread is that of `kernel/cpu.c`.
     pub fn admit(&mut self, role: Role) -> Result<u32, AdmitError>
         ensures seat { IfOk result (λ seat. seat ≡ admits self.old.events) }
-        ensures ok { OnOk result (self.new ≡ with_event self.old (Admit (admits self.old.events) role)) }
+        ensures ok { OnOk result (self.new ≡ with_event self.old (admission self.old role)) }
         ensures free { OnOk result (refusal_of self.old.head self.old.events role ≡ None) }
-        ensures refused { IfErr result (λ error. error ≢ AdmitError.NoMemory →
-            refusal_of self.old.head self.old.events role ≡ Some error) }
-        ensures no_memory { IfErr result (λ error. error ≡ AdmitError.NoMemory →
-            refusal_of self.old.head self.old.events role ≡ None) }
+        ensures refused { IfErr result (IsAdmitRefusal self.old role) }
+        ensures no_memory { IfErr result (WantsOnlyMemory self.old role) }
         ensures err { OnErr result (self.new ≡ self.old) }
     {
         if let Some(error) = self.refusal(role) {
@@ -89,7 +87,7 @@ impl<H: Hook> Machine<H> {
     /// Takes no memory. Seats are this project's own.
     #[tactic(auto, using(crate::proofs::Admitted::admits_number, crate::proofs::Admitted::comes_in))]
     pub fn can_admit(&self, seat: u32, role: Role) -> bool
-        ensures { IsTrue result ↔ Stands self.now.head self.now.events (Admit seat role) }
+        ensures { IsTrue result ↔ CanMake self.now (Admit seat role) }
     {
         seat == self.admitted() && self.refusal(role).is_none()
     }
@@ -99,7 +97,7 @@ impl<H: Hook> Machine<H> {
     ///
     /// Takes no memory. Seats are this project's own.
     pub fn can_leave(&self, seat: u32) -> bool
-        ensures { IsTrue result ↔ Stands self.now.head self.now.events (Leave seat) }
+        ensures { IsTrue result ↔ CanMake self.now (Leave seat) }
     {
         self.has_nothing_to_do(seat)
     }
@@ -118,14 +116,18 @@ impl<H: Hook> Machine<H> {
     ///
     /// It can leave. Takes no memory. Seats are this project's own.
     pub fn leave(&mut self, seat: u32) -> u32
-        requires { Stands self.old.head self.old.events (Leave seat) }
+        requires { CanMake self.old (Leave seat) }
         ensures place { result ≡ length self.old.events }
         ensures left { self.new ≡ with_event self.old (Leave seat) }
     {
         let at = self.journal.len();
-        self.coming = self
-            .account
-            .append(&mut self.journal, &self.table, &Event::Leave { seat }, 0);
+        self.account.append(
+            &mut self.journal,
+            &mut self.coming,
+            &self.table,
+            &Event::Leave { seat },
+            0,
+        );
         at
     }
 }

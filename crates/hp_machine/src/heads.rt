@@ -1,16 +1,56 @@
 //! What a head has to be for a machine, and what its operations may speak of.
 
-ghost use Rattle.std.specs.Prelude.{◌≡◌, ◌+◌, ◌<◌, ◌↔◌, All, IsTrue};
+ghost use Rattle.std.specs.Prelude.{◌≡◌, ◌+◌, ◌<◌, ◌↔◌, None, All, IfSome, IsTrue};
 ghost use Rattle.std.specs.List.Sorted.{IsStrictlyIncreasing};
-ghost use Rattle.hp_machine.specs.Heads.{AreAbsent};
+ghost use Rattle.hp_machine.specs.Heads.{AreAbsent, IsFaultless, IsFirstFault};
 ghost use Rattle.hp_model.specs.Subsystems.{names_sub};
 
 use hp_event::{Head, Op};
+use hp_states::{MAX_CPUS, MAX_SUBS};
 
-/// Whether the absent processors of a head strictly rise, and are possible ones.
+/// What keeps a machine from starting with a head, but the names and rules of its subsystems.
+#[derive(Clone, Copy, Debug, PartialEq, Eq)]
+pub enum HeadFault {
+    /// No processor is possible.
+    NoProcessor,
+    /// More than `MAX_CPUS` are possible.
+    TooManyCpus,
+    /// The absent ones don't strictly rise, or one isn't possible.
+    BadAbsent,
+    /// The first is absent, which a machine boots on.
+    NoBoot,
+    /// There are more than `MAX_SUBS` subsystems.
+    TooManySubs,
+}
+
+/// The first of these that is at fault in a head, if one is.
 ///
-/// There is no condition. Takes no memory. This project's own.
-pub fn are_absent(head: &Head) -> bool
+/// There is no condition. Takes no memory, and time for the absent processors. That processor 0 is there is
+/// after `boot_cpu_init` of `kernel/cpu.c`; the limits are this project's own.
+pub fn head_fault(head: &Head) -> Option<HeadFault>
+    ensures none { (result ≡ None) ↔ IsFaultless head.now }
+    ensures first { IfSome result (IsFirstFault head.now) }
+{
+    if head.possible == 0 {
+        return Some(HeadFault::NoProcessor);
+    }
+    if head.possible > MAX_CPUS {
+        return Some(HeadFault::TooManyCpus);
+    }
+    if !are_absent(head) {
+        return Some(HeadFault::BadAbsent);
+    }
+    if !head.is_present(0) {
+        return Some(HeadFault::NoBoot);
+    }
+    if head.subs.as_slice().len() > MAX_SUBS as usize {
+        return Some(HeadFault::TooManySubs);
+    }
+    None
+}
+
+/// Whether the absent processors of a head strictly rise, and are possible ones. Takes no memory.
+fn are_absent(head: &Head) -> bool
     ensures { IsTrue result ↔ AreAbsent head.now }
 {
     let absent = head.absent.as_slice();

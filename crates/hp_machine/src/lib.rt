@@ -7,16 +7,18 @@
 //! go. `make` alone reserves room, for the event and for what has to follow it, and gives it back where
 //! memory is wanting; an entry and a leave use room that was promised.
 //!
-//! Contracts see the head, the events, what stands at each state, and the processors for whose entries hooks
-//! are lent (`specs/Contents.antt`). The journal is lawful at any time, the account is its, and so is the table
+//! Contracts see the head, the events, what stands at each state, and the processors for whose entries hooks are
+//! lent (`specs/Contents.antt`). The journal is lawful at any time, the account is its, and so is the table
 //! (`specs/Machine.antt`), so that no call has that as a condition. What is answered is said by hp_model's
 //! definitions: `specs/Next.antt` of what comes next, `specs/Blocked.antt` of refusals and waits,
-//! `specs/Admission.antt` of who may come in; the other specs are for the machine's own calls. Only `start`,
-//! `make` and `admit` take memory, and no call looks at the events.
+//! `specs/Admission.antt` of who may come in. Clauses speak of the contents as a whole: `specs/StandsNext.antt` has
+//! what can be made next, `MayAsk.antt` what a seat may ask for, `Lent.antt` where the hook of an entry is, and
+//! `Refused.antt` the number of a refusal. The other specs are for the machine's own calls. Only `start`, `make`
+//! and `admit` take memory, and no call looks at the events.
 #![tactic(auto)]
 
 mod admission;
-mod due;
+mod entries;
 mod files;
 mod heads;
 mod lending;
@@ -29,6 +31,6 @@ mod upmany;
 mod waits;
 
 pub use admission::AdmitError;
-pub use heads::{are_absent, names_sub};
+pub use heads::{HeadFault, head_fault, names_sub};
 pub use machine::Machine;
 pub use next::Next;

@@ -1,8 +1,7 @@
 //! The machine.
 
-ghost use Rattle.std.specs.Prelude.{◌≡◌, ◌+◌, ◌<◌, ◌↔◌, ℕ, [], false, None, Some, IfOk, option_map, replicate};
+ghost use Rattle.std.specs.Prelude.{◌≡◌, ◌<◌, ◌↔◌, ℕ, false, Some, IfOk, option_map};
 ghost use Rattle.hp_states.specs.CpuSets.{has};
-ghost use Rattle.hp_states.specs.declared.limits.TheConstants.{ONLINE};
 ghost use Rattle.hp_event.specs.declared.op.Op.{Op as AnOp};
 ghost use Rattle.hp_account.specs.Table.{IsTableOf};
 ghost use Rattle.hp_machine.specs.Clients.{clients};
@@ -11,7 +10,6 @@ ghost use Rattle.hp_model.specs.Heads.{IsHead};
 ghost use Rattle.hp_model.specs.Lawful.{IsLawful};
 ghost use Rattle.hp_model.specs.Lists.{among};
 ghost use Rattle.hp_model.specs.MapLock.{Operation, operation};
-ghost use Rattle.hp_model.specs.Pending.{IsInFlight};
 ghost use Rattle.hp_model.specs.Promised.{promised};
 ghost use Rattle.hp_model.specs.Readers.{is_reading};
 ghost use Rattle.hp_model.specs.Registrations.{Registration, registration};
@@ -19,8 +17,10 @@ ghost use Rattle.hp_model.specs.Seats.{admits, ap_seat, is_busy, role_of};
 ghost use Rattle.hp_model.specs.Settled.{settled};
 ghost use Rattle.hp_model.specs.Suspend.{disabled, frozen};
 ghost use Rattle.hp_table.specs.Sound.{IsSound};
+ghost use Rattle.hp_machine.specs.MayAsk.{HasInFlight};
+ghost use Rattle.hp_machine.specs.Contents.{started};
 
-use hp_account::{Account, Coming};
+use hp_account::{Account, NextStep};
 use hp_event::{Head, Journal, Op, Role};
 use hp_hook::Hook;
 use hp_states::{CpuSet, NoMemory};
@@ -40,7 +40,7 @@ pub struct Machine<H: Hook> {
     pub(crate) journal: Journal,
     pub(crate) account: Account,
     /// What is under way, found anew at each event.
-    pub(crate) coming: Option<Coming>,
+    pub(crate) coming: Option<NextStep>,
     pub(crate) table: Table<H>,
     pub(crate) lent: CpuSet,
 }
@@ -69,13 +69,7 @@ impl<H: Hook> Machine<H> {
     /// some places for each possible processor; where there is none: `NoMemory`.
     pub fn start(alloc: Global, head: Head) -> Result<Machine<H>, NoMemory>
         requires { IsHead head }
-        ensures begins { IfOk result (λ m. m
-            ≡ record {
-              head = head;
-              events = [];
-              places = replicate (ONLINE + 1) None;
-              lent = m.lent;
-            }) }
+        ensures begins { IfOk result (λ m. m ≡ started head m.lent) }
         ensures nothing_lent { IfOk result (λ m. (cpu : ℕ) → has m.lent cpu ≡ false) }
     {
         let table = Table::new(alloc)?;
@@ -214,7 +208,7 @@ impl<H: Hook> Machine<H> {
     ///
     /// There is no condition; a number that is no seat has none. Takes no memory.
     pub fn op(&self, seat: u32) -> Option<Op>
-        ensures { (op : AnOp) → IsInFlight self.now.events (record { seat = seat; op = op }) ↔ (result ≡ Some op) }
+        ensures { (op : AnOp) → HasInFlight self.now.events seat op ↔ (result ≡ Some op) }
     {
         match (&self.account.operation, &self.account.registration) {
             (Some(held), _) if held.seat == seat => Some(held.op),

@@ -1,26 +1,19 @@
-//! How one event is made.
+//! The making of an event that is no entry.
 
-ghost use Rattle.std.specs.Prelude.{◌≡◌, ◌+◌, ◌<◌, ◌≤◌, ◌++◌, ◌∷◌, ◌==◌, ◌&&◌, not, ℕ, [], length, true, false, OnOk, OnErr, IfOk, IfSome, IsSome, is_some};
+ghost use Rattle.std.specs.Prelude.{◌≡◌, ◌+◌, ◌<◌, ◌≤◌, ◌++◌, ◌∷◌, ◌==◌, [], length, false, OnOk, OnErr, IsSome};
 ghost use Rattle.hp_account.specs.Accounted.{IsAccounted};
-ghost use Rattle.hp_account.specs.Entries.{entry_event};
 ghost use Rattle.hp_account.specs.Table.{IsTableOf};
-ghost use Rattle.hp_account.specs.TableChanges.{is_registering, brings_hook, hands_hook, registering_step, table_after};
-ghost use Rattle.hp_account.specs.declared.under_way.Means.TheVariants.{Hook as ByHook};
-ghost use Rattle.hp_hook.specs.Counted.{counted};
+ghost use Rattle.hp_account.specs.TableChanges.{is_registering, HandsHook, HandsAsItStood, ChangesTable};
 ghost use Rattle.hp_machine.specs.Contents.{with_event};
 ghost use Rattle.hp_machine.specs.Machine.{IsMachine};
 ghost use Rattle.hp_model.specs.Events.{is_call};
 ghost use Rattle.hp_model.specs.Lawful.{Stands};
 ghost use Rattle.hp_model.specs.Needs.{need as need_of, taken};
-ghost use Rattle.hp_model.specs.Registrations.{registration};
-ghost use Rattle.hp_states.specs.CpuSets.{has};
-ghost use Rattle.hp_states.specs.Rules.{site_at};
 ghost use Rattle.hp_states.specs.declared.limits.TheConstants.{MAX_EVENTS};
-ghost use Rattle.hp_table.specs.Kept.{answer_at};
-ghost use Rattle.hp_table.specs.Step.{step_at, is_home, AllHome, HasCounted};
+ghost use Rattle.hp_machine.specs.StandsNext.{CanMake, room_of, CanTouchHooks, BringsHook};
 
 use crate::machine::Machine;
-use hp_account::{Account, Coming, Entry, Means, change_table};
+use hp_account::{Account, NextStep, change_table};
 use hp_event::{Event, Journal, JournalError};
 use hp_hook::Hook;
 use hp_states::NoMemory;
@@ -36,16 +29,14 @@ impl<H: Hook> Machine<H> {
     /// no spare place; where that is wanting nothing has changed: `NoMemory`.
     #[inline(always)]
     pub fn make(&mut self, event: &Event, need: u32, hook: &mut Option<H>) -> Result<(), NoMemory>
-        requires stands { Stands self.old.head self.old.events event.now }
+        requires stands { CanMake self.old event.now }
         requires no_entry { is_call event.now ≡ false }
-        requires need { need ≡ taken (need_of self.old.head self.old.events event.now) }
-        requires brings { is_registering event.now ≡ true → is_some hook.old ≡ brings_hook event.now }
-        requires home { is_registering event.now ≡ true → AllHome self.old.places }
+        requires need { need ≡ room_of self.old event.now }
+        requires brings { BringsHook event.now hook.old }
+        requires home { CanTouchHooks event.now self.old.places }
         ensures made { OnOk result (self.new ≡ with_event self.old event.now) }
-        ensures hands { OnOk result (is_registering event.now ≡ true →
-            is_some hook.new ≡ hands_hook self.old.events event.now) }
-        ensures hook { OnOk result (is_registering event.now ≡ true →
-            IfSome hook.new (λ h. HasCounted (H.counts h) (registering_step (registration self.old.events) self.old.places))) }
+        ensures hands { OnOk result (HandsHook self.old.events event.now hook.new) }
+        ensures hook { OnOk result (HandsAsItStood H.counts self.old.events event.now self.old.places hook.new) }
         ensures left { OnOk result (is_registering event.now ≡ false → hook.new ≡ hook.old) }
         ensures err { OnErr result ((self.new ≡ self.old) × (hook.new ≡ hook.old)) }
         ensures memory { OnErr result (IsSome (need_of self.old.head self.old.events event.now)) }
@@ -54,71 +45,18 @@ impl<H: Hook> Machine<H> {
         match put(
             &mut self.journal,
             &mut self.account,
+            &mut self.coming,
             &mut self.table,
             event,
             need,
             hook,
         ) {
-            Ok(coming) => {
-                self.coming = coming;
-                Ok(())
-            }
+            Ok(()) => Ok(()),
             Err(NoMemory) => {
                 self.journal.give_back(need);
                 Err(NoMemory)
             }
         }
-    }
-
-    /// Makes an entry that is due: where its hook decides, that is called once, and isn't lent.
-    ///
-    /// Takes no memory. After `cpuhp_invoke_callback` of `kernel/cpu.c`.
-    pub fn make_entry(&mut self, entry: &Entry)
-        requires stands { Stands self.old.head self.old.events (entry_event self.old.head self.old.events entry.now) }
-        requires home { entry.now.means ≡ ByHook → is_home (step_at self.old.places entry.now.key.state) ≡ true }
-        ensures { self.new ≡ with_event self.old (entry_event self.old.head self.old.events entry.now) }
-    {
-        match entry.means {
-            Means::Hook => {
-                let state = entry.key.state;
-                let answer = self.table.call(state, entry.cpu, entry.key.inst, entry.dir);
-                let event = entry.event(entry.how(answer));
-                self.coming = self
-                    .account
-                    .append(&mut self.journal, &self.table, &event, 0);
-            }
-            _ => {
-                let event = entry.event(entry.how(0));
-                self.coming = self
-                    .account
-                    .append(&mut self.journal, &self.table, &event, 0);
-            }
-        }
-    }
-
-    /// Makes an entry that is due by the answer of its hook, which was lent, and puts the hook home; the entry's
-    /// processor isn't among those for which hooks are lent then.
-    ///
-    /// The hook has counted the call since, and this is its answer. Takes no memory. After
-    /// `cpuhp_invoke_callback` of `kernel/cpu.c`; that hooks are lent is this project's own.
-    pub fn make_answered(&mut self, entry: &Entry, hook: H, answer: u32)
-        requires stands { Stands self.old.head self.old.events (entry_event self.old.head self.old.events entry.now) }
-        requires by_hook { entry.now.means ≡ ByHook }
-        requires lent { is_home (step_at self.old.places entry.now.key.state) ≡ false }
-        requires back { IfSome (step_at self.old.places entry.now.key.state) (λ step.
-            H.counts hook ≡ counted step.kept.counts (site_at entry.now.cpu entry.now.key.inst entry.now.dir)) }
-        requires answer { IfSome (step_at self.old.places entry.now.key.state) (λ step.
-            answer ≡ answer_at step.kept (site_at entry.now.cpu entry.now.key.inst entry.now.dir)) }
-        ensures made { self.new
-            ≡ with_event (record self.old { lent = self.new.lent }) (entry_event self.old.head self.old.events entry.now) }
-        ensures taken { (cpu : ℕ) → has self.new.lent cpu ≡ (not (cpu == entry.now.cpu) && has self.old.lent cpu) }
-    {
-        self.lent.take(entry.cpu);
-        self.table.restore(entry.key.state, hook);
-        let event = entry.event(entry.how(answer));
-        self.coming = self
-            .account
-            .append(&mut self.journal, &self.table, &event, 0);
     }
 }
 
@@ -143,7 +81,7 @@ fn reserve(journal: &mut Journal, need: u32) -> Result<(), NoMemory>
 }
 
 /// Changes the table as an event does that stands and is no entry, or takes what the seat needs that it lets
-/// in, and appends it. The room that it takes is reserved. Answers what is under way then.
+/// in, and appends it. The room that it takes is reserved. What is under way then is in `coming`.
 ///
 /// Takes memory where an instance is added or a seat let in; where that is wanting nothing has changed:
 /// `NoMemory`.
@@ -151,38 +89,37 @@ fn reserve(journal: &mut Journal, need: u32) -> Result<(), NoMemory>
 fn put<H: Hook>(
     journal: &mut Journal,
     account: &mut Account,
+    coming: &mut Option<NextStep>,
     table: &mut Table<H>,
     event: &Event,
     need: u32,
     hook: &mut Option<H>,
-) -> Result<Option<Coming>, NoMemory>
+) -> Result<(), NoMemory>
     requires kept { IsAccounted journal.old need account.old }
     requires stands { Stands journal.old.head journal.old.events event.now }
     requires no_entry { is_call event.now ≡ false }
     requires room { need ≡ taken (need_of journal.old.head journal.old.events event.now) }
     requires table { IsTableOf journal.old.head journal.old.events table.old }
-    requires brings { is_registering event.now ≡ true → is_some hook.old ≡ brings_hook event.now }
-    requires home { is_registering event.now ≡ true → AllHome table.old }
-    ensures machine { IfOk result (λ coming. IsMachine journal.new account.new coming table.new) }
+    requires brings { BringsHook event.now hook.old }
+    requires home { CanTouchHooks event.now table.old }
+    ensures machine { OnOk result (IsMachine journal.new account.new coming.new table.new) }
     ensures head { OnOk result (journal.new.head ≡ journal.old.head) }
     ensures events { OnOk result (journal.new.events ≡ journal.old.events ++ event.now ∷ []) }
-    ensures changed { OnOk result (table.new
-        ≡ table_after journal.old.head journal.old.events event.now table.old) }
-    ensures hands { OnOk result (is_registering event.now ≡ true →
-        is_some hook.new ≡ hands_hook journal.old.events event.now) }
-    ensures hook { OnOk result (is_registering event.now ≡ true →
-        IfSome hook.new (λ h. HasCounted (H.counts h)
-        (registering_step (registration journal.old.events) table.old))) }
+    ensures changed { OnOk result (ChangesTable journal.old event.now table.old table.new) }
+    ensures hands { OnOk result (HandsHook journal.old.events event.now hook.new) }
+    ensures hook { OnOk result (HandsAsItStood H.counts journal.old.events event.now table.old hook.new) }
     ensures left { OnOk result (is_registering event.now ≡ false → hook.new ≡ hook.old) }
-    ensures err { OnErr result ((journal.new ≡ journal.old) × (account.new ≡ account.old)
-        × (table.new ≡ table.old) × (hook.new ≡ hook.old)) }
+    ensures err { OnErr result ((journal.new ≡ journal.old) × (account.new ≡ account.old)) }
+    ensures still { OnErr result ((coming.new ≡ coming.old) × (table.new ≡ table.old)) }
+    ensures returned { OnErr result (hook.new ≡ hook.old) }
     ensures memory { OnErr result (IsSome (need_of journal.old.head journal.old.events event.now)) }
 {
     match *event {
-        Event::Admit { role, .. } => account.admit(journal, table, role),
+        Event::Admit { role, .. } => account.admit(journal, coming, table, role),
         _ => {
             change_table(table, journal, account, event, hook)?;
-            Ok(account.append(journal, table, event, need))
+            account.append(journal, coming, table, event, need);
+            Ok(())
         }
     }
 }

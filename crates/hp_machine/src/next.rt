@@ -9,7 +9,7 @@ ghost use Rattle.hp_machine.specs.Between.{IsBetween, Gives};
 ghost use Rattle.hp_machine.specs.CanShow.{CanShow};
 ghost use Rattle.hp_machine.specs.First.{IsFirst};
 ghost use Rattle.hp_machine.specs.Next.{IsNext, IsKept, next_by};
-ghost use Rattle.hp_model.specs.FirstEvent.{begin_of, file_shown, first_event};
+ghost use Rattle.hp_model.specs.FirstEvent.{begin_of, file_shown};
 ghost use Rattle.hp_model.specs.Refusals.{Passes};
 ghost use Rattle.hp_model.specs.Registrations.{registration};
 ghost use Rattle.hp_model.specs.Resolved.{resolved};
@@ -17,10 +17,11 @@ ghost use Rattle.hp_model.specs.Seats.{is_busy, role_of};
 ghost use Rattle.hp_model.specs.Sequence.{walks};
 ghost use Rattle.hp_model.specs.Subsystems.{names_sub};
 ghost use Rattle.hp_model.specs.Waits.{wait_to_walk};
+ghost use Rattle.hp_machine.specs.StandsNext.{ComesFirst};
 
 use crate::machine::Machine;
 use crate::refusals::Blocked;
-use hp_account::{Coming, Entry, Held};
+use hp_account::{Entry, MapOperation, NextStep};
 use hp_event::{Answer, Event, File, Op};
 use hp_hook::Hook;
 use hp_locks::Why;
@@ -94,7 +95,7 @@ impl<H: Hook> Machine<H> {
         requires free { is_busy seat self.now.events ≡ false }
         requires subs { names_sub self.now.head op.now ≡ true }
         ensures kind { IfOk result IsFirst }
-        ensures event { IfOk result (λ event. first_event self.now.head self.now.events seat op.now ≡ Some event) }
+        ensures event { IfOk result (ComesFirst self.now seat op.now) }
         ensures waits { IfErr result (IsKept self.now.head self.now.events seat op.now) }
     {
         match self.can_begin(seat, op) {
@@ -202,7 +203,7 @@ impl<H: Hook> Machine<H> {
     }
 
     /// What comes next of the operation that holds the map lock, while nothing walks.
-    fn next_of_holder(&self, held: &Held) -> Next
+    fn next_of_holder(&self, held: &MapOperation) -> Next
         requires held { IsHeld self.now.head self.now.events held.now }
         requires between { IsBetween self.now.head self.now.events held.now.seat }
         ensures { (op : AnOp) → IsNext self.now.head self.now.events held.now.seat op result }
@@ -241,21 +242,21 @@ impl<H: Hook> Machine<H> {
 
 /// What comes next of a seat in what is under way: its event, its entry, or that its client waits for
 /// the thread of a processor.
-pub(crate) fn next_from(coming: &Option<Coming>, seat: u32) -> Option<Next>
+pub(crate) fn next_from(coming: &Option<NextStep>, seat: u32) -> Option<Next>
     ensures { result ≡ next_by seat coming.now }
 {
     match coming {
-        Some(Coming::End(ending)) if ending.seat() == seat => Some(Next::Event {
+        Some(NextStep::End(ending)) if ending.seat() == seat => Some(Next::Event {
             event: ending.event(),
             need: 0,
         }),
         Some(
-            Coming::Entry {
+            NextStep::Entry {
                 entry: Some(entry),
                 ..
             },
         ) if entry.seat == seat => Some(Next::Entry(*entry)),
-        Some(Coming::Entry { client, cpu, .. }) if *client == seat => {
+        Some(NextStep::Entry { client, cpu, .. }) if *client == seat => {
             Some(Next::Wait(Why::ApTurn(*cpu)))
         }
         _ => None,

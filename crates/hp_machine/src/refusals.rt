@@ -1,22 +1,19 @@
 //! What keeps an operation from beginning: refusals, at once and after the waits.
 
-ghost use Rattle.std.specs.Prelude.{◌≡◌, ◌||◌, ◌==◌, ◌&&◌, ◌<◌, not, nat_le, filter, ℕ, true, false, None, [], ◌∷◌, OnOk, IfErr};
-ghost use Rattle.hp_states.specs.CpuSets.{has};
+ghost use Rattle.std.specs.Prelude.{◌≡◌, ◌||◌, ◌==◌, ◌<◌, nat_le, ℕ, true, false, None, [], ◌∷◌, OnOk, IfErr};
 ghost use Rattle.hp_states.specs.declared.limits.TheConstants.{EBUSY as EBUSY_OF, EDEADLK as EDEADLK_OF, EINVAL as EINVAL_OF, ONLINE as ONLINE_OF};
 ghost use Rattle.hp_event.specs.declared.op.Form.{Form};
 ghost use Rattle.hp_event.specs.declared.op.Op.TheVariants.{Setup, Remove, Add, Del};
 ghost use Rattle.hp_machine.specs.Blocked.{IsBlockedBy};
-ghost use Rattle.hp_model.specs.Lists.{is_empty, numbers};
-ghost use Rattle.hp_model.specs.Processors.{is_present};
 ghost use Rattle.hp_model.specs.Readers.{is_reading};
-ghost use Rattle.hp_model.specs.Refusals.{Passes, one_online, refusals_of_target, refusals_of_way, refusals_of_arm, refusals_after_waits};
-ghost use Rattle.hp_model.specs.RefusalsAtOnce.{first_that_holds, if_form, if_so, is_state, refusals_at_once};
+ghost use Rattle.hp_model.specs.Refusals.{Passes, one_online, refusals_of_arm};
+ghost use Rattle.hp_model.specs.RefusalsAtOnce.{first_that_holds, if_form, if_so, is_state};
 ghost use Rattle.hp_model.specs.Registrations.{registration};
 ghost use Rattle.hp_model.specs.Seats.{is_busy};
 ghost use Rattle.hp_model.specs.Sequence.{target_of};
-ghost use Rattle.hp_model.specs.Settled.{settled};
 ghost use Rattle.hp_model.specs.Subsystems.{sub_numbered, has_no_name};
 ghost use Rattle.hp_model.specs.Waits.{is_waiting};
+ghost use Rattle.hp_machine.specs.Refused.{refusal_at_once, refusal_after_waits, refusal_of_target, refusal_of_way, lists_absent};
 
 use crate::machine::Machine;
 use hp_event::{Form, Head, Op};
@@ -74,7 +71,7 @@ impl<H: Hook> Machine<H> {
     /// There is no condition. Takes no memory. After the calls of `kernel/cpu.c`; each condition, its
     /// number and its place are this project's own.
     fn refusal_at_once(&self, seat: u32, op: &Op) -> Option<u32>
-        ensures { result ≡ first_that_holds (refusals_at_once self.now.head self.now.events seat op.now) }
+        ensures { result ≡ refusal_at_once self.now seat op.now }
     {
         let head = self.journal.head();
         let reading = self.is_reading(seat);
@@ -120,9 +117,8 @@ impl<H: Hook> Machine<H> {
     /// number and its place are this project's own.
     fn refusal_after_waits(&self, op: &Op) -> Option<u32>
         requires no_wait { is_waiting self.now.events op.now ≡ false }
-        requires not_at_once { (seat : ℕ)
-            × (first_that_holds (refusals_at_once self.now.head self.now.events seat op.now) ≡ None) }
-        ensures { result ≡ first_that_holds (refusals_after_waits self.now.head self.now.events op.now) }
+        requires not_at_once { (seat : ℕ) × (refusal_at_once self.now seat op.now ≡ None) }
+        ensures { result ≡ refusal_after_waits self.now op.now }
     {
         let head = self.journal.head();
         let disabled = self.disabled() > 0;
@@ -157,8 +153,7 @@ impl<H: Hook> Machine<H> {
         requires idle { registration self.now.events ≡ None }
         requires possible { cpu < self.now.head.possible }
         requires state { is_state value ≡ true }
-        ensures { result ≡ first_that_holds
-            (refusals_of_target self.now.head self.now.events cpu (target_of value) (settled cpu self.now.events)) }
+        ensures { result ≡ refusal_of_target self.now cpu (target_of value) }
     {
         match check_target(&self.table, value) {
             Ok(state) => self.refused_way(cpu, state),
@@ -169,8 +164,7 @@ impl<H: Hook> Machine<H> {
     /// The number by which a processor's way to a state is refused at which a walk can be aimed.
     fn refused_way(&self, cpu: u32, to: u32) -> Option<u32>
         requires { cpu < self.now.head.possible }
-        ensures { result ≡ first_that_holds
-            (refusals_of_way self.now.head self.now.events cpu to (settled cpu self.now.events)) }
+        ensures { result ≡ refusal_of_way self.now cpu to }
     {
         let disabled = self.disabled() > 0;
         let alone = self.is_one_online();
@@ -193,8 +187,7 @@ impl<H: Hook> Machine<H> {
     /// The number by which a setup is refused.
     fn refused_setup(&self, asked: u32) -> Option<u32>
         requires { registration self.now.events ≡ None }
-        ensures { (sub : ℕ) (form : Form) → result
-            ≡ first_that_holds (refusals_after_waits self.now.head self.now.events (Setup asked sub form)) }
+        ensures { (sub : ℕ) (form : Form) → result ≡ refusal_after_waits self.now (Setup asked sub form) }
     {
         match Range::asked_by(asked) {
             Some(range) => match self.table.slot(range) {
@@ -208,8 +201,7 @@ impl<H: Hook> Machine<H> {
     /// The number by which a remove is refused.
     fn refused_remove(&self, state: u32) -> Option<u32>
         requires { registration self.now.events ≡ None }
-        ensures { (form : Form) → result
-            ≡ first_that_holds (refusals_after_waits self.now.head self.now.events (Remove state form)) }
+        ensures { (form : Form) → result ≡ refusal_after_waits self.now (Remove state form) }
     {
         if self.table.step(state).is_none() {
             return Some(EINVAL);
@@ -220,8 +212,7 @@ impl<H: Hook> Machine<H> {
     /// The number by which an add is refused.
     fn refused_add(&self, state: u32, inst: u32) -> Option<u32>
         requires { registration self.now.events ≡ None }
-        ensures { (form : Form) → result
-            ≡ first_that_holds (refusals_after_waits self.now.head self.now.events (Add state inst form)) }
+        ensures { (form : Form) → result ≡ refusal_after_waits self.now (Add state inst form) }
     {
         if !self.table.is_multi(state) {
             return Some(EINVAL);
@@ -235,8 +226,7 @@ impl<H: Hook> Machine<H> {
     /// The number by which a del is refused.
     fn refused_del(&self, state: u32, inst: u32) -> Option<u32>
         requires { registration self.now.events ≡ None }
-        ensures { (form : Form) → result
-            ≡ first_that_holds (refusals_after_waits self.now.head self.now.events (Del state inst form)) }
+        ensures { (form : Form) → result ≡ refusal_after_waits self.now (Del state inst form) }
     {
         invalid(!self.table.is_multi(state) || !self.table.has_instance(state, inst))
     }
@@ -295,7 +285,7 @@ fn cannot_be_set_up(head: &Head, state: u32, sub: u32) -> bool
 /// There is no condition. Takes no memory, and time for the absent processors. After `cpu_up` of
 /// `kernel/cpu.c`, which refuses a processor that isn't present.
 fn lists_absent(head: &Head, set: &CpuSet) -> bool
-    ensures { result ≡ not (is_empty (filter (λ c. has set.now c && not (is_present head.now c)) (numbers head.now.possible))) }
+    ensures { result ≡ lists_absent head.now set.now }
 {
     // its words are read here, so that they are known to be four
     let listed = CpuSet { words: set.words };

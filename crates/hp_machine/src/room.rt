@@ -4,10 +4,10 @@ ghost use Rattle.std.specs.Prelude.{◌≡◌, ◌+◌, ℕ, length};
 ghost use Rattle.hp_account.specs.Batches.{IsUpmanyAt};
 ghost use Rattle.hp_states.specs.declared.limits.TheConstants.{MAX_EVENTS as MAX_EVENTS_OF};
 ghost use Rattle.hp_event.specs.declared.event.Event.TheVariants.{WalkBegin};
-ghost use Rattle.hp_model.specs.Lawful.{Stands};
-ghost use Rattle.hp_model.specs.Needs.{need, taken, registration_need};
+ghost use Rattle.hp_model.specs.Needs.{registration_need};
 ghost use Rattle.hp_model.specs.Promised.{promised};
 ghost use Rattle.hp_machine.specs.Room.{CountsKeys};
+ghost use Rattle.hp_machine.specs.StandsNext.{room_of, CanMake};
 
 use crate::machine::Machine;
 use hp_account::need_of_walk;
@@ -28,8 +28,8 @@ impl<H: Hook> Machine<H> {
     ///
     /// Takes no memory, and time for the processors or for the states that a walk crosses.
     pub fn need(&self, event: &Event) -> u32
-        requires { Stands self.now.head self.now.events event.now }
-        ensures { result ≡ taken (need self.now.head self.now.events event.now) }
+        requires { CanMake self.now event.now }
+        ensures { result ≡ room_of self.now event.now }
     {
         // what is so of every machine
         let _ = &self.journal;
@@ -46,7 +46,7 @@ impl<H: Hook> Machine<H> {
     /// processors or for the states that the walk crosses.
     pub(crate) fn room_taken(&self, event: &Event) -> u32
         requires { CountsKeys self.now.head self.now.events self.now.places event.now }
-        ensures { result ≡ taken (need self.now.head self.now.events event.now) }
+        ensures { result ≡ room_of self.now event.now }
     {
         match *event {
             Event::Admit { .. } | Event::Enter { .. } | Event::ReadLock { .. } => 2,
@@ -63,8 +63,7 @@ impl<H: Hook> Machine<H> {
     /// The room that the begin of a walk takes.
     fn room_of_walk(&self, from: u32, to: u32) -> u32
         requires { CountsKeys self.now.head self.now.events self.now.places (WalkBegin 0 0 from to) }
-        ensures { (seat cpu : ℕ) →
-            result ≡ taken (need self.now.head self.now.events (WalkBegin seat cpu from to)) }
+        ensures { (seat cpu : ℕ) → result ≡ room_of self.now (WalkBegin seat cpu from to) }
     {
         match self.account.batch() {
             Some((_, batch)) => self.room_of_batch(batch),
@@ -77,8 +76,7 @@ impl<H: Hook> Machine<H> {
     fn room_of_batch(&self, batch: &Batch) -> u32
         requires upmany { (seat : ℕ) × IsUpmanyAt self.now.head self.now.events seat batch.now }
         requires counts { CountsKeys self.now.head self.now.events self.now.places (WalkBegin 0 0 0 0) }
-        ensures { (seat cpu from to : ℕ) →
-            result ≡ taken (need self.now.head self.now.events (WalkBegin seat cpu from to)) }
+        ensures { (seat cpu from to : ℕ) → result ≡ room_of self.now (WalkBegin seat cpu from to) }
     {
         if batch.is_begun() {
             return 0;

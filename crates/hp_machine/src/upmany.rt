@@ -1,7 +1,7 @@
 //! What comes next of an upmany that walks.
 
-ghost use Rattle.std.specs.Prelude.{◌≡◌, ◌≤◌, ◌↔◌, ℕ, true, Some, IfSome, IfNone};
-ghost use Rattle.hp_account.specs.UnderWay.{IsDueOn, NoneDue, IsThreadDue, NoThreadDue};
+ghost use Rattle.std.specs.Prelude.{◌≡◌, ◌↔◌, ℕ, true, Some, IfSome, IfNone};
+ghost use Rattle.hp_account.specs.UnderWay.{IsDueOn, IsNextDue, NoneDueFrom, IsNextThreadDue, NoThreadDueFrom};
 ghost use Rattle.hp_account.specs.WalkComing.{IsNextOnIf};
 ghost use Rattle.hp_event.specs.declared.op.Op.{Op as AnOp};
 ghost use Rattle.hp_machine.specs.Next.{IsNext, IsDue};
@@ -11,10 +11,10 @@ ghost use Rattle.hp_model.specs.ApTurn.{IsApTurn};
 ghost use Rattle.hp_model.specs.BatchTurn.{brings_up, turn_of};
 ghost use Rattle.hp_model.specs.MapLock.{operation};
 
-use crate::due::due_from;
+use crate::entries::due_from;
 use crate::machine::Machine;
 use crate::next::{Next, next_from};
-use hp_account::{Coming, Entry};
+use hp_account::{Entry, NextStep};
 use hp_event::Event;
 use hp_hook::Hook;
 use hp_locks::Why;
@@ -66,7 +66,7 @@ impl<H: Hook> Machine<H> {
 
     /// What comes next in the walk of a processor, if it walks. Takes no memory, and looks at no event.
     #[inline(always)]
-    fn next_on(&self, cpu: u32) -> Option<Coming>
+    fn next_on(&self, cpu: u32) -> Option<NextStep>
         ensures { IsNextOnIf self.now.head self.now.events cpu result }
     {
         let account = &self.account;
@@ -103,9 +103,8 @@ impl<H: Hook> Machine<H> {
     #[inline(never)]
     pub(crate) fn next_due_in_batch(&self, from: u32) -> Option<(u32, u32)>
         requires { IsKnown self.now.head self.now.events }
-        ensures some { IfSome result (λ due. (from ≤ due.0) × IsDueOn self.now.head self.now.events due.0 due.1
-            × NoneDue self.now.head self.now.events from due.0) }
-        ensures none { IfNone result (NoneDue self.now.head self.now.events from self.now.head.possible) }
+        ensures some { IfSome result (IsNextDue self.now.head self.now.events from) }
+        ensures none { IfNone result (NoneDueFrom self.now.head self.now.events from) }
     {
         let (holder, batch) = self.account.batch()?;
         let own = self.own_due((holder, batch));
@@ -120,9 +119,8 @@ impl<H: Hook> Machine<H> {
     #[inline(never)]
     pub(crate) fn next_thread_due_in_batch(&self, from: u32) -> Option<(u32, u32)>
         requires { IsKnown self.now.head self.now.events }
-        ensures some { IfSome result (λ due. (from ≤ due.0) × IsThreadDue self.now.head self.now.events due.0 due.1
-            × NoThreadDue self.now.head self.now.events from due.0) }
-        ensures none { IfNone result (NoThreadDue self.now.head self.now.events from self.now.head.possible) }
+        ensures some { IfSome result (IsNextThreadDue self.now.head self.now.events from) }
+        ensures none { IfNone result (NoThreadDueFrom self.now.head self.now.events from) }
     {
         let _ = self.account.batch()?;
         self.account.thread_due(from)

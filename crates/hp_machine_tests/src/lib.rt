@@ -8,8 +8,6 @@
 #[cfg(test)]
 mod board;
 #[cfg(test)]
-mod by_hand;
-#[cfg(test)]
 mod law;
 #[cfg(test)]
 mod runs;

@@ -2,11 +2,11 @@
 use Rattle.std.proofs.Common.{◌≡◌, ℕ, ◌+◌, ◌<◌, ◌≤◌, Bool, true, false, eqb, Option, Some, None, List, [], ◌∷◌, ◌++◌, length, get_or, take, fold, slice_get, length-set, get_or-set_same, get_or-set_other, take-suc, add-one, refl, ap, sym, ◌∙◌, arith}
 use Rattle.std.proofs.lemmas.Option.{slice_get_within, get_or_from_slice_get}
 use Rattle.std.proofs.lemmas.Bool.{true≢false, eqb-true, eq-eqb}
+use Rattle.hp_states.proofs.Basics.{none_some}
 use Rattle.hp_event.specs.declared.op.Op.{Op}
 use Rattle.hp_model.specs.Tasks.{first_unanswered}
 use Rattle.hp_model.specs.Scripts.{lock_step, is_locked}
 use Rattle.hp_model.specs.ScriptTurns.{unanswered, counted}
-use Rattle.hp_model.proofs.Owners.{none_some}
 
 -- the operations of an actor
 pub record IsNth (actors : List (List Op)) (answers : List ℕ) (i : ℕ) (op : Op) : Type 0 where

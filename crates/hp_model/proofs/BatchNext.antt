@@ -2,6 +2,7 @@
 -- threads alone.
 use Rattle.std.proofs.Common.{◌≡◌, ℕ, Bool, true, false, not, Option, Some, None, List, [], ◌∷◌, refl, ap, sym, ◌∙◌, inl, inr, ◌⊎◌}
 use Rattle.std.proofs.lemmas.Bool.{true≢false, and_parts}
+use Rattle.hp_states.proofs.Basics.{none_some, same_some}
 use Rattle.hp_states.specs.declared.limits.TheConstants.{ONLINE}
 use Rattle.hp_event.specs.declared.head.Head.{Head}
 use Rattle.hp_event.specs.declared.event.Event.{Event}
@@ -19,7 +20,7 @@ use Rattle.hp_model.specs.BatchTurn.{turn_of}
 use Rattle.hp_model.specs.StandsOperations.{WalkBegins}
 use Rattle.hp_model.specs.Room.{has_room}
 use Rattle.hp_model.proofs.Kept.{Kept}
-use Rattle.hp_model.proofs.Owners.{Owners, same_some, none_some}
+use Rattle.hp_model.proofs.Owners.{Owners}
 use Rattle.hp_model.proofs.WaitLemmas.{later_walk}
 use Rattle.hp_model.proofs.BatchLemmas.{upmany_begins, walking_begun}
 use Rattle.hp_model.proofs.TurnLemmas.{is_turn, turn_own, some_turn}

@@ -2,6 +2,7 @@
 use Rattle.std.proofs.Common.{◌≡◌, ℕ, ℤ, pos, Bool, true, false, cond, eqb, Option, Some, None, List, [], arith, ◌∷◌, ◌++◌, length, inl, inr, refl, sym, ap, ◌∙◌}
 use Rattle.std.specs.Prelude.{◌↔◌}
 use Rattle.std.proofs.lemmas.Bool.{true≢false, eqb-true, eq-eqb}
+use Rattle.hp_states.proofs.Basics.{none_some, not_equal, same_some}
 use Rattle.hp_states.specs.declared.limits.TheConstants.{EBUSY}
 use Rattle.hp_event.specs.declared.answer.Answer.{Answer}
 use Rattle.hp_event.specs.declared.answer.Answer.TheVariants.{Ok, LogFull}
@@ -25,7 +26,7 @@ use Rattle.hp_model.specs.StandsOperations.{IsCut, OpEnds}
 use Rattle.hp_model.specs.StandsRegistrations.{RegEnds}
 use Rattle.hp_model.specs.Suspend.{is_ok}
 use Rattle.hp_model.specs.Walks.{walk_entries, is_walking}
-use Rattle.hp_model.proofs.Owners.{Owners, idle_op, idle_reg, not_self, same_some, none_some}
+use Rattle.hp_model.proofs.Owners.{Owners, idle_op, idle_reg}
 use Rattle.hp_model.proofs.OneNext.{owners}
 use Rattle.hp_model.proofs.RegistrationCursor.{shape_failing}
 use Rattle.hp_model.proofs.WalkEnd.{fill_faults}
@@ -106,10 +107,10 @@ end_answer head xs o seat answer c held by (inr cut) = cut_answer head xs o seat
 
 -- a free seat has no operation in flight
 no_operation : (xs : List Event) (k : ℕ) (o : Operation) → is_busy k xs ≡ false → operation xs ≡ Some o → o.seat ≡ k → ⊥
-no_operation xs k o idle held by = not_self o.seat k (idle_op xs k o idle held) by
+no_operation xs k o idle held by = not_equal o.seat k (idle_op xs k o idle held) by
 
 no_registration : (xs : List Event) (k : ℕ) (r : Registration) → is_busy k xs ≡ false → registration xs ≡ Some r → r.seat ≡ k → ⊥
-no_registration xs k r idle held by = not_self r.seat k (idle_reg xs k r idle held) by
+no_registration xs k r idle held by = not_equal r.seat k (idle_reg xs k r idle held) by
 
 -- what a seat has in flight that an event of it answers, by the kind of event
 answers_operation : (head : Head) (xs : List Event) (e : Event) (answer : Answer) (o : Operation) → Comes head xs e → Owners xs →
@@ -125,7 +126,7 @@ answers_operation head xs (Shown seat file cpu value) answer o h own is held by 
 answers_operation head xs (Wakeup seat) answer o h own is held by = absurd (no_operation xs seat o h.free.idle held by)
 answers_operation head xs e answer o h own is held by = absurd (none_some answer is)
 
-holder : (head : Head) (xs : List Event) (seat : ℕ) (answer : Answer) → OpEnds head xs seat answer →
+pub holder : (head : Head) (xs : List Event) (seat : ℕ) (answer : Answer) → OpEnds head xs seat answer →
     (o : Operation) × (operation xs ≡ Some o) × (o.seat ≡ seat)
 holder head xs seat answer (inl over) = (over.of, over.held, over.seat_is)
 holder head xs seat answer (inr cut) = (cut.begins.of, cut.begins.held, cut.begins.seat_is)

@@ -2,6 +2,7 @@
 use Rattle.std.proofs.Common.{◌≡◌, ℕ, Bool, true, false, ◌&&◌, cond, eqb, is_some, Option, Some, None, List, refl, ap, sym, ◌∙◌, inl, inr, ◌⊎◌, subst}
 use Rattle.std.specs.Prelude.{option_to_list, filter_map, ◌↔◌}
 use Rattle.std.proofs.lemmas.Bool.{true≢false, eqb-true, eq-eqb, and_parts}
+use Rattle.hp_states.proofs.Basics.{none_some, same_some}
 use Rattle.hp_states.specs.declared.dir.Dir.{Dir}
 use Rattle.hp_event.specs.declared.how.How.{How}
 use Rattle.hp_event.specs.declared.op.Op.{Op}
@@ -18,7 +19,6 @@ use Rattle.hp_model.specs.UnderWay.{next_of_walk, next_of_registration, in_turn,
 use Rattle.hp_model.specs.BatchTurn.{has_turn}
 use Rattle.hp_model.specs.NextEvent.{due_entry}
 use Rattle.hp_model.proofs.InFlight.{walking_is}
-use Rattle.hp_model.proofs.Owners.{same_some, none_some}
 use Rattle.hp_model.proofs.OneNext.{one_next}
 use Rattle.hp_model.proofs.WalkGives as by_walk
 use Rattle.hp_model.proofs.Errands.{Given}

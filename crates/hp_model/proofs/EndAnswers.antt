@@ -1,9 +1,10 @@
 -- What an operation ends with, by the answers of its walks.
 use Rattle.std.proofs.Common.{◌≡◌, ℕ, ℤ, pos, Bool, true, false, not, cond, eqb, Some, None, List, [], ◌∷◌, ◌++◌, length, ◌⊎◌, inl, inr, refl, sym, ap, ◌∙◌}
 use Rattle.std.proofs.lemmas.Bool.{true≢false, eq-eqb}
+use Rattle.hp_states.proofs.Basics.{none_some, same_some}
 use Rattle.hp_states.specs.declared.limits.TheConstants.{OFFLINE, ONLINE, EBUSY}
 use Rattle.hp_event.specs.declared.answer.Answer.{Answer}
-use Rattle.hp_event.specs.declared.answer.Answer.TheVariants.{Ok, LogFull}
+use Rattle.hp_event.specs.declared.answer.Answer.TheVariants.{Ok}
 use Rattle.hp_event.specs.declared.answer.Answer.TheVariants as answers_are
 use Rattle.hp_event.specs.declared.op.Op.{Op}
 use Rattle.hp_event.specs.declared.op.Op.TheVariants as op
@@ -21,7 +22,7 @@ use Rattle.hp_model.specs.Settled.{settled}
 use Rattle.hp_model.specs.Suspend.{is_ok, wakeup_pending}
 use Rattle.hp_model.specs.Walks.{Walk, walk, is_walking}
 use Rattle.hp_model.proofs.Laws.{walk_push, answers_push, operation_push}
-use Rattle.hp_model.proofs.Owners.{Owners, enters_at_rest, same_some, none_some}
+use Rattle.hp_model.proofs.Owners.{Owners, enters_at_rest}
 use Rattle.hp_model.proofs.Faultless.{some_item, AreZero, no_failures}
 use Rattle.hp_model.proofs.Induction.{holds}
 

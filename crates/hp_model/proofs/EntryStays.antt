@@ -2,6 +2,7 @@
 -- its walk, and for another call of the hook of its state.
 use Rattle.std.proofs.Common.{◌≡◌, ◌≢◌, ℕ, Bool, true, false, ◌&&◌, cond, eqb, ◌<◌, is_none, Option, Some, None, List, [], ◌∷◌, ◌++◌, refl, ap, sym, ◌∙◌, subst, inl, inr, ◌⊎◌, is_some}
 use Rattle.std.proofs.lemmas.Bool.{true≢false, eqb-true, and_parts}
+use Rattle.hp_states.proofs.Basics.{none_some}
 use Rattle.hp_states.specs.Sections.{is_ap_state}
 use Rattle.hp_states.specs.declared.dir.Dir.{Dir}
 use Rattle.hp_states.specs.declared.place.Place.{Place}
@@ -42,7 +43,7 @@ use Rattle.hp_model.proofs.Laws.{walk_push, walk_entries_push, registration_push
 use Rattle.hp_model.proofs.OneEntry.{one_entry, walk_ended}
 use Rattle.hp_model.proofs.OneNext.{owners}
 use Rattle.hp_model.proofs.OneRegistration.{one_registration_entry, registration_ended}
-use Rattle.hp_model.proofs.Owners.{Owners, none_some, enters_at_rest, over_at_rest}
+use Rattle.hp_model.proofs.Owners.{Owners, enters_at_rest, over_at_rest}
 use Rattle.hp_model.proofs.BatchLemmas.{begins_still}
 use Rattle.hp_model.proofs.TurnLemmas.{turn_is, is_turn}
 use Rattle.hp_model.proofs.TurnStays.{turn_stays}
@@ -226,7 +227,7 @@ no_registration_begins head xs seat cpu state inst dir how k s op (inl w) h =
 no_registration_begins head xs seat cpu state inst dir how k s op (inr r) h =
     true≢false (sym (ap is_some r.entry.in_flight) ∙ (begins_alone head xs op s h.state_is h.passes.not_waiting).1)
 
-walk_kept : (head : Head) (xs : List Event) (c : ℕ) (w : Walk) → IsLawful head xs → walk c xs ≡ Some w → WalkKept head c w xs
+pub walk_kept : (head : Head) (xs : List Event) (c : ℕ) (w : Walk) → IsLawful head xs → walk c xs ≡ Some w → WalkKept head c w xs
 walk_kept head xs c w lawful is = rw is at ((kept head xs lawful).at c).kept
 
 registration_kept : (head : Head) (xs : List Event) (r : Registration) → IsLawful head xs → registration xs ≡ Some r →

@@ -2,6 +2,7 @@
 -- function, and nothing else is.
 use Rattle.std.proofs.Common.{◌≡◌, ℕ, Bool, true, false, not, cond, Option, Some, None, List, refl, ap, sym, ◌∙◌, inl, inr, ◌⊎◌}
 use Rattle.std.specs.Prelude.{option_map}
+use Rattle.hp_states.proofs.Basics.{none_some, same_some}
 use Rattle.hp_states.specs.declared.dir.Dir.{Dir}
 use Rattle.hp_states.specs.declared.place.Place.{Place}
 use Rattle.hp_states.specs.Sections.{can_fail}
@@ -27,7 +28,6 @@ use Rattle.hp_model.proofs.NextSlot.{with_fails, Follow}
 use Rattle.hp_model.proofs.Cursor.{Runs, IsLive, Sound, sound_below, IsNextIn, next_in}
 use Rattle.hp_model.proofs.TreeSteps.{EachStep, IsSafe, steps_below}
 use Rattle.hp_model.proofs.Remains.{remains, step_at, stop_at, IsAt, at_end, at_step}
-use Rattle.hp_model.proofs.Owners.{same_some, none_some}
 use Rattle.hp_model.proofs.Stages.{called_by}
 
 -- an entry that comes next, whoever makes it
@@ -213,7 +213,3 @@ goes xs Rule a s at answers threads = go at
         let k = threads x (steps_below (IsSafe Rule) a.tree a.entries (step x t u) r s.steps).0.0 in
         let by = called_by_some (is_made_by_ap x.state (how_at a x)) (ap_seat x.cpu xs) k.0 a.seat k.1 in
         (_, ap (event_of xs a) (remains a.tree a.entries (step x t u) r) ∙ ap (made_by x (how_at a x)) by.1)
-
-pub not_not : (b : Bool) → b ≡ not (not b)
-not_not true = refl
-not_not false = refl

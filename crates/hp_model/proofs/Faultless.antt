@@ -3,6 +3,7 @@
 use Rattle.std.proofs.Common.{◌≡◌, ℕ, pos, Bool, true, false, not, cond, eqb, is_some, Option, Some, None, List, [], ◌∷◌, ◌++◌, map, refl, sym, ap, ◌∙◌}
 use Rattle.std.proofs.lemmas.List.Elements.{filter_map-append, filter-append}
 use Rattle.std.proofs.lemmas.Bool.{true≢false, eqb-true, eq-eqb}
+use Rattle.hp_states.proofs.Basics.{none_some}
 use Rattle.hp_event.specs.declared.answer.Answer.{Answer}
 use Rattle.hp_event.specs.declared.answer.Answer.TheVariants.{Ok}
 use Rattle.hp_event.specs.declared.head.Head.{Head}
@@ -18,7 +19,7 @@ use Rattle.hp_model.specs.Suspend.{is_ok}
 use Rattle.hp_model.specs.WalkShape.{Outcome, went, returned, stopped, IsWalkShape, IsAnswer}
 use Rattle.hp_model.specs.Walks.{Walk, walk, walk_entries}
 use Rattle.hp_model.proofs.Laws.{over_from_push, walk_push, walk_entries_push, answers_push}
-use Rattle.hp_model.proofs.Owners.{Owners, enters_at_rest, none_some}
+use Rattle.hp_model.proofs.Owners.{Owners, enters_at_rest}
 use Rattle.hp_model.proofs.Failing.{failing, failing-crossed}
 use Rattle.hp_model.proofs.WalkEnd.{fill_faults}
 use Rattle.hp_model.proofs.BatchLemmas.{begins_still}

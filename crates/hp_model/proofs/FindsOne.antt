@@ -2,6 +2,7 @@
 -- and waits for nothing else. So a turn finds one of the four.
 use Rattle.std.proofs.Common.{◌≡◌, ℕ, ◌<◌, Bool, true, false, cond, Some, None, List, [], ◌∷◌, refl, ap, sym, ◌∙◌, subst, inl, inr, ◌⊎◌, arith}
 use Rattle.std.proofs.lemmas.Bool.{true≢false, false≢true}
+use Rattle.hp_states.proofs.Basics.{none_some}
 use Rattle.hp_event.specs.declared.op.Op.{Op}
 use Rattle.hp_event.specs.declared.how.How.{How}
 use Rattle.hp_event.specs.declared.event.Role.TheVariants.{Client}
@@ -31,7 +32,7 @@ use Rattle.hp_model.proofs.InFlight.{walk_none}
 use Rattle.hp_model.proofs.Kept.{WalkKept}
 use Rattle.hp_model.proofs.OneEntry.{one_walk_entry, walk_ended}
 use Rattle.hp_model.proofs.OneRegistration.{same_registration_entry, registration_ended}
-use Rattle.hp_model.proofs.Owners.{Owners, none_some, alone_at}
+use Rattle.hp_model.proofs.Owners.{Owners, alone_at}
 use Rattle.hp_model.proofs.BatchLemmas.{next_to_begin}
 use Rattle.hp_model.proofs.TurnLemmas.{turn_is, held_up_parts}
 use Rattle.hp_model.proofs.Stages.{ap_no_client}

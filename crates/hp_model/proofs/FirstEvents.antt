@@ -1,6 +1,7 @@
 -- A free seat's operation that waits for nothing has a first event that can come next, if there is room for it.
 use Rattle.std.proofs.Common.{◌≡◌, ℕ, Bool, true, false, ◌&&◌, cond, is_some, is_none, Option, Some, None, List, refl, ap, sym, ◌∙◌}
 use Rattle.std.proofs.lemmas.Bool.{true≢false}
+use Rattle.hp_states.proofs.Basics.{none_some}
 use Rattle.hp_states.specs.Sections.{is_dynamic}
 use Rattle.hp_event.specs.declared.op.Op.{Op}
 use Rattle.hp_event.specs.declared.op.Op.TheVariants.{Target, Arm, ShowState, ShowTarget, ShowFail, ShowStates, Setup, Remove, Add, Del, Lock, Unlock, Boot, Disable, Enable, Freeze, Thaw}
@@ -24,7 +25,6 @@ use Rattle.hp_model.specs.FirstEvent.{reg_begin, file_shown, begin_of}
 use Rattle.hp_model.specs.Lawful.{Comes}
 use Rattle.hp_model.proofs.WaitLemmas.{is_writing, registration_waits, writer_waits, register_waits, first_waits}
 use Rattle.hp_model.proofs.Passing.{none_holds, passed}
-use Rattle.hp_model.proofs.Owners.{none_some}
 
 -- an event of an operation that can come next, if there is room for it
 pub record ComesOf (head : Head) (xs : List Event) (k : ℕ) (op : Op) : Type 0 where

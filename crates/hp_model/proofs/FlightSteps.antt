@@ -1,6 +1,7 @@
 -- What is in flight after one event more, and what an answer leaves: its seat has nothing in flight.
 use Rattle.std.proofs.Common.{◌≡◌, ℕ, true, false, Some, List, [], ◌∷◌, ◌++◌, refl, ap, sym, ◌∙◌, inl, inr, ◌⊎◌}
 use Rattle.std.proofs.lemmas.Bool.{true≢false, false≢true}
+use Rattle.hp_states.proofs.Basics.{none_some, same_some}
 use Rattle.hp_event.specs.declared.op.Op.{Op}
 use Rattle.hp_event.specs.declared.head.Head.{Head}
 use Rattle.hp_event.specs.declared.event.Event.{Event}
@@ -13,7 +14,7 @@ use Rattle.hp_model.specs.StandsOperations.{IsOver, IsCut}
 use Rattle.hp_model.specs.Lawful.{Comes}
 use Rattle.hp_model.specs.Pending.{Pending, IsInFlight}
 use Rattle.hp_model.proofs.Laws.{operation_push, registration_push}
-use Rattle.hp_model.proofs.Owners.{Owners, same_some, none_some}
+use Rattle.hp_model.proofs.Owners.{Owners}
 use Rattle.hp_model.proofs.OneFate.{not_holder, not_registrar}
 
 -- an event that begins an operation of the seat

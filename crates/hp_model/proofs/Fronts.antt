@@ -2,6 +2,7 @@
 use Rattle.std.proofs.Common.{◌≡◌, ◌≢◌, ℕ, ◌<◌, ◌≤◌, Bool, true, false, cond, Some, All, List, [], ◌∷◌, ◌++◌, arith, inl, inr, ◌⊎◌, append_assoc}
 use Rattle.std.proofs.lemmas.List.{append-nil}
 use Rattle.std.proofs.lemmas.List.Elements.{All-nil, All-cons}
+use Rattle.hp_states.proofs.Basics.{same_some}
 use Rattle.hp_event.specs.declared.head.Head.{Head}
 use Rattle.hp_event.specs.declared.how.How.{How}
 use Rattle.hp_event.specs.declared.event.Role.TheVariants.{Client, Ap}
@@ -16,7 +17,7 @@ use Rattle.hp_model.specs.StandsCalls.{InWalk, InRegistration}
 use Rattle.hp_model.specs.StandsOperations.{IsOver, IsCut}
 use Rattle.hp_model.specs.Lawful.{Comes, Stands, IsLawful}
 use Rattle.hp_model.proofs.Laws.{admits_push}
-use Rattle.hp_model.proofs.Owners.{Owners, owners_none, owners_step, same_some}
+use Rattle.hp_model.proofs.Owners.{Owners, owners_none, owners_step}
 
 -- the seat of an operation with a walk in flight was admitted
 walker_below : (xs : List Event) (c : ℕ) (w : Walk) → Owners xs → walk c xs ≡ Some w → w.seat < admits xs

@@ -2,10 +2,11 @@
 -- reads has a lock behind it and no unlock.
 use Rattle.std.proofs.Common.{◌≡◌, ℕ, zero, suc, ◌+◌, ◌-◌, ◌<◌, ◌≤◌, Bool, true, false, cond, eqb, ltb, Option, Some, None, List, [], ◌∷◌, ◌++◌, length, get_or, replicate, refl, ap, sym, ◌∙◌, subst, inl, inr, ◌⊎◌, arith}
 use Rattle.std.specs.Prelude.{All}
-use Rattle.std.proofs.lemmas.Bool.{true≢false, false≢true, eqb-true, eq-eqb, ltb-false}
+use Rattle.std.proofs.lemmas.Bool.{false≢true, eqb-true, ltb-false}
 use Rattle.std.proofs.lemmas.List.{length-replicate}
 use Rattle.std.proofs.lemmas.Bool.Decides.{nat_tests}
 use Rattle.std.proofs.lemmas.Option.{get_or_from_slice_get}
+use Rattle.hp_states.proofs.Basics.{not_equal, none_some, same_some}
 use Rattle.hp_event.specs.declared.op.Op.{Op}
 use Rattle.hp_event.specs.declared.op.Op.TheVariants.{Lock, Unlock}
 use Rattle.hp_event.specs.declared.head.Head.{Head}
@@ -23,7 +24,6 @@ use Rattle.hp_model.specs.Scripts.{IsScript, lock_step, is_locked}
 use Rattle.hp_model.specs.ScriptTurns.{RunState, unanswered, counted, after_entry, after_event, after_asking, turn, after_turns}
 use Rattle.hp_model.proofs.HeadlineProof.{lawful_more}
 use Rattle.hp_model.proofs.OneNext.{owners}
-use Rattle.hp_model.proofs.Owners.{same_some, none_some}
 use Rattle.hp_model.proofs.DueGives.{due_stands}
 use Rattle.hp_model.proofs.NextStands.{next_stands, next_belongs}
 use Rattle.hp_model.proofs.NextGives.{full_only}
@@ -44,9 +44,6 @@ pub record Going (head : Head) (actors : List (List Op)) (xs : List Event) (ns :
   pub reads : (i : ℕ) → is_reading (length (present head) + i) xs ≡ true → is_locked (done_ops actors ns i) ≡ true
   pub within : (i : ℕ) → get_or ns i 0 ≤ length (get_or actors i [])
   pub readers : (k : ℕ) → is_reading k xs ≡ true → (i : ℕ) × (i < length actors) × (k ≡ length (present head) + i)
-
-not_eq : (j i : ℕ) → eqb j i ≡ false → j ≡ i → ⊥
-not_eq j i e s = true≢false (sym (eq-eqb j i s) ∙ e)
 
 not_eqb : (a b p : ℕ) → eqb a b ≡ false → eqb (p + b) (p + a) ≡ false
 not_eqb a b p h = grind (arith, nat_tests)
@@ -141,7 +138,7 @@ going_event head actors xs ns i op e g u h s b = record {
     goes : (j : ℕ) (other : Op) → Goes xs (record { seat = P + j; op = other }) e → (m : Bool) → eqb j i ≡ m → (a : Bool) →
         is_answer e ≡ a → unanswered actors (counted i (is_answer e) ns) j ≡ Some other
     goes j other f false m a q =
-        unanswered_other actors i j (is_answer e) ns (not_eq j i m) ∙ g.asked j other f.before
+        unanswered_other actors i j (is_answer e) ns (not_equal j i m) ∙ g.asked j other f.before
     goes j other f true m true q =
         let same : j ≡ i = eqb-true j i m in absurd (f.unanswered q (s ∙ ap (λ z. P + z) (sym same)))
     goes j other f true m false q = unchanged j other (g.asked j other f.before) q
@@ -171,7 +168,7 @@ going_event head actors xs ns i op e g u h s b = record {
     reads : (j : ℕ) (m : Bool) → eqb j i ≡ m → is_reading (P + j) (xs ++ e ∷ []) ≡ true →
         is_locked (done_ops actors (counted i (is_answer e) ns) j) ≡ true
     reads j false m r =
-        ap is_locked (done_other actors i j (is_answer e) ns (not_eq j i m))
+        ap is_locked (done_other actors i j (is_answer e) ns (not_equal j i m))
         ∙ g.reads j (reads_other xs (P + j) e (ap (λ z. eqb z (P + j)) s ∙ not_eqb j i P m) r)
     reads j true m r =
         let same : j ≡ i = eqb-true j i m in
@@ -203,7 +200,7 @@ going_full head actors xs ns k i op g u s full = record {
 
     asked : (j : ℕ) (other : Op) → IsInFlight xs (record { seat = P + j; op = other }) → (m : Bool) → eqb j i ≡ m →
         unanswered actors (counted i true ns) j ≡ Some other
-    asked j other f false m = unanswered_other actors i j true ns (not_eq j i m) ∙ g.asked j other f
+    asked j other f false m = unanswered_other actors i j true ns (not_equal j i m) ∙ g.asked j other f
     asked j other f true m =
         let same : j ≡ i = eqb-true j i m in
         absurd (free_not xs (record { seat = P + j; op = other }) k f full.free (s ∙ ap (λ z. P + z) (sym same)))
@@ -217,7 +214,7 @@ going_full head actors xs ns k i op g u s full = record {
         (λ t. g.reads i r))
 
     reads : (j : ℕ) (m : Bool) → eqb j i ≡ m → is_reading (P + j) xs ≡ true → is_locked (done_ops actors (counted i true ns) j) ≡ true
-    reads j false m r = ap is_locked (done_other actors i j true ns (not_eq j i m)) ∙ g.reads j r
+    reads j false m r = ap is_locked (done_other actors i j true ns (not_equal j i m)) ∙ g.reads j r
     reads j true m r =
         let same : j ≡ i = eqb-true j i m in
         subst (λ z. is_locked (done_ops actors (counted i true ns) z) ≡ true) (sym same)

@@ -2,6 +2,7 @@
 use Rattle.std.proofs.Common.{◌≡◌, ℕ, ◌+◌, ◌<◌, ◌≤◌, Bool, true, false, cond, eqb, leb, ◌&&◌, Option, Some, None, List, [], ◌∷◌, ◌++◌, refl, ap, sym, ◌∙◌, arith}
 use Rattle.std.specs.Prelude.{◌↔◌, pos}
 use Rattle.std.proofs.lemmas.Bool.{eqb-true, eq-eqb, leb-true, leb-false, and_right}
+use Rattle.hp_states.proofs.Basics.{same_some}
 use Rattle.hp_states.specs.declared.dir.Dir.TheVariants.{Up, Down}
 use Rattle.hp_event.specs.declared.answer.Answer.{Answer}
 use Rattle.hp_event.specs.declared.answer.Answer.TheVariants.{Ok, Fault, Stuck}
@@ -37,7 +38,6 @@ use Rattle.hp_model.proofs.Beside.{Still, BesideBy, Beside, beside}
 use Rattle.hp_model.proofs.ReadersKept.{readers}
 use Rattle.hp_model.proofs.Once.{once}
 use Rattle.hp_model.proofs.ShownLemmas.{reading_shown}
-use Rattle.hp_model.proofs.Owners.{same_some}
 
 pub agree_from : (b : Bool) (s a n u d : ℕ) → leb s a ≡ b → u ≡ d + cond b n 0 → (d < u) ↔ ((s ≤ a) × (0 < n))
 agree_from true s a n u d f e = let le = leb-true s a f in (λ h. (le, omega arith), λ h. let p = h.1 in omega arith)

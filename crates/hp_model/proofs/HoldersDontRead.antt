@@ -1,6 +1,7 @@
 -- Who holds the map lock isn't in a read section.
 use Rattle.std.proofs.Common.{◌≡◌, ℕ, Bool, true, false, cond, eqb, is_some, Option, Some, None, List, [], ◌∷◌, ◌++◌, refl, sym}
 use Rattle.std.proofs.lemmas.Bool.{true≢false}
+use Rattle.hp_states.proofs.Basics.{unequal_turned, none_some, same_some}
 use Rattle.hp_event.specs.declared.op.Op.{Op}
 use Rattle.hp_event.specs.declared.op.Op.TheVariants.{Target, Boot, Disable, Enable, Freeze, Thaw}
 use Rattle.hp_event.specs.declared.head.Head.{Head}
@@ -13,7 +14,7 @@ use Rattle.hp_model.specs.StandsOperations.{Enters}
 use Rattle.hp_model.specs.Lawful.{Comes, IsLawful}
 use Rattle.hp_model.proofs.Laws.{operation_push, reading_since_push}
 use Rattle.hp_model.proofs.Passing.{none_holds, passed}
-use Rattle.hp_model.proofs.Owners.{same_some, none_some, idle_op, flip}
+use Rattle.hp_model.proofs.Owners.{idle_op}
 use Rattle.hp_model.proofs.Induction.{holds}
 
 pub record HoldersDontRead (xs : List Event) : Type 0 where
@@ -49,7 +50,7 @@ holders_step head xs (OpEnd seat answer) h d =
 holders_step head xs (ReadLock seat) h d = record {
   at = λ a q.
       let q1 = rw (operation_push xs (ReadLock seat)) at q in
-      rw (reading_since_push a.seat xs (ReadLock seat), flip a.seat seat (idle_op xs seat a h.free.idle q1)) (d.at a q1);
+      rw (reading_since_push a.seat xs (ReadLock seat), unequal_turned a.seat seat (idle_op xs seat a h.free.idle q1)) (d.at a q1);
 }
 holders_step head xs (ReadUnlock seat) h d = record {
   at = λ a q.

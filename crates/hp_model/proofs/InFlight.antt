@@ -2,6 +2,7 @@
 use Rattle.std.proofs.Common.{◌≡◌, ℕ, ◌+◌, Bool, true, false, cond, not, eqb, ltb, is_some, Option, Some, None, List, [], ◌∷◌, ◌++◌, refl, ap, sym, ◌∙◌, arith}
 use Rattle.std.proofs.lemmas.Bool.{true≢false}
 use Rattle.std.proofs.lemmas.Bool.Decides.{nat_tests}
+use Rattle.hp_states.proofs.Basics.{none_of}
 use Rattle.hp_event.specs.declared.event.Event.{Event}
 use Rattle.hp_event.specs.declared.event.Event.TheVariants.{WalkBegin, WalkEnd, ReadLock, ReadUnlock}
 use Rattle.hp_model.specs.Journal.{over_from}
@@ -10,10 +11,6 @@ use Rattle.hp_model.specs.Walks.{Walk, walk, walk_step, walking, walking_step, i
 use Rattle.hp_model.specs.Readers.{reading_since, reading_since_step, readers, readers_step, is_read}
 use Rattle.hp_model.proofs.Counts.{occurs-append}
 use Rattle.hp_model.proofs.ListLemmas.{occurs-without, none_among}
-
-pub none_of : {A : Type 0} (o : Option A) → is_some o ≡ false → o ≡ None
-none_of None h = refl
-none_of (Some x) h = absurd (true≢false h)
 
 pub empty_of : (xs : List ℕ) → not (is_empty xs) ≡ false → xs ≡ []
 empty_of [] h = refl

@@ -1,6 +1,7 @@
 -- Every lawful journal keeps what Kept says.
 use Rattle.std.proofs.Common.{◌≡◌, ℕ, Bool, true, false, cond, eqb, leb, List, [], ◌∷◌, ◌++◌, refl, sym, ◌∙◌, arith, inl, inr, ◌⊎◌}
 use Rattle.std.proofs.lemmas.Bool.{true≢false, eqb-true}
+use Rattle.hp_states.proofs.Basics.{none_of}
 use Rattle.hp_states.specs.declared.dir.Dir.TheVariants.{Up, Down}
 use Rattle.hp_event.specs.declared.head.Head.{Head}
 use Rattle.hp_event.specs.declared.event.Event.{Event}
@@ -17,7 +18,6 @@ use Rattle.hp_model.specs.Heads.{IsHead}
 use Rattle.hp_model.proofs.Counts.{done_entries-none, cond_same}
 use Rattle.hp_model.proofs.Kept.{Balanced, Kept}
 use Rattle.hp_model.proofs.Operations.{Operations, operations_none, operations_step, walk_present}
-use Rattle.hp_model.proofs.InFlight.{none_of}
 use Rattle.hp_model.proofs.WaitLemmas.{walks_alone}
 use Rattle.hp_model.proofs.Owners.{Owners, owners_none, owners_step}
 use Rattle.hp_model.proofs.BatchLemmas.{begins_still}

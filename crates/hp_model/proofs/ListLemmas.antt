@@ -3,6 +3,7 @@ use Rattle.std.proofs.Common.{◌≡◌, ℕ, zero, suc, ◌+◌, ◌<◌, Bool,
 use Rattle.std.specs.List.{filter}
 use Rattle.std.proofs.lemmas.Bool.Decides.{nat_tests}
 use Rattle.std.proofs.lemmas.Bool.{and_parts, lt-leb, true≢false, false≢true, eqb-true, eq-eqb}
+use Rattle.std.proofs.lemmas.List.Elements.{filter-append}
 use Rattle.hp_event.specs.declared.head.Head.{Head}
 use Rattle.hp_event.specs.declared.event.Event.{Event}
 use Rattle.hp_model.specs.Lists.{is_empty, occurs, among, without, numbers}
@@ -143,3 +144,10 @@ numbers_from zero = refl
 numbers_from (suc n) =
     let e : 0 + n ≡ n = omega arith in
     ap (λ xs. xs ++ n ∷ []) (numbers_from n) ∙ sym (from_more 0 n ∙ ap (λ (k : ℕ). from 0 n ++ k ∷ []) e)
+
+-- tests that agree on the numbers below one pass the same ones
+pub filter_agree : (p q : ℕ → Bool) (n : ℕ) → ((c : ℕ) → c < n → p c ≡ q c) → filter p (numbers n) ≡ filter q (numbers n)
+filter_agree p q zero h = refl
+filter_agree p q (suc n) h =
+    rw (filter-append p (numbers n) (n ∷ []), filter-append q (numbers n) (n ∷ []), h n (omega arith), filter_agree p q n (λ c b. h c (omega arith)))
+    refl

@@ -4,6 +4,7 @@ use Rattle.std.specs.Prelude.{Contains, slice_get, slice_index_or}
 use Rattle.std.proofs.lemmas.Bool.{true≢false, eqb-true, lt-ltb, le-ltb, ltb-true, ltb-false}
 use Rattle.std.proofs.lemmas.Bool.Decides.{nat_tests}
 use Rattle.std.proofs.lemmas.Option.{slice_get-get_or}
+use Rattle.hp_states.proofs.Basics.{none_some}
 use Rattle.hp_event.specs.declared.op.Op.{Op}
 use Rattle.hp_event.specs.declared.event.Role.TheVariants.{Client}
 use Rattle.hp_event.specs.declared.head.Head.{Head}
@@ -20,7 +21,7 @@ use Rattle.hp_model.specs.Scripts.{IsScript, is_locked}
 use Rattle.hp_model.specs.ScriptTurns.{RunState, unanswered}
 use Rattle.hp_model.specs.ScriptRun.{answered_below, is_over}
 use Rattle.hp_model.specs.TurnMakes.{task, CanTake, LacksRoom}
-use Rattle.hp_model.proofs.Owners.{Owners, none_some}
+use Rattle.hp_model.proofs.Owners.{Owners}
 use Rattle.hp_model.proofs.OneNext.{owners}
 use Rattle.hp_model.proofs.SomeMoves.{some_moves}
 use Rattle.hp_model.proofs.Members.{Has, has_right}

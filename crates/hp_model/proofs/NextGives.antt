@@ -2,6 +2,7 @@
 use Rattle.std.proofs.Common.{◌≡◌, ℕ, Bool, true, false, not, ◌&&◌, cond, eqb, is_some, Option, Some, None, List, refl, ap, sym, ◌∙◌, subst, inl, inr, ◌⊎◌}
 use Rattle.std.specs.Prelude.{find, ◌↔◌}
 use Rattle.std.proofs.lemmas.Bool.{true≢false, false≢true, eq-eqb, and_parts}
+use Rattle.hp_states.proofs.Basics.{not_true, none_some}
 use Rattle.hp_event.specs.declared.op.Op.{Op}
 use Rattle.hp_event.specs.declared.head.Head.{Head}
 use Rattle.hp_event.specs.declared.event.Event.{Event}
@@ -25,15 +26,13 @@ use Rattle.hp_model.specs.Pending.{Pending, IsAllowed}
 use Rattle.hp_model.specs.UnderWay.{under_way}
 use Rattle.hp_model.specs.FirstEvent.{begin_of, refused_or_begun, first_event}
 use Rattle.hp_model.specs.NextEvent.{walk_begin, event_of_holder, next_of_holder, or_else, next_in_flight, if_room, next_event, lacks_room, is_full}
-use Rattle.hp_model.proofs.Owners.{Owners, none_some}
+use Rattle.hp_model.proofs.Owners.{Owners}
 use Rattle.hp_model.proofs.OneNext.{one_next, owners}
-use Rattle.hp_model.proofs.OneFate.{waits_still, not_true}
+use Rattle.hp_model.proofs.OneFate.{waits_still}
 use Rattle.hp_model.proofs.Stages.{Between, WalkEvent, Stage, stage_of, event_next}
 use Rattle.hp_model.proofs.FirstEvents.{begins}
 use Rattle.hp_model.proofs.WalkGives as by_walk
-use Rattle.hp_model.proofs.WalkGives.{walk_given}
 use Rattle.hp_model.proofs.RegistrationGives as by_registration
-use Rattle.hp_model.proofs.RegistrationGives.{registration_given}
 use Rattle.hp_model.proofs.Members.{Has, not_found}
 use Rattle.hp_model.proofs.OneFate.{first_only}
 use Rattle.hp_model.proofs.DueGives.{walk_under, registration_under}

@@ -2,6 +2,7 @@
 use Rattle.std.proofs.Common.{◌≡◌, ℕ, ◌<◌, ◌≤◌, true, not, ◌&&◌, leb, Some, List, [], ◌∷◌, length, refl, ap, ◌∙◌, inl, inr, ◌⊎◌, arith}
 use Rattle.std.proofs.lemmas.Bool.{and_parts}
 use Rattle.std.proofs.lemmas.List.{length-map}
+use Rattle.hp_states.proofs.Basics.{not_not}
 use Rattle.hp_states.specs.declared.dir.Dir.{Dir}
 use Rattle.hp_event.specs.declared.how.How.{How}
 use Rattle.hp_event.specs.declared.answer.Answer.{Answer}
@@ -30,7 +31,7 @@ use Rattle.hp_model.proofs.Operations.{in_filter}
 use Rattle.hp_model.proofs.Kept.{RegistrationKept}
 use Rattle.hp_model.proofs.TreeSteps.{IsAmong, steps_registration}
 use Rattle.hp_model.proofs.Remains.{IsAt, at_end, at_step, at_tree}
-use Rattle.hp_model.proofs.Errands.{IsSound, entry_at, goes, not_not}
+use Rattle.hp_model.proofs.Errands.{IsSound, entry_at, goes}
 use Rattle.hp_model.proofs.HowLemmas.{registration_fails}
 
 -- a registration has at most one fault

@@ -1,6 +1,7 @@
 -- While a walk is in flight an event of it can come next: an entry, or its end.
 use Rattle.std.proofs.Common.{◌≡◌, ℕ, ◌≤◌, true, not, Some, List, [], ◌∷◌, length, refl, ap, sym, subst, ◌∙◌, inl, inr, ◌⊎◌, arith}
 use Rattle.std.proofs.lemmas.List.{length-map}
+use Rattle.hp_states.proofs.Basics.{not_not}
 use Rattle.hp_states.specs.declared.dir.Dir.{Dir}
 use Rattle.hp_event.specs.declared.how.How.{How}
 use Rattle.hp_event.specs.declared.answer.Answer.{Answer}
@@ -27,7 +28,7 @@ use Rattle.hp_model.proofs.WalkEnd.{fill_faults, whole_walk}
 use Rattle.hp_model.proofs.Kept.{WalkKept}
 use Rattle.hp_model.proofs.TreeSteps.{IsOn, steps_walk}
 use Rattle.hp_model.proofs.Remains.{IsAt, at_end, at_step, at_tree}
-use Rattle.hp_model.proofs.Errands.{IsSound, entry_at, goes, not_not}
+use Rattle.hp_model.proofs.Errands.{IsSound, entry_at, goes}
 use Rattle.hp_model.proofs.HowLemmas.{walk_fails}
 
 answer_of_few : (d : Dir) (fs : List Faulty) → length fs ≤ 2 → (answer : Answer) × (walk_answer d fs ≡ Some answer)

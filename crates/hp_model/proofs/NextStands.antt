@@ -2,6 +2,7 @@
 use Rattle.std.proofs.Common.{◌≡◌, ℕ, Bool, true, false, ◌&&◌, cond, eqb, is_some, Option, Some, None, List, refl, sym, ◌∙◌, subst, inl, inr, ◌⊎◌}
 use Rattle.std.specs.Prelude.{find}
 use Rattle.std.proofs.lemmas.Bool.{false≢true, eqb-true, and_parts}
+use Rattle.hp_states.proofs.Basics.{none_some, same_some}
 use Rattle.hp_event.specs.declared.op.Op.{Op}
 use Rattle.hp_event.specs.declared.event.Role.{Role}
 use Rattle.hp_event.specs.declared.event.Role.TheVariants.{Client, Ap}
@@ -24,7 +25,6 @@ use Rattle.hp_model.specs.Moves.{IsOfThread}
 use Rattle.hp_model.specs.UnderWay.{under_way}
 use Rattle.hp_model.specs.FirstEvent.{is_client, begin_of, refused_or_begun, first_event}
 use Rattle.hp_model.specs.NextEvent.{walk_begin, event_of_holder, next_of_holder, or_else, next_in_flight, if_room, next_event, walk_or_end}
-use Rattle.hp_model.proofs.Owners.{same_some, none_some}
 use Rattle.hp_model.proofs.BatchLemmas.{ends_at_rest}
 use Rattle.hp_model.proofs.FirstEvents.{begins}
 use Rattle.hp_model.proofs.SomeMoves.{Facts, facts, entered_op, registers_op}
@@ -149,7 +149,7 @@ pub record FreeDoes (head : Head) (xs : List Event) (k : ℕ) (op : Op) (e : Eve
   pub by : seat_of e ≡ k
   pub belongs : BelongsTo op e
 
-client_is : (o : Option Role) → is_client o ≡ true → o ≡ Some Client
+pub client_is : (o : Option Role) → is_client o ≡ true → o ≡ Some Client
 client_is None h = absurd (false≢true h)
 client_is (Some Client) h = refl
 client_is (Some (Ap cpu)) h = absurd (false≢true h)

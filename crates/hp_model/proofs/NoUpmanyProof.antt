@@ -3,6 +3,7 @@ use Rattle.std.proofs.Common.{◌≡◌, ℕ, Bool, true, false, ◌&&◌, cond,
 use Rattle.std.specs.Prelude.{option_to_list, filter_map, All}
 use Rattle.std.proofs.lemmas.List.{append-nil}
 use Rattle.std.proofs.lemmas.List.Elements.{All-head, All-tail}
+use Rattle.hp_states.proofs.Basics.{none_of}
 use Rattle.hp_event.specs.declared.head.Head.{Head}
 use Rattle.hp_event.specs.declared.event.Event.{Event}
 use Rattle.hp_event.specs.declared.event.Event.TheVariants.{Enter, OpEnd}
@@ -18,7 +19,6 @@ use Rattle.hp_model.specs.Waits.{wait_for_batch}
 use Rattle.hp_model.specs.Promised.{promised_to_walks}
 use Rattle.hp_model.specs.UnderWay.{next_of_walk, next_of_registration, in_turn, under_way}
 use Rattle.hp_model.specs.NoUpmany.{IsPlain, IsNoUpmany}
-use Rattle.hp_model.proofs.InFlight.{none_of}
 use Rattle.hp_model.proofs.WaitLemmas.{batch_waits}
 use Rattle.hp_model.proofs.Laws.{operation_push}
 use Rattle.hp_model.proofs.SumLemmas.{sum_same}
@@ -26,7 +26,7 @@ use Rattle.hp_model.proofs.PromisedParts.{part, in_flight, come_none}
 use Rattle.hp_model.proofs.TurnLemmas.{single_held_up}
 
 -- no seat brings anything up
-none_brings : (xs : List Event) (k : ℕ) → held_by is_upmany (operation xs) ≡ false → brings_up k (operation xs) ≡ false
+pub none_brings : (xs : List Event) (k : ℕ) → held_by is_upmany (operation xs) ≡ false → brings_up k (operation xs) ≡ false
 none_brings xs k h = go (operation xs) h
   where
     and_false : (b : Bool) → (b && false) ≡ false

@@ -1,6 +1,7 @@
 -- Of the walk of a processor at most one event can come next: key, direction, how and seat of an entry are determined, and a walk that
 -- can end can't go on.
 use Rattle.std.proofs.Common.{◌≡◌, ℕ, List, ap, sym, ◌∙◌, subst}
+use Rattle.hp_states.proofs.Basics.{same_some}
 use Rattle.hp_states.specs.declared.dir.Dir.{Dir}
 use Rattle.hp_event.specs.declared.answer.Answer.{Answer}
 use Rattle.hp_event.specs.declared.how.How.{How}
@@ -10,7 +11,6 @@ use Rattle.hp_event.specs.declared.event.Event.TheVariants.{Call}
 use Rattle.hp_model.specs.StandsCalls.{WalkEntry, InWalk}
 use Rattle.hp_model.specs.StandsOperations.{WalkEnds}
 use Rattle.hp_model.specs.NextInWalk.{walk_errand}
-use Rattle.hp_model.proofs.Owners.{same_some}
 pub use Rattle.hp_model.proofs.Errands.{SameEntry}
 use Rattle.hp_model.proofs.Errands.{IsEntry, same_entry, no_entry}
 use Rattle.hp_model.proofs.WalkGives.{walk_is_entry, walk_is_over, gives_entry}

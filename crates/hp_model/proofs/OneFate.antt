@@ -1,6 +1,7 @@
 -- An operation that waits has no event that can come next, and one whose event stands isn't answered LogFull.
-use Rattle.std.proofs.Common.{◌≡◌, ℕ, Bool, true, false, not, ◌&&◌, cond, eqb, is_some, Option, Some, None, List, refl, ap, sym, ◌∙◌, inl, inr, ◌⊎◌}
-use Rattle.std.proofs.lemmas.Bool.{true≢false, false≢true, eqb-true, and_parts}
+use Rattle.std.proofs.Common.{◌≡◌, ℕ, Bool, true, false, ◌&&◌, cond, eqb, is_some, Option, Some, None, List, refl, ap, sym, ◌∙◌, inl, inr, ◌⊎◌}
+use Rattle.std.proofs.lemmas.Bool.{true≢false, eqb-true, and_parts}
+use Rattle.hp_states.proofs.Basics.{none_some, not_equal, same_some}
 use Rattle.hp_event.specs.declared.op.Op.{Op}
 use Rattle.hp_event.specs.declared.how.How.{How}
 use Rattle.hp_states.specs.declared.dir.Dir.{Dir}
@@ -26,17 +27,17 @@ use Rattle.hp_model.specs.Batch.{is_upmany}
 use Rattle.hp_model.proofs.InFlight.{walk_none}
 use Rattle.hp_model.proofs.WaitLemmas.{later_walk}
 use Rattle.hp_model.proofs.BatchLemmas.{walking_begun}
-use Rattle.hp_model.proofs.Owners.{Owners, alone_at, same_some, none_some, idle_op, idle_reg, not_self}
+use Rattle.hp_model.proofs.Owners.{Owners, alone_at, idle_op, idle_reg}
 use Rattle.hp_model.proofs.Stages.{IsFirst, first_is, called_by, ap_no_client}
 use Rattle.hp_model.proofs.OneNext.{owners}
 use Rattle.hp_model.proofs.Operations.{not_walk}
 
 -- who has an operation in flight isn't free
 pub not_holder : (xs : List Event) (k : ℕ) (o : Operation) → IsFree xs k → operation xs ≡ Some o → o.seat ≡ k → ⊥
-not_holder xs k o f at s = not_self o.seat k (idle_op xs k o f.idle at) s
+not_holder xs k o f at s = not_equal o.seat k (idle_op xs k o f.idle at) s
 
 pub not_registrar : (xs : List Event) (k : ℕ) (r : Registration) → IsFree xs k → registration xs ≡ Some r → r.seat ≡ k → ⊥
-not_registrar xs k r f at s = not_self r.seat k (idle_reg xs k r f.idle at) s
+not_registrar xs k r f at s = not_equal r.seat k (idle_reg xs k r f.idle at) s
 
 pub not_walker : (xs : List Event) (k c : ℕ) (w : Walk) → Owners xs → IsFree xs k → walk c xs ≡ Some w → w.seat ≡ k → ⊥
 not_walker xs k c w o f at s = let p = o.walk_op c w at in not_holder xs k p.0 f p.1 (p.2 ∙ s)
@@ -98,10 +99,6 @@ pub record HolderWaits (head : Head) (xs : List Event) (k : ℕ) : Type 0 where
   pub to : ℕ
   pub gives : next head xs of.before of.op ≡ walks cpu to
   pub waits : is_some (wait_to_walk xs) ≡ true
-
-pub not_true : (b : Bool) → not b ≡ true → b ≡ false
-not_true true h = absurd (false≢true h)
-not_true false h = refl
 
 pub holder_waits : (head : Head) (xs : List Event) (k : ℕ) (w : Wait) → wait_of_holder head xs k (operation xs) ≡ Some w → HolderWaits head xs k
 holder_waits head xs k w h = go (operation xs) refl h

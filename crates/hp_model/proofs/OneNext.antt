@@ -1,5 +1,6 @@
 -- After a lawful journal at most one event of a given seat and operation can stand next.
 use Rattle.std.proofs.Common.{◌≡◌, ℕ, Bool, true, false, Some, List, refl, ap, sym, ◌∙◌, inl, inr, ◌⊎◌}
+use Rattle.hp_states.proofs.Basics.{same_some}
 use Rattle.hp_event.specs.declared.op.Op.{Op}
 use Rattle.hp_event.specs.declared.head.Head.{Head}
 use Rattle.hp_event.specs.declared.event.Event.{Event}
@@ -14,7 +15,7 @@ use Rattle.hp_model.proofs.Kept.{Kept}
 use Rattle.hp_model.proofs.Induction.{held, kept}
 use Rattle.hp_model.proofs.WalkGives as by_walk
 use Rattle.hp_model.proofs.RegistrationGives as by_registration
-use Rattle.hp_model.proofs.Owners.{Owners, same_some}
+use Rattle.hp_model.proofs.Owners.{Owners}
 use Rattle.hp_model.proofs.Stages.{Between, OnWalk, WalkEvent, RegistrationEvent, Stage, stage_of, before_between, before_walk, before_registration, between_registration, ap_no_client, walk_registration}
 use Rattle.hp_model.proofs.TurnLemmas.{turn_is, event_turn, between_walk}
 

@@ -1,5 +1,6 @@
 -- Of the registration in flight at most one event can come next: an entry is determined, and a registration that can end can't go on.
 use Rattle.std.proofs.Common.{◌≡◌, ℕ, List, ap, sym, ◌∙◌, subst}
+use Rattle.hp_states.proofs.Basics.{same_some}
 use Rattle.hp_states.specs.declared.dir.Dir.{Dir}
 use Rattle.hp_event.specs.declared.answer.Answer.{Answer}
 use Rattle.hp_event.specs.declared.how.How.{How}
@@ -9,7 +10,6 @@ use Rattle.hp_event.specs.declared.event.Event.TheVariants.{Call}
 use Rattle.hp_model.specs.StandsCalls.{RegistrationEntry, InRegistration}
 use Rattle.hp_model.specs.StandsRegistrations.{RegEnds}
 use Rattle.hp_model.specs.UnderWay.{registration_errand}
-use Rattle.hp_model.proofs.Owners.{same_some}
 use Rattle.hp_model.proofs.Errands.{IsEntry, SameEntry, same_entry, no_entry}
 use Rattle.hp_model.proofs.RegistrationGives.{registration_is_entry, registration_is_over, gives_entry}
 

@@ -1,6 +1,7 @@
 -- While a processor walks, no other one has walked since its walk began, in a lawful journal and but in an upmany.
 use Rattle.std.proofs.Common.{◌≡◌, ℕ, Bool, true, false, cond, eqb, is_some, Some, None, List, [], ◌∷◌, ◌++◌, refl, ap, sym, ◌∙◌, inl, inr, ◌⊎◌, subst}
 use Rattle.std.proofs.lemmas.Bool.{eqb-true}
+use Rattle.hp_states.proofs.Basics.{none_some, same_some}
 use Rattle.hp_event.specs.declared.head.Head.{Head}
 use Rattle.hp_event.specs.declared.event.Event.{Event}
 use Rattle.hp_event.specs.declared.event.Event.TheVariants.{Enter, WalkBegin, WalkEnd, OpEnd}
@@ -10,7 +11,7 @@ use Rattle.hp_model.specs.Headline.{Unchanged}
 use Rattle.hp_model.specs.OneWalk.{IsOnlyWalk, LeavesOthers, WalksAlone}
 use Rattle.hp_model.proofs.Laws.{walk_push, operation_push, touched_push}
 use Rattle.hp_model.proofs.InFlight.{walk_none}
-use Rattle.hp_model.proofs.Owners.{Owners, alone_at, enters_at_rest, over_at_rest, same_some, none_some}
+use Rattle.hp_model.proofs.Owners.{Owners, alone_at, enters_at_rest, over_at_rest}
 use Rattle.hp_model.proofs.OneNext.{owners}
 use Rattle.hp_model.proofs.Beside.{beside}
 use Rattle.hp_model.proofs.HeadlineProof.{lawful_front, others_unchanged}

@@ -2,6 +2,7 @@
 use Rattle.std.proofs.Common.{◌≡◌, ℕ, ◌+◌, ◌<◌, Bool, true, false, cond, not, ◌&&◌, eqb, ltb, leb, Option, Some, None, List, [], ◌∷◌, ◌++◌, length, refl, sym, subst, arith}
 use Rattle.std.specs.Prelude.{pos}
 use Rattle.std.proofs.lemmas.Bool.{true≢false, eqb-true, and_parts, ltb-true, lt-ltb, eqb-false}
+use Rattle.hp_states.proofs.Basics.{not_false}
 use Rattle.hp_event.specs.declared.op.Op.{Op}
 use Rattle.hp_event.specs.declared.op.Op.TheVariants.{Up, Down, Target, Boot, Disable, Enable, Freeze, Thaw, UpMany}
 use Rattle.hp_event.specs.declared.answer.Answer.{Answer}
@@ -28,7 +29,6 @@ use Rattle.hp_model.proofs.ListLemmas.{filtered_out}
 use Rattle.hp_model.proofs.Laws.{operation_push, frozen_push}
 use Rattle.hp_model.proofs.Kept.{WalkKept, Kept}
 use Rattle.hp_model.proofs.Passing.{none_holds, passed}
-pub use Rattle.hp_model.proofs.Passing.{there}
 
 pub record Entered (head : Head) (o : Operation) : Type 0 where
   pub enters : Enters head o.before o.seat o.op
@@ -129,7 +129,7 @@ batch_walk [] true answer cpu to h = absurd (not_nothing cpu to h)
 batch_walk [] false answer cpu to h = absurd (not_walk answer cpu to h)
 
 listed_there : (a b : Bool) → a ≡ true → (a && not b) ≡ false → b ≡ true
-listed_there true b h k = there b k
+listed_there true b h k = not_false b k
 listed_there false b h k = absurd (true≢false (sym h))
 
 -- a processor above 0 isn't away
@@ -157,11 +157,11 @@ pub present_by : (head : Head) (events before : List Event) (op : Op) (cpu to : 
 present_by head events before (Up c) cpu to r away now frozen_there h =
     let w = single_walk c 200 (settled c events) (answers events) cpu to h in
     let p = none_holds (refusals_after_waits head before (Up c)) r in
-    rw w.0 at (there (is_present head c) p.1.0)
+    rw w.0 at (not_false (is_present head c) p.1.0)
 present_by head events before (Down c) cpu to r away now frozen_there h =
     let w = single_walk c 0 (settled c events) (answers events) cpu to h in
     let p = none_holds (refusals_after_waits head before (Down c)) r in
-    rw w.0 at (there (is_present head c) p.1.1.0)
+    rw w.0 at (not_false (is_present head c) p.1.1.0)
 present_by head events before (Target c v) cpu to r away now frozen_there h =
     let w = single_walk c (target_of v) (settled c events) (answers events) cpu to h in
     let p = none_holds (refusals_after_waits head before (Target c v)) r in

@@ -2,6 +2,7 @@
 use Rattle.std.proofs.Common.{◌≡◌, ℕ, zero, suc, ◌+◌, ◌<◌, Bool, true, false, is_none, eqb, Option, Some, None, List, length, refl, subst, inl, inr, arith}
 use Rattle.std.proofs.lemmas.Bool.{false≢true, eqb-true, and_parts}
 use Rattle.std.proofs.lemmas.Bool.Decides.{nat_tests}
+use Rattle.hp_states.proofs.Basics.{none_some}
 use Rattle.hp_event.specs.declared.op.Op.{Op}
 use Rattle.hp_event.specs.declared.event.Role.TheVariants.{Client}
 use Rattle.hp_event.specs.declared.head.Head.{Head}
@@ -17,7 +18,6 @@ use Rattle.hp_model.specs.ScriptTurns.{RunState, unanswered, turn, after_turns}
 use Rattle.hp_model.specs.ScriptRun.{start, answered_below, is_over}
 use Rattle.hp_model.specs.TurnMakes.{task, LacksRoom, TurnMakes}
 use Rattle.hp_model.proofs.OneNext.{owners}
-use Rattle.hp_model.proofs.Owners.{none_some}
 use Rattle.hp_model.proofs.DueGives.{UnderWay, of_walk, of_registration, under_comes, entry_under}
 use Rattle.hp_model.proofs.AnswerCounts.{nth_of}
 use Rattle.hp_model.proofs.Going.{IsGoing, turns_going, start_going}

@@ -2,7 +2,7 @@
 -- processor, and a walk is of the operation that holds the map lock, alone but in an upmany.
 use Rattle.std.proofs.Common.{◌≡◌, ℕ, ◌+◌, ◌<◌, Bool, true, false, not, ◌&&◌, ◌||◌, cond, eqb, is_some, Option, Some, None, List, [], ◌∷◌, ◌++◌, refl, ap, sym, ◌∙◌, inl, inr, arith}
 use Rattle.std.proofs.lemmas.Bool.{true≢false, eqb-true, eq-eqb, or_parts}
-use Rattle.std.proofs.lemmas.Bool.Decides.{nat_tests}
+use Rattle.hp_states.proofs.Basics.{none_of, unequal_turned, none_some, not_equal, same_some}
 use Rattle.hp_event.specs.declared.op.Op.{Op}
 use Rattle.hp_event.specs.declared.answer.Answer.{Answer}
 use Rattle.hp_event.specs.declared.event.Role.{Role}
@@ -26,7 +26,7 @@ use Rattle.hp_model.specs.StandsSeats.{Admits}
 use Rattle.hp_model.specs.StandsOperations.{Enters, WalkBegins, OpEnds}
 use Rattle.hp_model.specs.Lawful.{Comes}
 use Rattle.hp_model.proofs.Laws.{walk_push, begun_push, settled_push, registration_push, readers_push, operation_push, role_push, admits_push, ap_push}
-use Rattle.hp_model.proofs.InFlight.{none_of, empty_of, walking_is, walk_none}
+use Rattle.hp_model.proofs.InFlight.{empty_of, walking_is, walk_none}
 use Rattle.hp_model.proofs.ListLemmas.{among_more, among_last}
 use Rattle.hp_model.proofs.Passing.{begins_no_batch}
 
@@ -43,15 +43,6 @@ pub record Owners (xs : List Event) : Type 0 where
   pub settled_since : (c : ℕ) (o : Operation) → operation xs ≡ Some o → among c (begun xs) ≡ false → settled c xs ≡ settled c o.before
   pub batch_alone : is_batch_begun xs ≡ true → (is_read xs ≡ false) × (is_registering xs ≡ false)
 
-pub same_some : {A : Type 0} (x y : A) → Some x ≡ Some y → x ≡ y
-same_some x y h = cc
-
-pub none_some : {A : Type 0} (x : A) → None ≡ Some x → ⊥
-none_some x h = cc
-
-pub flip : (a b : ℕ) → eqb a b ≡ false → eqb b a ≡ false
-flip a b h = grind (arith, nat_tests)
-
 -- a seat that isn't busy holds nothing
 pub idle_op : (xs : List Event) (k : ℕ) (o : Operation) → is_busy k xs ≡ false → operation xs ≡ Some o → eqb o.seat k ≡ false
 idle_op xs k o h e =
@@ -61,9 +52,6 @@ pub idle_reg : (xs : List Event) (k : ℕ) (r : Registration) → is_busy k xs �
     eqb r.seat k ≡ false
 idle_reg xs k r h e =
     let p = (or_parts (holds_map k (operation xs)) (registers k (registration xs)) h).1 in rw e at p
-
-pub not_self : (a k : ℕ) → eqb a k ≡ false → a ≡ k → ⊥
-not_self a k h e = true≢false (sym (eq-eqb a k e) ∙ h)
 
 free_map : (xs : List Event) → is_some (wait_for_map (operation xs)) ≡ false → operation xs ≡ None
 free_map xs h = none_of (operation xs) (sym (map_waits (operation xs)) ∙ h)
@@ -140,7 +128,7 @@ ap_role_step head xs (Admit seat (Ap cpu)) h o =
 ap_role_step head xs (Leave seat) h o =
     λ c k q.
     let u = unseated_some seat (ap_seat c xs) k (rw (ap_push c xs (Leave seat)) at q) in
-    left xs seat k (Ap c) (flip k seat u.1) (o.ap_role c k u.0)
+    left xs seat k (Ap c) (unequal_turned k seat u.1) (o.ap_role c k u.0)
 ap_role_step head xs e h o =
     λ c k q. rw (role_push k xs e) (o.ap_role c k (rw (ap_push c xs e) at q))
 
@@ -148,7 +136,7 @@ ap_role_step head xs e h o =
 client_stays : (head : Head) (xs : List Event) (e : Event) (k : ℕ) → Comes head xs e → Owners xs → role_of k xs ≡ Some Client →
     ((seat : ℕ) → is_busy seat xs ≡ false → eqb k seat ≡ false) → role_of k (xs ++ e ∷ []) ≡ Some Client
 client_stays head xs (Admit seat role) k h o r apart = admitted head xs seat role h k Client (o.seats_below k Client r) r
-client_stays head xs (Leave seat) k h o r apart = left xs seat k Client (flip k seat (apart seat h.idle)) r
+client_stays head xs (Leave seat) k h o r apart = left xs seat k Client (unequal_turned k seat (apart seat h.idle)) r
 client_stays head xs e k h o r apart = role_push k xs e ∙ r
 
 op_client_step : (head : Head) (xs : List Event) (e : Event) → Comes head xs e → Owners xs →
@@ -185,7 +173,7 @@ apart_step head xs (Enter seat op) h o =
     let n : Operation = record { seat = seat; op = op; before = xs } in
     let same : n ≡ a = same_some n a (rw (operation_push xs (Enter seat op)) at q) in
     let is : seat ≡ a.seat = ap (λ z. z.seat) same in
-    not_self r.seat seat (idle_reg xs seat r h.free.idle (rw (registration_push xs (Enter seat op)) at p)) (sym s ∙ sym is)
+    not_equal r.seat seat (idle_reg xs seat r h.free.idle (rw (registration_push xs (Enter seat op)) at p)) (sym s ∙ sym is)
 apart_step head xs (OpEnd seat answer) h o =
     λ a r q p s. none_some a (rw (operation_push xs (OpEnd seat answer)) at q)
 apart_step head xs (RegBegin seat state op) h o =
@@ -193,7 +181,7 @@ apart_step head xs (RegBegin seat state op) h o =
     let n : Registration = record { seat = seat; state = state; op = op; before = xs } in
     let same : n ≡ r = same_some n r (rw (registration_push xs (RegBegin seat state op)) at p) in
     let is : seat ≡ r.seat = ap (λ z. z.seat) same in
-    not_self a.seat seat (idle_op xs seat a h.free.idle (rw (operation_push xs (RegBegin seat state op)) at q)) (s ∙ sym is)
+    not_equal a.seat seat (idle_op xs seat a h.free.idle (rw (operation_push xs (RegBegin seat state op)) at q)) (s ∙ sym is)
 apart_step head xs (RegEnd seat answer) h o =
     λ a r q p s. none_some r (rw (registration_push xs (RegEnd seat answer)) at p)
 apart_step head xs e h o =

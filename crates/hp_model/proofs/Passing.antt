@@ -3,6 +3,7 @@ use Rattle.std.proofs.Common.{◌≡◌, ℕ, zero, suc, ◌-◌, ◌<◌, Bool,
 use Rattle.std.specs.Prelude.{find}
 use Rattle.std.proofs.lemmas.Bool.{true≢false, or_parts}
 use Rattle.std.proofs.lemmas.Bool.Decides.{nat_tests}
+use Rattle.hp_states.proofs.Basics.{none_of, not_true, same_some, some_none, not_false}
 use Rattle.hp_states.specs.Sections.{is_dynamic, end_of_range, name_of_builtin}
 use Rattle.hp_event.specs.declared.op.Op.{Op}
 use Rattle.hp_event.specs.declared.op.Op.TheVariants.{Setup, Remove, Add, Del}
@@ -20,15 +21,12 @@ use Rattle.hp_model.proofs.WaitLemmas.{is_writing, register_waits}
 use Rattle.hp_model.specs.RefusalsAtOnce.{Check, first_that_holds, refusals_at_once}
 use Rattle.hp_model.specs.Refusals.{refusals_after_waits, refusal, is_multi_state}
 use Rattle.hp_model.proofs.CanBegin.{CanBegin}
-use Rattle.hp_model.proofs.InFlight.{none_of, empty_of}
+use Rattle.hp_model.proofs.InFlight.{empty_of}
 
 -- refusals that aren't given
 abbrev pub NoneHolds : List Check → Type 0
 NoneHolds [] = Unit {0}
 NoneHolds (x ∷ xs) = (x.holds ≡ false) × NoneHolds xs
-
-pub some_none : {A : Type 0} (x : A) → Some x ≡ None → ⊥
-some_none x h = cc
 
 pub none_holds : (xs : List Check) → first_that_holds xs ≡ None → NoneHolds xs
 none_holds [] h = tt
@@ -78,10 +76,6 @@ find_holds p s (x ∷ xs) h = go (p x) refl h (find_holds p s xs)
     go true e h rest = rw (← (same s h)) e
     go false e h rest = rest h
 
-not_true : (b : Bool) → not b ≡ true → b ≡ false
-not_true false h = refl
-not_true true h = absurd (true≢false (sym h))
-
 -- a free slot of a range isn't named
 pub lowest_free_unnamed : (head : Head) (asked s : ℕ) (xs : List Event) → lowest_free head asked xs ≡ Some s →
     is_named head s xs ≡ false
@@ -105,10 +99,6 @@ none_at n h = grind (arith, nat_tests)
 some_at : (n : ℕ) → not (ltb 0 n) ≡ false → 0 < n
 some_at n h = grind (arith, nat_tests)
 
-pub there : (b : Bool) → not b ≡ false → b ≡ true
-there true h = refl
-there false h = absurd (true≢false h)
-
 can_remove : (found : Option Registered) → is_none found ≡ false → not (is_empty (instances found)) ≡ false →
     (r : Registered) × (found ≡ Some r) × (r.multi ≡ true → r.insts ≡ [])
 can_remove None h k = absurd (true≢false h)
@@ -117,15 +107,12 @@ can_remove (Some r) h k = (r, refl, λ m. empty_of r.insts k)
 can_add : (i : ℕ) (found : Option Registered) → not (is_multi_state found) ≡ false → among i (instances found) ≡ false →
     (r : Registered) × (found ≡ Some r) × (r.multi ≡ true) × (occurs i r.insts ≡ 0)
 can_add i None h k = absurd (true≢false h)
-can_add i (Some r) h k = (r, refl, there r.multi h, none_at (occurs i r.insts) k)
+can_add i (Some r) h k = (r, refl, not_false r.multi h, none_at (occurs i r.insts) k)
 
 can_del : (i : ℕ) (found : Option Registered) → not (is_multi_state found) ≡ false → not (among i (instances found)) ≡ false →
     (r : Registered) × (found ≡ Some r) × (r.multi ≡ true) × (0 < occurs i r.insts)
 can_del i None h k = absurd (true≢false h)
-can_del i (Some r) h k = (r, refl, there r.multi h, some_at (occurs i r.insts) k)
-
-same_state : {A : Type 0} (x y : A) → Some x ≡ Some y → x ≡ y
-same_state x y e = cc
+can_del i (Some r) h k = (r, refl, not_false r.multi h, some_at (occurs i r.insts) k)
 
 -- an operation that resolves to a state and isn't refused can begin its registration there
 pub can_begin : (head : Head) (xs : List Event) (op : Op) (state : ℕ) → resolved head xs op ≡ Some state →
@@ -135,13 +122,13 @@ can_begin head xs (Setup s sub form) state r h =
     unnamed head state xs (setup_unnamed head xs s state (is_dynamic s) r p.0)
 can_begin head xs (Remove s form) state r h =
     let p = none_holds (refusals_after_waits head xs (Remove s form)) h in
-    rw (← (same_state s state r)) (can_remove (registered head s xs) p.0 p.1.0)
+    rw (← (same_some s state r)) (can_remove (registered head s xs) p.0 p.1.0)
 can_begin head xs (Add s i form) state r h =
     let p = none_holds (refusals_after_waits head xs (Add s i form)) h in
-    rw (← (same_state s state r)) (can_add i (registered head s xs) p.0 p.1.0)
+    rw (← (same_some s state r)) (can_add i (registered head s xs) p.0 p.1.0)
 can_begin head xs (Del s i form) state r h =
     let p = none_holds (refusals_after_waits head xs (Del s i form)) h in
-    rw (← (same_state s state r)) (can_del i (registered head s xs) p.0 p.1.0)
+    rw (← (same_some s state r)) (can_del i (registered head s xs) p.0 p.1.0)
 can_begin head xs op state r h = absurd (some_none state (sym r))
 
 -- nothing begins at the lowest state, where nothing is ever registered

@@ -37,7 +37,7 @@ most_reverse n [] h = tt
 most_reverse n (x ∷ xs) h =
     rw (reverse-append (x ∷ []) xs) (most_append n (reverse xs) (x ∷ []) (most_reverse n xs h.1) (h.0, tt))
 
-most_at : (n : ℕ) (xs : List ℕ) (y : ℕ) (ys : List ℕ) → Most n (xs ++ y ∷ ys) → y ≤ n
+pub most_at : (n : ℕ) (xs : List ℕ) (y : ℕ) (ys : List ℕ) → Most n (xs ++ y ∷ ys) → y ≤ n
 most_at n [] y ys h = h.0
 most_at n (x ∷ xs) y ys h = most_at n xs y ys h.1
 

@@ -1,6 +1,7 @@
 -- What is promised after a walk begins: alone, as the first of an upmany, or as a later one.
 use Rattle.std.proofs.Common.{◌≡◌, ℕ, Bool, true, false, not, ◌&&◌, cond, eqb, ltb, Some, None, List, [], ◌∷◌, ◌++◌, sum_by, refl, ap, sym, ◌∙◌, subst, arith}
 use Rattle.std.proofs.lemmas.Bool.{and_parts}
+use Rattle.hp_states.proofs.Basics.{and_false}
 use Rattle.hp_states.specs.declared.limits.TheConstants.{ONLINE}
 use Rattle.hp_states.specs.CpuSets.{has}
 use Rattle.hp_event.specs.declared.op.Op.{Op}
@@ -24,7 +25,7 @@ use Rattle.hp_model.proofs.InFlight.{walk_none}
 use Rattle.hp_model.proofs.Owners.{Owners, none_begun}
 use Rattle.hp_model.proofs.BatchLemmas.{next_to_begin, upmany_to}
 use Rattle.hp_model.proofs.SumLemmas.{sum_none, sum_among}
-use Rattle.hp_model.proofs.PromisedParts.{Uses, and_false, begun_part, come_none, come_of, come_same, in_flight, later_room, left_others, other_part, part, promised_is, promised_push, walks_at_rest, walks_changed, walks_sum}
+use Rattle.hp_model.proofs.PromisedParts.{Uses, begun_part, come_none, come_of, come_same, in_flight, later_room, left_others, other_part, part, promised_is, promised_push, walks_at_rest, walks_changed, walks_sum}
 
 -- a walk that isn't an upmany's
 uses_single : (head : Head) (xs : List Event) (seat c from to : ℕ) → held_by is_upmany (operation xs) ≡ false →

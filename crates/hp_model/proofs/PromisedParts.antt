@@ -230,7 +230,3 @@ later_room head xs k c from to h =
 -- an event takes what it needs, uses one of the promises, and gives back what is left to what it ends
 abbrev pub Uses : Head → List Event → Event → Type 0
 Uses head xs e = promised head (xs ++ e ∷ []) + 1 + given_back head xs e ≡ promised head xs + taken (need head xs e)
-
-pub and_false : (b : Bool) → (b && false) ≡ false
-and_false true = refl
-and_false false = refl

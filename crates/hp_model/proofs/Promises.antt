@@ -1,6 +1,7 @@
 -- What is promised after one event more: less by one, but for what the event takes.
 use Rattle.std.proofs.Common.{◌≡◌, ℕ, ◌+◌, ◌-◌, ◌≤◌, Bool, true, false, eqb, Option, Some, None, List, [], ◌∷◌, ◌++◌, refl, sym, ◌∙◌, arith, inl, inr, ◌⊎◌, length-append}
 use Rattle.std.proofs.lemmas.Bool.{eq-eqb, true≢false}
+use Rattle.hp_states.proofs.Basics.{none_of, not_false, and_false}
 use Rattle.hp_event.specs.declared.answer.Answer.{Answer}
 use Rattle.hp_event.specs.declared.op.Op.{Op}
 use Rattle.hp_event.specs.declared.op.Op.TheVariants.{Lock, Unlock}
@@ -25,8 +26,7 @@ use Rattle.hp_model.specs.StandsOperations.{IsOver, IsCut}
 use Rattle.hp_model.specs.StandsCalls.{InWalk, InRegistration}
 use Rattle.hp_model.specs.Lawful.{Comes}
 use Rattle.hp_model.proofs.Laws.{walk_push, walk_entries_push, begun_push, operation_push}
-use Rattle.hp_model.proofs.Passing.{none_holds, passed, begins_alone, there}
-use Rattle.hp_model.proofs.InFlight.{none_of}
+use Rattle.hp_model.proofs.Passing.{none_holds, passed, begins_alone}
 use Rattle.hp_model.proofs.Owners.{Owners, map_free}
 use Rattle.hp_model.proofs.BatchLemmas.{upmany_over, begins_still}
 use Rattle.hp_model.proofs.Kept.{Kept, WalkKept, RegistrationKept}
@@ -35,7 +35,7 @@ use Rattle.hp_model.proofs.SumLemmas.{length-without}
 use Rattle.hp_model.proofs.SeatLemmas.{is_seat, no_seat, seat_once, is_reader, no_reader, reader_once}
 use Rattle.hp_model.proofs.EntryBounds.{walk_bound, registration_bound}
 pub use Rattle.hp_model.proofs.PromisedParts.{part, promised_is, promised_push, promised_none, promised_at_rest, Uses}
-use Rattle.hp_model.proofs.PromisedParts.{and_false, begun_same, come_begun, come_none, come_out, come_quiet, ended_part, in_flight, later_room, other_part, walks_changed, walks_quiet, walks_same}
+use Rattle.hp_model.proofs.PromisedParts.{begun_same, come_begun, come_none, come_out, come_quiet, ended_part, in_flight, later_room, other_part, walks_changed, walks_quiet, walks_same}
 use Rattle.hp_model.proofs.PromisedBegins.{uses_walk_begin}
 
 -- a seat comes in, whichever number it has
@@ -179,7 +179,7 @@ locks_no_reader head xs seat h =
 
 unlocks_reader : (head : Head) (xs : List Event) (seat : ℕ) → ReadUnlocks head xs seat → is_reading seat xs ≡ true
 unlocks_reader head xs seat h =
-    there (is_reading seat xs) (none_holds (refusals_at_once head xs seat Unlock) (passed head xs seat Unlock h.free.idle refl h.passes.not_refused).0).0
+    not_false (is_reading seat xs) (none_holds (refusals_at_once head xs seat Unlock) (passed head xs seat Unlock h.free.idle refl h.passes.not_refused).0).0
 
 uses_read_lock : (head : Head) (xs : List Event) (seat : ℕ) → ReadLocks head xs seat → Uses head xs (ReadLock seat)
 uses_read_lock head xs seat h =

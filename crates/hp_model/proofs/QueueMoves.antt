@@ -2,6 +2,7 @@
 use Rattle.std.proofs.Common.{◌≡◌, ℕ, zero, suc, ◌+◌, ◌<◌, ◌≤◌, Bool, true, false, ◌&&◌, cond, eqb, ltb, not, is_some, Option, Some, None, List, [], ◌∷◌, ◌++◌, length, refl, ap, sym, ◌∙◌, subst, inl, inr, ◌⊎◌, arith}
 use Rattle.std.specs.List.{filter}
 use Rattle.std.proofs.lemmas.Bool.{true≢false, false≢true, eqb-true, eqb-false, eq-eqb, lt-ltb, ltb-true, ltb-false, and_parts}
+use Rattle.hp_states.proofs.Basics.{none_some, same_some}
 use Rattle.hp_event.specs.declared.head.Head.{Head}
 use Rattle.hp_event.specs.declared.event.Event.{Event}
 use Rattle.hp_event.specs.declared.event.Event.TheVariants.{WalkBegin, Call, WalkEnd}
@@ -22,14 +23,14 @@ use Rattle.hp_model.proofs.SumLemmas.{length-without}
 use Rattle.hp_model.proofs.Induction.{kept}
 use Rattle.hp_model.proofs.Kept.{WalkKept}
 use Rattle.hp_model.proofs.Counts.{occurs-append}
-use Rattle.hp_model.proofs.Owners.{Owners, owners_step, same_some, none_some}
+use Rattle.hp_model.proofs.Owners.{Owners, owners_step}
 use Rattle.hp_model.proofs.Stages.{ap_no_client}
 use Rattle.hp_model.proofs.TurnLemmas.{turn_is, turn_own}
 use Rattle.hp_model.proofs.TurnQueue.{queue_turn}
 use Rattle.hp_model.proofs.TurnStays.{IsNoThread, owned, last_push, last_before}
 use Rattle.hp_model.proofs.WalkGives as by_walk
 
-among_filter : (p : ℕ → Bool) (c : ℕ) (xs : List ℕ) → among c (filter p xs) ≡ (p c && among c xs)
+pub among_filter : (p : ℕ → Bool) (c : ℕ) (xs : List ℕ) → among c (filter p xs) ≡ (p c && among c xs)
 among_filter p c xs = ap (ltb 0) (occurs-filter p c xs) ∙ go (p c)
   where
     go : (b : Bool) → ltb 0 (cond b (occurs c xs) 0) ≡ (b && among c xs)

@@ -1,6 +1,7 @@
 -- The end of a registration: the entries that lead to the end of its tree, with the answer of their faults, are the whole of it, and the
 -- answer of a whole one is that of its faults.
 use Rattle.std.proofs.Common.{◌≡◌, ℕ, Some, List, [], ◌∷◌, map, sym, refl, ◌∙◌}
+use Rattle.hp_states.proofs.Basics.{none_some, same_some}
 use Rattle.hp_event.specs.declared.answer.Answer.{Answer}
 use Rattle.hp_event.specs.declared.head.Head.{Head}
 use Rattle.hp_event.specs.declared.event.Event.{Event}
@@ -12,8 +13,7 @@ use Rattle.hp_model.specs.RegistrationShape.{key_of, is_adding, ok_value, IsRegi
 use Rattle.hp_model.specs.Trees.{stop, registration_tree}
 use Rattle.hp_model.proofs.Cursor.{Runs, end_in}
 use Rattle.hp_model.proofs.RegistrationCursor.{registration_shape, outcome_of, shape_outcome}
-use Rattle.hp_model.proofs.WalkEnd.{fill_faults}
-use Rattle.hp_model.proofs.Owners.{same_some, none_some}
+use Rattle.hp_model.proofs.WalkEnd.{fill_faults, first_code}
 
 answer_if : (value : ℕ) (es : List Event) (answer : Answer) (fs : List Faulty) → codes_of_faults es ≡ map (λ f. f.code) fs →
     registration_answer value fs ≡ Some answer → IsRegistrationAnswer (outcome_of (map (λ f. f.state) fs)) value es answer
@@ -37,9 +37,6 @@ whole_registration head r es answer h k =
       filled = e.filled;
       answered = rw (o.0, f.0) (answer_if (ok_value r.op r.state) es answer (faults es) f.1 k);
     }
-
-first_code : (a b : ℕ) (xs ys : List ℕ) → a ∷ xs ≡ b ∷ ys → a ≡ b
-first_code a b xs ys h = cc
 
 no_second : (a b c : ℕ) (xs : List ℕ) → a ∷ (c ∷ xs) ≡ b ∷ [] → ⊥
 no_second a b c xs h = cc

@@ -3,6 +3,7 @@ use Rattle.std.proofs.Common.{◌≡◌, ℕ, ◌+◌, ◌<◌, ◌≤◌, Bool,
 use Rattle.std.specs.Prelude.{pos}
 use Rattle.std.proofs.lemmas.Bool.Decides.{nat_tests}
 use Rattle.std.proofs.lemmas.Bool.{eqb-true}
+use Rattle.hp_states.proofs.Basics.{none_of}
 use Rattle.hp_states.specs.declared.dir.Dir.{Dir}
 use Rattle.hp_states.specs.declared.dir.Dir.TheVariants.{Up, Down}
 use Rattle.hp_states.specs.declared.place.Place.{Place}
@@ -33,7 +34,7 @@ use Rattle.hp_model.proofs.Registrations.{after_it, made_nets, undone_even}
 use Rattle.hp_model.proofs.WalkSteps.{Begin_next}
 use Rattle.hp_model.proofs.Kept.{Balanced, KeptAt, RegistrationKept, Kept}
 use Rattle.hp_model.proofs.CanBegin.{CanBegin}
-use Rattle.hp_model.proofs.InFlight.{none_of, walk_none}
+use Rattle.hp_model.proofs.InFlight.{walk_none}
 use Rattle.hp_model.proofs.Passing.{passed, can_begin, begins_above, begins_alone}
 
 -- while a registration is in flight nothing is claimed of a processor but that no walk of it is
@@ -162,7 +163,7 @@ pub registered_undone : (head : Head) (xs : List Event) (seat : ℕ) (answer : A
 registered_undone head xs seat answer code s fault = rw (registered_push head s xs (RegEnd seat answer), fault) refl
 
 -- the end of a registration leaves every other state
-after_other : (head : Head) (s : ℕ) (answer : Answer) (r : Registration) (found : Option Registered) → eqb r.state s ≡ false →
+pub after_other : (head : Head) (s : ℕ) (answer : Answer) (r : Registration) (found : Option Registered) → eqb r.state s ≡ false →
     after_answer head s answer (Some r) found ≡ found
 after_other head s (Ok value) r found h = rw h refl
 after_other head s answer r found h = refl

@@ -1,6 +1,7 @@
 -- What remains of a tree after some entries, by the ways down it.
 use Rattle.std.proofs.Common.{◌≡◌, Bool, true, false, cond, not, ◌&&◌, eqb, List, [], ◌∷◌, ◌++◌, refl, ap, sym, subst, ◌∙◌}
 use Rattle.std.proofs.lemmas.Bool.{false≢true, eqb-true, eq-eqb, and_parts}
+use Rattle.hp_model.proofs.Bounds.{same_self}
 use Rattle.hp_states.specs.declared.dir.Dir.{Dir}
 use Rattle.hp_states.specs.declared.dir.Dir.TheVariants.{Up, Down}
 use Rattle.hp_states.specs.Rules.{same_dir}
@@ -18,10 +19,6 @@ dir_same Up Down h = absurd (false≢true h)
 dir_same Down Up h = absurd (false≢true h)
 dir_same Down Down h = refl
 
-dir_self : (a : Dir) → same_dir a a ≡ true
-dir_self Up = refl
-dir_self Down = refl
-
 -- an entry fits a slot where it is for it, done or a fault
 fits_of : (s : Slot) (e : Event) (fails : Bool) → is_for s e ≡ true → is_done_call e ≡ not fails → Fits (with_fails s fails) e
 fits_of s (Call seat cpu state inst dir how) fails h k =
@@ -37,7 +34,7 @@ for_of s w (Call seat cpu state inst dir how) h f =
     let b : state ≡ s.state = f.1 ∙ ap (λ z. z.state) h in
     let c : inst ≡ s.inst = f.2 ∙ ap (λ z. z.inst) h in
     let d : dir ≡ s.dir = f.3 ∙ ap (λ z. z.dir) h in
-    (rw (eq-eqb cpu s.cpu a, eq-eqb state s.state b, eq-eqb inst s.inst c, d) (dir_self s.dir), f.4)
+    (rw (eq-eqb cpu s.cpu a, eq-eqb state s.state b, eq-eqb inst s.inst c, d) (same_self s.dir), f.4)
 for_of s w e h f = elim f [ ]
 
 -- what remains is where the entries lead, where that isn't dead

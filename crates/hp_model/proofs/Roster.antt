@@ -4,6 +4,7 @@ use Rattle.std.proofs.Common.{◌≡◌, ℕ, zero, suc, ◌+◌, ◌<◌, Bool,
 use Rattle.std.proofs.lemmas.List.{append-nil}
 use Rattle.std.proofs.lemmas.Bool.{false≢true, eqb-true, eq-eqb, and_parts}
 use Rattle.std.proofs.lemmas.Bool.Decides.{nat_tests}
+use Rattle.hp_states.proofs.Basics.{none_some, same_some}
 use Rattle.hp_event.specs.declared.op.Op.{Op}
 use Rattle.hp_event.specs.declared.event.Role.{Role}
 use Rattle.hp_event.specs.declared.event.Role.TheVariants.{Client, Ap}
@@ -21,7 +22,6 @@ use Rattle.hp_model.specs.Seats.{role_step, role_of, ap_step, ap_seat}
 use Rattle.hp_model.specs.Admissions.{ap_admits, client_admits, admissions}
 use Rattle.hp_model.proofs.Laws.{role_push, ap_push}
 use Rattle.hp_model.proofs.ListLemmas.{occurs-filter, occurs-numbers}
-use Rattle.hp_model.proofs.Owners.{same_some, none_some}
 
 -- who sits in a run
 pub record Roster (head : Head) (actors : List (List Op)) (xs : List Event) : Type 0 where
@@ -30,7 +30,7 @@ pub record Roster (head : Head) (actors : List (List Op)) (xs : List Event) : Ty
   pub threads : (c : ℕ) → is_present head c ≡ true → (k : ℕ) × (ap_seat c xs ≡ Some k)
   pub below : (c k : ℕ) → ap_seat c xs ≡ Some k → k < length (present head)
 
-over_from_append : {S : Type 0} (step : S → List Event → Event → S) (value : S) (before xs ys : List Event) →
+pub over_from_append : {S : Type 0} (step : S → List Event → Event → S) (value : S) (before xs ys : List Event) →
     over_from step value before (xs ++ ys) ≡ over_from step (over_from step value before xs) (before ++ xs) ys
 over_from_append step value before [] ys = rw append-nil refl
 over_from_append step value before (x ∷ xs) ys =
@@ -89,7 +89,7 @@ clients_only k s (ops ∷ more) before found h =
     go b e (inr r) = inr (suc r.0, omega (arith, r.1), omega (arith, r.2))
 
 -- the threads
-threads_past : (c s : ℕ) (actors : List (List Op)) (before : List Event) (found : Option ℕ) →
+pub threads_past : (c s : ℕ) (actors : List (List Op)) (before : List Event) (found : Option ℕ) →
     over_from (ap_step c) found before (client_admits s actors) ≡ found
 threads_past c s [] before found = refl
 threads_past c s (ops ∷ more) before found = threads_past c (s + 1) more (before ++ Admit s Client ∷ []) found

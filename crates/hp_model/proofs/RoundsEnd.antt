@@ -149,7 +149,7 @@ turns_go head actors (j ∷ js) at k s g i d =
     go (inr h) far r =
         subst (λ z. distance at < distance (after_turns head actors z js)) (sym h.2) (r (still (eqb j k) refl h i))
 
-in_numbers : (k n : ℕ) → k < n → 0 < occurs k (numbers n)
+pub in_numbers : (k n : ℕ) → k < n → 0 < occurs k (numbers n)
 in_numbers k n h = rw (occurs-numbers k n) (go n h)
   where
     go : (n : ℕ) → k < n → 0 < cond (ltb k n) 1 0

@@ -1,6 +1,7 @@
 -- What comes next of a thread is in the walk of its processor, and of the seat of an upmany in that whose turn it is.
 use Rattle.std.proofs.Common.{◌≡◌, ℕ, Bool, true, false, ◌&&◌, cond, eqb, is_some, Option, Some, None, List, refl, ap, sym, ◌∙◌, subst, inl, inr, ◌⊎◌}
 use Rattle.std.proofs.lemmas.Bool.{false≢true, eqb-true, eq-eqb, and_parts}
+use Rattle.hp_states.proofs.Basics.{none_some, same_some}
 use Rattle.hp_states.specs.declared.dir.Dir.{Dir}
 use Rattle.hp_event.specs.declared.how.How.{How}
 use Rattle.hp_event.specs.declared.op.Op.{Op}
@@ -28,7 +29,7 @@ use Rattle.hp_model.proofs.DueGives.{due_gives, due_nothing, call_belongs}
 use Rattle.hp_model.proofs.InFlight.{walking_is}
 use Rattle.hp_model.proofs.Kept.{WalkKept}
 use Rattle.hp_model.proofs.NextGives.{next_gives}
-use Rattle.hp_model.proofs.Owners.{Owners, same_some, none_some}
+use Rattle.hp_model.proofs.Owners.{Owners}
 use Rattle.hp_model.proofs.Passing.{find_holds}
 use Rattle.hp_model.proofs.SomeMoves.{facts, entered_op}
 use Rattle.hp_model.proofs.Stages.{called_by, ap_no_client}

@@ -1,9 +1,9 @@
 -- One event more of those that a loop over a journal has read.
 use Rattle.std.proofs.Common.{◌≡◌, ℕ, ◌+◌, ◌<◌, Bool, cond, Option, Some, None, List, [], ◌∷◌, ◌++◌, length, take, get_or, refl, ap, sym, ◌∙◌, add-one, append_assoc}
 use Rattle.std.specs.Prelude.{option_map}
-use Rattle.std.proofs.Math.Seq.{take-suc}
 use Rattle.std.specs.Prelude.{flat_map}
 use Rattle.std.proofs.lemmas.List.{append-nil}
+use Rattle.hp_states.proofs.Basics.{take_at}
 use Rattle.hp_states.specs.declared.limits.TheConstants.{ONLINE}
 use Rattle.hp_event.specs.declared.head.Head.{Head}
 use Rattle.hp_model.specs.Lists.{numbers}
@@ -22,34 +22,31 @@ use Rattle.hp_model.specs.Net.{keys_at, registered_keys}
 use Rattle.hp_model.proofs.Counts.{done_entries_push}
 use Rattle.hp_model.proofs.Laws.{settled_push, walk_push, registered_push, registration_push}
 
-pub take_next : {A : Type 0} (xs : List A) (j : ℕ) (x : A) → j < length xs → take (j + 1) xs ≡ take j xs ++ get_or xs j x ∷ []
-take_next xs j x h = rw (add-one j) (take-suc xs j x h)
-
 pub counted : (c s i : ℕ) (d : Dir) (xs : List Event) (j : ℕ) (x : Event) (b : Bool) → j < length xs →
     b ≡ is_done_entry c s i d (get_or xs j x) →
     done_entries c s i d (take (j + 1) xs) ≡ done_entries c s i d (take j xs) + cond b 1 0
 counted c s i d xs j x b h e =
-    rw (take_next xs j x h, e) (done_entries_push c s i d (take j xs) (get_or xs j x))
+    rw (take_at xs j x h, e) (done_entries_push c s i d (take j xs) (get_or xs j x))
 
 pub settled_next : (c : ℕ) (xs : List Event) (j : ℕ) (x : Event) (at now : ℕ) → j < length xs → at ≡ settled c (take j xs) →
     now ≡ settled_step c at (take j xs) (get_or xs j x) → now ≡ settled c (take (j + 1) xs)
 settled_next c xs j x at now h e n =
-    rw (take_next xs j x h, settled_push c (take j xs) (get_or xs j x), ← e) n
+    rw (take_at xs j x h, settled_push c (take j xs) (get_or xs j x), ← e) n
 
 pub walk_next : (c : ℕ) (xs : List Event) (j : ℕ) (x : Event) (to : Option ℕ) → j < length xs →
     to ≡ option_map (λ w. w.to) (walk_step c (walk c (take j xs)) (take j xs) (get_or xs j x)) →
     to ≡ option_map (λ w. w.to) (walk c (take (j + 1) xs))
-walk_next c xs j x to h n = rw (take_next xs j x h, walk_push c (take j xs) (get_or xs j x)) n
+walk_next c xs j x to h n = rw (take_at xs j x h, walk_push c (take j xs) (get_or xs j x)) n
 
 -- what the loops over states and events keep
 pub registered_next : (head : Head) (s : ℕ) (xs : List Event) (j : ℕ) (x : Event) → j < length xs →
     registered head s (take (j + 1) xs)
     ≡ registered_step head s (registered head s (take j xs)) (take j xs) (get_or xs j x)
-registered_next head s xs j x h = rw (take_next xs j x h) (registered_push head s (take j xs) (get_or xs j x))
+registered_next head s xs j x h = rw (take_at xs j x h) (registered_push head s (take j xs) (get_or xs j x))
 
 pub registration_next : (xs : List Event) (j : ℕ) (x : Event) → j < length xs →
     registration (take (j + 1) xs) ≡ registration_step (registration (take j xs)) (take j xs) (get_or xs j x)
-registration_next xs j x h = rw (take_next xs j x h) (registration_push (take j xs) (get_or xs j x))
+registration_next xs j x h = rw (take_at xs j x h) (registration_push (take j xs) (get_or xs j x))
 
 flat_map_push : {A B : Type 0} (f : A → List B) (xs : List A) (x : A) → flat_map f (xs ++ x ∷ []) ≡ flat_map f xs ++ f x
 flat_map_push f [] x = append-nil (f x)

@@ -2,6 +2,7 @@
 -- a registration. No two of them are possible at once.
 use Rattle.std.proofs.Common.{◌≡◌, ℕ, ℤ, Bool, true, false, cond, Option, Some, None, List, refl, sym, ◌∙◌, inl, inr, ◌⊎◌}
 use Rattle.std.proofs.lemmas.Bool.{true≢false, false≢true}
+use Rattle.hp_states.proofs.Basics.{none_some, not_equal, same_some}
 use Rattle.hp_event.specs.declared.op.Op.{Op}
 use Rattle.hp_event.specs.declared.op.Op.TheVariants.{Lock, Unlock, Arm, ShowState, ShowTarget, ShowFail, ShowStates}
 use Rattle.hp_event.specs.declared.event.File.{File}
@@ -30,7 +31,7 @@ use Rattle.hp_model.specs.StandsRegistrations.{RegEnds}
 use Rattle.hp_model.specs.Lawful.{Comes, Stands}
 use Rattle.hp_model.proofs.BatchLemmas.{between_rest}
 use Rattle.hp_model.proofs.Kept.{Kept, WalkKept}
-use Rattle.hp_model.proofs.Owners.{Owners, same_some, none_some, idle_op, idle_reg, not_self}
+use Rattle.hp_model.proofs.Owners.{Owners, idle_op, idle_reg}
 
 -- the first event of an operation: its refusal, or its begin
 abbrev pub begin_of : Head → List Event → (seat : ℕ) → Op → (takes_map : Bool) → Event
@@ -253,7 +254,7 @@ ap_no_client xs c k o a r = not_both c (sym (o.ap_role c k a) ∙ r)
 
 pub before_between : (head : Head) (xs : List Event) (k : ℕ) (op : Op) (e f : Event) → Before head xs k op e →
     Between head xs k f → ⊥
-before_between head xs k op e f h b = not_self b.of.seat k (idle_op xs k b.of h.idle b.held) b.seat_is
+before_between head xs k op e f h b = not_equal b.of.seat k (idle_op xs k b.of h.idle b.held) b.seat_is
 
 pub before_walk : (head : Head) (xs : List Event) (k : ℕ) (op : Op) (e f : Event) → Owners xs → Before head xs k op e →
     OnWalk head xs k f → ⊥
@@ -261,7 +262,7 @@ before_walk head xs k op e f o h w = go w.by
   where
     go : (w.of.seat ≡ k) ⊎ (ap_seat w.cpu xs ≡ Some k) → ⊥
     go (inl s) =
-        let p = o.walk_op w.cpu w.of w.in_flight in not_self p.0.seat k (idle_op xs k p.0 h.idle p.1) (p.2 ∙ s)
+        let p = o.walk_op w.cpu w.of w.in_flight in not_equal p.0.seat k (idle_op xs k p.0 h.idle p.1) (p.2 ∙ s)
     go (inr a) = ap_no_client xs w.cpu k o a h.client
 
 pub before_registration : (head : Head) (xs : List Event) (k : ℕ) (op : Op) (e f : Event) → Owners xs → Before head xs k op e →
@@ -269,7 +270,7 @@ pub before_registration : (head : Head) (xs : List Event) (k : ℕ) (op : Op) (e
 before_registration head xs k op e f o h w = go w.by
   where
     go : (w.of.seat ≡ k) ⊎ (ap_seat w.cpu xs ≡ Some k) → ⊥
-    go (inl s) = not_self w.of.seat k (idle_reg xs k w.of h.idle w.in_flight) s
+    go (inl s) = not_equal w.of.seat k (idle_reg xs k w.of h.idle w.in_flight) s
     go (inr a) = ap_no_client xs w.cpu k o a h.client
 
 pub between_registration : (head : Head) (xs : List Event) (k : ℕ) (e f : Event) → Owners xs → Between head xs k e →

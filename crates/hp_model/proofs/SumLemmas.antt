@@ -4,6 +4,7 @@ use Rattle.std.specs.List.{filter}
 use Rattle.std.proofs.lemmas.List.Sums.{sum_by-cons}
 use Rattle.std.proofs.lemmas.Bool.{eqb-true}
 use Rattle.std.proofs.lemmas.Bool.Decides.{nat_tests}
+use Rattle.hp_states.proofs.Basics.{unequal_turned}
 use Rattle.hp_model.specs.Lists.{occurs, among, without, numbers}
 use Rattle.hp_model.proofs.ListLemmas.{occurs-filter, once_in}
 
@@ -24,9 +25,6 @@ sum_same f g (x ∷ xs) h =
     let e = h x in
     omega arith
 
-flip : (a b : ℕ) → eqb a b ≡ false → eqb b a ≡ false
-flip a b h = grind (arith, nat_tests)
-
 -- none of the summands that changed is there
 sum_without : (c : ℕ) (f g : ℕ → ℕ) (xs : List ℕ) → occurs c xs ≡ 0 → ((o : ℕ) → eqb c o ≡ false → f o ≡ g o) →
     sum_by f xs ≡ sum_by g xs
@@ -40,7 +38,7 @@ sum_without c f g (x ∷ xs) none h = go (eqb x c) refl none (λ n. sum_without 
         let a = sum_by-cons f x xs in
         let b = sum_by-cons g x xs in
         let r = rest (omega arith) in
-        let s = h x (flip x c e) in
+        let s = h x (unequal_turned x c e) in
         omega arith
 
 -- one summand changes
@@ -63,7 +61,7 @@ sum_changed c f g (x ∷ xs) one h = go (eqb x c) refl one (λ n. sum_changed c 
         let a = sum_by-cons f x xs in
         let b = sum_by-cons g x xs in
         let r = rest (omega arith) in
-        let s = h x (flip x c e) in
+        let s = h x (unequal_turned x c e) in
         omega arith
 
 pub length-without : (i : ℕ) (xs : List ℕ) → length (without i xs) + occurs i xs ≡ length xs

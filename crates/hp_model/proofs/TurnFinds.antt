@@ -1,6 +1,7 @@
 -- What a turn of a client's seat finds: an event, no room, a wait, or a thread's entry.
 use Rattle.std.proofs.Common.{◌≡◌, ℕ, Bool, true, false, not, ◌&&◌, ◌||◌, eqb, ltb, Option, Some, None, List, [], ◌∷◌, refl, ap, sym, ◌∙◌, inl, inr, ◌⊎◌}
 use Rattle.std.proofs.lemmas.Bool.{false≢true, eqb-true, eq-eqb, and_parts}
+use Rattle.hp_states.proofs.Basics.{same_some}
 use Rattle.hp_event.specs.declared.op.Op.{Op}
 use Rattle.hp_event.specs.declared.answer.Answer.TheVariants.{LogFull}
 use Rattle.hp_event.specs.declared.head.Head.{Head}
@@ -29,7 +30,6 @@ use Rattle.hp_model.specs.Turns.{TurnFinds}
 use Rattle.hp_model.proofs.InFlight.{walking_is}
 use Rattle.hp_model.proofs.WaitLemmas.{first_among}
 use Rattle.hp_model.proofs.Kept.{WalkKept, RegistrationKept}
-use Rattle.hp_model.proofs.Owners.{same_some}
 use Rattle.hp_model.proofs.NextOfWalk.{EndsNext, EntryNext, ends_with, walk_next}
 use Rattle.hp_model.proofs.BatchLemmas.{between_rest}
 use Rattle.hp_model.proofs.TurnLemmas.{single_brings, single_held_up, single_turn, held_up_is, Lowest, lowest_is}

@@ -5,6 +5,7 @@ use Rattle.hp_event.specs.declared.head.Head.{Head}
 use Rattle.hp_event.specs.declared.event.Event.{Event}
 use Rattle.hp_event.specs.declared.event.Event.TheVariants.{Call, WalkEnd}
 use Rattle.std.specs.Prelude.{find}
+use Rattle.hp_states.proofs.Basics.{none_some, same_some, and_false}
 use Rattle.hp_model.specs.Lists.{is_empty, occurs, among, numbers}
 use Rattle.hp_model.specs.Events.{seat_of}
 use Rattle.hp_model.specs.Walks.{Walk, walk, walking, is_walking}
@@ -18,12 +19,8 @@ use Rattle.hp_model.proofs.ListLemmas.{occurs-numbers, in_filter, into_filter, o
 use Rattle.hp_model.proofs.InFlight.{walking_is, walk_none}
 use Rattle.hp_model.proofs.BatchLemmas.{upmany_moves}
 use Rattle.hp_model.proofs.Passing.{find_holds}
-use Rattle.hp_model.proofs.Owners.{Owners, same_some, none_some, alone_at}
+use Rattle.hp_model.proofs.Owners.{Owners, alone_at}
 use Rattle.hp_model.proofs.Stages.{WalkEvent, Between, OnWalk, ap_no_client}
-
-and_false : (b : Bool) → (b && false) ≡ false
-and_false true = refl
-and_false false = refl
 
 -- a processor's thread and an operation that isn't an upmany have every turn
 pub thread_turn : (head : Head) (xs : List Event) (c d k : ℕ) → Owners xs → ap_seat c xs ≡ Some k → has_turn head xs k d ≡ true

@@ -2,6 +2,7 @@
 -- them has it.
 use Rattle.std.proofs.Common.{◌≡◌, ℕ, ◌+◌, ◌<◌, ◌≤◌, Bool, true, false, cond, eqb, ltb, Option, Some, None, List, [], ◌∷◌, refl, ap, sym, ◌∙◌, arith}
 use Rattle.std.proofs.lemmas.Bool.{true≢false, eqb-true, ltb-true, ltb-false}
+use Rattle.hp_states.proofs.Basics.{same_some}
 use Rattle.hp_event.specs.declared.head.Head.{Head}
 use Rattle.hp_event.specs.declared.event.Event.{Event}
 use Rattle.hp_model.specs.Lists.{occurs, among}
@@ -9,7 +10,6 @@ use Rattle.hp_model.specs.Batch.{to_begin}
 use Rattle.hp_model.specs.BatchQueue.{RiseBy, IsQueue, first}
 use Rattle.hp_model.specs.BatchTurn.{last_event, own_walks, earlier, earliest, if_empty, turn_of}
 use Rattle.hp_model.proofs.ListLemmas.{is_among, occurs_among, once_in}
-use Rattle.hp_model.proofs.Owners.{same_some}
 use Rattle.hp_model.proofs.TurnLemmas.{earliest_in}
 
 -- the earliest is no later than any

@@ -6,6 +6,7 @@ use Rattle.std.specs.Prelude.{option_map}
 use Rattle.std.proofs.lemmas.List.{append-nil}
 use Rattle.std.proofs.lemmas.Bool.{true≢false, false≢true, eqb-true, eq-eqb}
 use Rattle.std.proofs.lemmas.Bool.Decides.{nat_tests}
+use Rattle.hp_states.proofs.Basics.{none_some, same_some}
 use Rattle.hp_states.specs.declared.dir.Dir.{Dir}
 use Rattle.hp_states.specs.declared.place.Place.{Place}
 use Rattle.hp_states.specs.Sections.{is_ap_state}
@@ -39,7 +40,7 @@ use Rattle.hp_model.specs.NextInWalk.{walk_left, event_of_walk, next_of_walk}
 use Rattle.hp_model.specs.BatchTurn.{last_step, last_event, is_by, own_walks, earlier, earliest, if_empty, turn_of}
 use Rattle.hp_model.proofs.ListLemmas.{in_filter}
 use Rattle.hp_model.proofs.Laws.{over_from_push, walk_push, walk_entries_push, walking_push, begun_push, operation_push}
-use Rattle.hp_model.proofs.Owners.{Owners, owners_step, same_some, none_some, map_free}
+use Rattle.hp_model.proofs.Owners.{Owners, owners_step, map_free}
 use Rattle.hp_model.proofs.Stages.{ap_no_client}
 use Rattle.hp_model.proofs.WalkGives as by_walk
 use Rattle.hp_model.proofs.BatchLemmas.{walking_begun}
@@ -94,7 +95,7 @@ last_before c w (x ∷ xs) h = go (last_within c (x ∷ xs))
 
 -- ---- whose the next event of a walk is
 
-not_presumed : (head : Head) (xs : List Event) (c s i : ℕ) (d : Dir) (p : Place) (first : Bool) →
+pub not_presumed : (head : Head) (xs : List Event) (c s i : ℕ) (d : Dir) (p : Place) (first : Bool) →
     is_presumed (how_in_walk head xs c s i d p first) ≡ false
 not_presumed head xs c s i d p first =
     called (has_callback (sub_at head s xs) d) (takes_fault xs c s d p first) (can_fail d s p) (answer_at head xs c s i d)

@@ -1,6 +1,7 @@
 -- What a turn makes in a run of a script.
 use Rattle.std.proofs.Common.{◌≡◌, ℕ, ◌+◌, ◌-◌, Bool, true, false, cond, ltb, Option, Some, None, List, [], ◌∷◌, ◌++◌, length, refl, ap, sym, ◌∙◌, subst, inl, inr, arith}
 use Rattle.std.proofs.lemmas.Bool.{false≢true, ltb-false}
+use Rattle.hp_states.proofs.Basics.{none_some}
 use Rattle.hp_event.specs.declared.op.Op.{Op}
 use Rattle.hp_event.specs.declared.head.Head.{Head}
 use Rattle.hp_event.specs.declared.event.Event.{Event}
@@ -12,7 +13,6 @@ use Rattle.hp_model.specs.Scripts.{IsScript}
 use Rattle.hp_model.specs.ScriptTurns.{RunState, unanswered, counted, after_entry, after_event, after_asking, turn, after_turns}
 use Rattle.hp_model.specs.ScriptRun.{start}
 use Rattle.hp_model.specs.TurnMakes.{task, CanTake, LacksRoom, TurnMakes}
-use Rattle.hp_model.proofs.Owners.{none_some}
 use Rattle.hp_model.proofs.DueGives.{due_stands, due_gives}
 use Rattle.hp_model.proofs.NextStands.{next_stands, next_belongs}
 use Rattle.hp_model.proofs.NextGives.{next_gives, full_only, full_exactly}

@@ -2,6 +2,7 @@
 use Rattle.std.proofs.Common.{◌≡◌, ℕ, ◌+◌, Bool, true, false, not, ◌&&◌, ◌||◌, cond, eqb, ltb, is_some, Option, Some, None, List, [], ◌∷◌, refl, ap, sym, ◌∙◌, arith}
 use Rattle.std.proofs.lemmas.Bool.{eq-eqb, false≢true, or_parts}
 use Rattle.std.proofs.lemmas.Bool.Decides.{nat_tests}
+use Rattle.hp_states.proofs.Basics.{none_of}
 use Rattle.hp_event.specs.declared.event.Event.{Event}
 use Rattle.hp_model.specs.Lists.{is_empty, occurs, among}
 use Rattle.hp_model.specs.Walks.{Walk, walk, walking, is_walking}
@@ -11,7 +12,7 @@ use Rattle.hp_model.specs.Readers.{readers, is_read}
 use Rattle.hp_model.specs.Suspend.{held_by}
 use Rattle.hp_model.specs.Batch.{begun, is_upmany, is_batch_begun}
 use Rattle.hp_model.specs.Waits.{Wait, writer_in, first_wait, wait_for_map, wait_for_readers, wait_for_registration, wait_for_walk, wait_for_batch, wait_for_writer, wait_to_register, wait_to_walk}
-use Rattle.hp_model.proofs.InFlight.{walking_is, none_of}
+use Rattle.hp_model.proofs.InFlight.{walking_is}
 
 pub map_waits : (o : Option Operation) → is_some (wait_for_map o) ≡ is_some o
 map_waits None = refl

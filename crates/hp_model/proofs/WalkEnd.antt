@@ -1,6 +1,7 @@
 -- The end of a walk: the entries that lead to the end of the plan, with the answer of their faults, are a whole walk.
 use Rattle.std.proofs.Common.{◌≡◌, ℕ, Bool, true, false, cond, not, Some, List, [], ◌∷◌, map, refl, sym, ◌∙◌}
 use Rattle.std.proofs.lemmas.Bool.{true≢false, false≢true}
+use Rattle.hp_states.proofs.Basics.{none_some, same_some}
 use Rattle.hp_states.specs.declared.dir.Dir.{Dir}
 use Rattle.hp_event.specs.declared.answer.Answer.{Answer}
 use Rattle.hp_event.specs.declared.how.How.{How}
@@ -14,7 +15,6 @@ use Rattle.hp_model.specs.Faults.{Faulty, faults, walk_answer}
 use Rattle.hp_model.proofs.Cursor.{StandsAt, end_of_walk}
 use Rattle.hp_model.proofs.NextSlot.{stop}
 use Rattle.hp_model.proofs.Failing.{failing, outcome_of, shape_outcome}
-use Rattle.hp_model.proofs.Owners.{same_some, none_some}
 
 -- the faults among the entries that fill some slots
 pub fill_faults : (xs : List Slot) (es : List Event) → Fill xs es →
@@ -68,7 +68,7 @@ whole_walk c K d p es answer h k =
     }
 
 -- and the other way round: the answer of a whole walk is that of its faults
-first_code : (a b : ℕ) (xs ys : List ℕ) → a ∷ xs ≡ b ∷ ys → a ≡ b
+pub first_code : (a b : ℕ) (xs ys : List ℕ) → a ∷ xs ≡ b ∷ ys → a ≡ b
 first_code a b xs ys h = cc
 
 second_code : (a b c e : ℕ) (xs ys : List ℕ) → a ∷ (c ∷ xs) ≡ b ∷ (e ∷ ys) → c ≡ e

@@ -1,12 +1,14 @@
 -- The keys in force on a processor, as a list: of every journal by counting, and at rest by what is registered.
 -- This project's own.
-use Rattle.std.specs.Prelude.{◌≡◌, ℕ, true, ◌↔◌, List, AllPairs, Contains}
+use Rattle.std.specs.Prelude.{◌≡◌, ℕ, true, ◌↔◌, None, List, AllPairs, Contains}
 use Rattle.hp_event.specs.declared.key.Key.{Key}
 use Rattle.hp_event.specs.declared.head.Head.{Head}
 use Rattle.hp_event.specs.declared.event.Event.{Event}
 use Rattle.hp_model.specs.InForce.{IsInForce}
+use Rattle.hp_model.specs.Walks.{walk}
+use Rattle.hp_model.specs.Registrations.{registration}
 use Rattle.hp_model.specs.Settled.{settled}
-use Rattle.hp_model.specs.Net.{is_before}
+use Rattle.hp_model.specs.Net.{is_before, keys_in_force}
 use Rattle.hp_model.specs.Headline.{IsRegisteredUpTo}
 
 -- each key is before all later ones, so that each is there once
@@ -25,3 +27,8 @@ pub record AreKeysInForce (cpu : ℕ) (events : List Event) (keys : List Key) : 
 pub record AreKeysAtRest (head : Head) (cpu : ℕ) (events : List Event) (keys : List Key) : Type 0 where
   pub rising : AreRising keys
   pub registered : (s i : ℕ) → HasKey keys s i ↔ IsRegisteredUpTo head events (settled cpu events) s i
+
+-- where the processor doesn't walk and no registration is in flight, the keys in force on it are those
+abbrev pub RestsWithKeys : Head → (cpu : ℕ) → List Event → Type 0
+RestsWithKeys head c events =
+    walk c events ≡ None → registration events ≡ None → AreKeysAtRest head c events (keys_in_force c events)

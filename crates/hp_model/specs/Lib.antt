@@ -51,6 +51,7 @@ pub mod StandsFiles
 pub mod Lawful
 pub mod BatchQueue
 pub mod SeatNext
+pub mod PromisesKept
 pub mod Lent
 pub mod Full
 pub mod Pending
@@ -62,6 +63,8 @@ pub mod UnderWay
 pub mod NoUpmany
 pub mod FirstEvent
 pub mod NextEvent
+pub mod Due
+pub mod NextFound
 pub mod Net
 pub mod Found
 pub mod Admissions
@@ -74,6 +77,7 @@ pub mod WithoutEvent
 pub mod Distance
 pub mod Scripts
 pub mod TurnMakes
+pub mod AnyTurns
 pub mod Own
 pub mod Completes
 pub mod Headline

@@ -34,3 +34,7 @@ abbrev pub CanMove : Head → List Event → List Pending → Type 0
 CanMove head events pending =
     ((e : Event) × Stands head events e × (IsOfPending pending e ⊎ IsOfThread events e))
     ⊎ ((p : Pending) × Contains pending p × IsFull head events p.seat p.op)
+
+-- whatever operations are left, one of them can move
+abbrev pub SomeSeatCanMove : Head → List Event → Type 0
+SomeSeatCanMove head events = (pending : List Pending) → ArePending head events pending → CanMove head events pending

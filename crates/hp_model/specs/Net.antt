@@ -35,8 +35,12 @@ is_key_in_force c events k = nat_lt (downs c k.state k.inst events) (ups c k.sta
 unfoldable pub keys_in_force : (cpu : ℕ) → List Event → List Key
 keys_in_force c events = filter (is_key_in_force c events) (entered c events)
 
+-- the keys of a state with these instances
+abbrev pub keys_with : (state : ℕ) → (insts : List ℕ) → List Key
+keys_with s insts = map (λ i. record { state = s; inst = i }) insts
+
 abbrev pub keys_at : Head → List Event → (state : ℕ) → List Key
-keys_at head events s = map (λ i. record { state = s; inst = i }) (keys head events s)
+keys_at head events s = keys_with s (keys head events s)
 
 -- the registered keys
 unfoldable pub registered_keys : Head → List Event → List Key

@@ -1,9 +1,10 @@
 -- Seats: who is in, with which role, and which of them have an operation in flight. This project's own.
-use Rattle.std.specs.Prelude.{ℕ, ◌+◌, ◌≡◌, Bool, false, ◌==◌, ◌||◌, if◌then◌else◌, Option, Some, None, List, [], ◌∷◌, ◌++◌}
+use Rattle.std.specs.Prelude.{ℕ, ◌+◌, ◌≡◌, ◌≢◌, ◌≤◌, All, Bool, false, ◌==◌, ◌||◌, if◌then◌else◌, Option, Some, None, List, [], ◌∷◌, ◌++◌}
 use Rattle.hp_event.specs.declared.event.Role.{Role}
 use Rattle.hp_event.specs.declared.event.Role.TheVariants.{Client, Ap}
 use Rattle.hp_event.specs.declared.event.Event.{Event}
 use Rattle.hp_event.specs.declared.event.Event.TheVariants.{Admit, Leave}
+use Rattle.hp_event.specs.Events.{seat_of}
 use Rattle.hp_model.specs.Journal.{over}
 use Rattle.hp_model.specs.Lists.{without}
 use Rattle.hp_model.specs.MapLock.{Operation, operation}
@@ -68,3 +69,7 @@ is_busy k events = holds_map k (operation events) || registers k (registration e
 pub record IsFree (events : List Event) (seat : ℕ) : Type 0 where
   pub client : role_of seat events ≡ Some Client
   pub idle : is_busy seat events ≡ false
+
+-- no event is of a seat that wasn't let in: neither of the next one nor of any above it
+abbrev pub NoneOfLaterSeats : List Event → Type 0
+NoneOfLaterSeats events = (seat : ℕ) → admits events ≤ seat → All (λ e. seat_of e ≢ seat) events

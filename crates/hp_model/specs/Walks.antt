@@ -1,6 +1,6 @@
 -- Walks in flight, one for each processor at most, and their entries. After `cpuhp_up_callbacks` and
 -- `cpuhp_down_callbacks` of `kernel/cpu.c`, between `cpus_write_lock` and `cpus_write_unlock`.
-use Rattle.std.specs.Prelude.{ℕ, Bool, true, false, not, ◌==◌, if◌then◌else◌, is_some, Option, Some, None, List, [], ◌∷◌, ◌++◌}
+use Rattle.std.specs.Prelude.{◌≡◌, ℕ, Bool, true, false, not, ◌==◌, if◌then◌else◌, is_some, Option, Some, None, List, [], ◌∷◌, ◌++◌}
 use Rattle.hp_event.specs.declared.event.Event.{Event}
 use Rattle.hp_event.specs.declared.event.Event.TheVariants.{WalkBegin, Call, WalkEnd}
 use Rattle.hp_model.specs.Journal.{over}
@@ -22,6 +22,10 @@ walk_step c found before _ = found
 -- the walk of a processor that has begun and not ended
 unfoldable pub walk : (cpu : ℕ) → List Event → Option Walk
 walk c events = over (walk_step c) None events
+
+-- no processor walks
+abbrev pub NobodyWalks : List Event → Type 0
+NobodyWalks events = (cpu : ℕ) → walk cpu events ≡ None
 
 abbrev pub entries_step : (cpu : ℕ) → List Event → List Event → Event → List Event
 entries_step c found before (WalkBegin seat cpu from to) = if cpu == c then [] else found

@@ -15,13 +15,14 @@
 //! 6. `Errands`, `NextInWalk`, `BatchTurn`: what comes next in a walk, and whose turn it is in an upmany.
 //!    `SeatNext`, `BatchQueue`: how that is found. `StandsCalls`, `StandsSeats`, `StandsOperations`,
 //!    `StandsRegistrations`, `StandsFiles`, and `Lawful`: which event stands after which events.
-//! 7. `Headline`, `OneWalk`, `NoUpmany`, `Keys`, `Front`, `Own`, `Completes`: what holds of every lawful
-//!    journal.
+//! 7. `Headline`, `OneWalk`, `NoUpmany`, `Keys`, `Front`, `Own`, `Completes`, `PromisesKept`: what holds of
+//!    every lawful journal.
 //! 8. `Pending`, `SeatWaits`, `ApTurn`, `Full`, `Turns`, `Moves`: what a turn finds, and that some seat
 //!    can move. `Trees`, `Remaining`, `UnderWay`, `FirstEvent`, `NextEvent`: what comes next, found by
-//!    functions.
+//!    functions. `Due`, `NextFound`: that what they find is what stands.
 //! 9. `Scripts`, `Admissions`, `Tasks`, `ScriptTurns`, `ScriptRun`, `Draws`, `Schedule`, `TurnMakes`,
-//!    `WithoutEvent`, `Distance`: the run of a script by its schedule.
+//!    `WithoutEvent`, `Distance`: the run of a script by its schedule. `AnyTurns`: what is so of it after any
+//!    turns.
 //! 10. `Listed`, `SetOf`: sets of processors as they are written. `EventLine`, `JournalText`, `Summary`: the
 //!     texts.
 //!
@@ -29,45 +30,33 @@
 //! `net_of` and its kin compute a notion from the events alone, slowly, for tests.
 #![tactic(auto)]
 
-ghost use Rattle.std.specs.Prelude.{◌≡◌, ◌≢◌, ◌↔◌, ◌⊎◌, ℕ, ◌+◌, ◌<◌, ◌≤◌, None, Some, true, false, List, [], ◌∷◌, ◌++◌, length, get_or, sum_by, All};
-ghost use Rattle.hp_event.specs.declared.op.Op.{Op as AnOp};
-ghost use Rattle.hp_event.specs.declared.event.Event.{Event as AnEvent};
+ghost use Rattle.std.specs.Prelude.{◌≡◌, ◌↔◌, ℕ, ◌+◌, ◌<◌, ◌≤◌, false, [], ◌∷◌, ◌++◌, length, All};
 ghost use Rattle.hp_event.specs.declared.event.Event.TheVariants.{Leave};
-ghost use Rattle.hp_model.specs.Processors.{present};
 ghost use Rattle.hp_model.specs.Heads.{IsHead};
-ghost use Rattle.hp_model.specs.Needs.{need, taken};
-ghost use Rattle.hp_model.specs.Promised.{promised, given_back};
+ghost use Rattle.hp_model.specs.Promised.{promised};
+ghost use Rattle.hp_model.specs.PromisesKept.{BalancesPromises, FitsIn, FindsPromise};
 ghost use Rattle.hp_model.specs.StandsCalls.{IsIdle};
-ghost use Rattle.hp_model.specs.Lawful.{Comes, Stands, IsLawful};
-ghost use Rattle.hp_model.specs.Pending.{Pending, IsAllowed};
-ghost use Rattle.hp_model.specs.Turns.{IsKeptWaiting, NeedsThread, TurnFinds, FindsOne};
-ghost use Rattle.hp_model.specs.Full.{IsFull};
-ghost use Rattle.hp_model.specs.Lent.{arms_walker, calls_beside, cpu_of};
-ghost use Rattle.hp_model.specs.BatchQueue.{IsQueue, first, is_own, queue_after};
+ghost use Rattle.hp_model.specs.Lawful.{Stands, IsLawful};
+ghost use Rattle.hp_model.specs.Turns.{TurnFinds, FindsOne, EachAllowed, AreOneNext};
+ghost use Rattle.hp_model.specs.BatchQueue.{IsQueue, FirstHasTurn, QueueMoves, QueueFits, KeepsTurn};
 ghost use Rattle.hp_model.specs.SeatNext.{IsThreadsDue, IsHoldersDue, IsHoldersNext, IsHoldersWait};
-ghost use Rattle.hp_model.specs.NextEvent.{due_entry as due_entry_of, next_event as next_event_of, is_full as is_full_of};
-ghost use Rattle.hp_model.specs.Moves.{ArePending, CanMove};
-ghost use Rattle.hp_model.specs.Walks.{walk};
-ghost use Rattle.hp_model.specs.Registrations.{registration};
-ghost use Rattle.hp_model.specs.MapLock.{Operation, operation};
-ghost use Rattle.hp_model.specs.BatchTurn.{turn_of};
+ghost use Rattle.hp_model.specs.Due.{OwesNothing, StandsWhereOwed, IsOwedWhereItStands, StaysDue, AreOneOnProcessor, AreOneButInUpmany};
+ghost use Rattle.hp_model.specs.NextFound.{StandsWhereNext, FindsEvent, FindsNone, FindsFull};
+ghost use Rattle.hp_model.specs.Moves.{SomeSeatCanMove};
+ghost use Rattle.hp_model.specs.Walks.{NobodyWalks};
+ghost use Rattle.hp_model.specs.MapLock.{operation};
 ghost use Rattle.hp_model.specs.Suspend.{held_by};
-ghost use Rattle.hp_model.specs.Batch.{is_upmany, to_begin};
+ghost use Rattle.hp_model.specs.Batch.{is_upmany};
 ghost use Rattle.hp_model.specs.Net.{keys_in_force as keys_in_force_of};
 ghost use Rattle.hp_model.specs.Headline.{Headline};
 ghost use Rattle.hp_model.specs.Completes.{Completes};
 ghost use Rattle.hp_model.specs.OneWalk.{WalksAlone};
 ghost use Rattle.hp_model.specs.NoUpmany.{IsPlain, IsNoUpmany};
-ghost use Rattle.hp_model.specs.Keys.{AreKeysInForce, AreKeysAtRest};
-ghost use Rattle.hp_model.specs.Events.{seat_of, is_call, answered, BelongsTo};
-ghost use Rattle.hp_model.specs.Scripts.{IsScript};
-ghost use Rattle.hp_model.specs.ScriptTurns.{unanswered, turn, after_turns};
-ghost use Rattle.hp_model.specs.ScriptRun.{start, is_over, after_round, IsRun};
+ghost use Rattle.hp_model.specs.Keys.{AreKeysInForce, RestsWithKeys};
+ghost use Rattle.hp_model.specs.ScriptRun.{IsSomeRun, RunsAreOne};
 ghost use Rattle.hp_model.specs.Draws.{draws};
-ghost use Rattle.hp_model.specs.TurnMakes.{TurnMakes};
-ghost use Rattle.hp_model.specs.WithoutEvent.{answered_without_event};
-ghost use Rattle.hp_model.specs.Distance.{distance};
-ghost use Rattle.hp_model.specs.Seats.{admits};
+ghost use Rattle.hp_model.specs.AnyTurns.{EachScript, MayAsk, EachTurnMakes, AnswersAreShown, RoundsGoOn, IsNoFurther, HasRun, StaysOver};
+ghost use Rattle.hp_model.specs.Seats.{NoneOfLaterSeats};
 
 mod lists;
 mod net;
@@ -121,9 +110,7 @@ pub fn keys_in_force(events: &[Event], cpu: u32)
 /// force on it are, as a list, those that are registered at or below the state where it stands.
 #[tactic(auto, using(crate::proofs::KeyLaw::keys_at_rest))]
 pub fn keys_at_rest(head: &Head, events: &[Event], cpu: u32)
-    ensures { IsLawful head.now events.now →
-        walk cpu events.now ≡ None → registration events.now ≡ None →
-        AreKeysAtRest head.now cpu events.now (keys_in_force_of cpu events.now) }
+    ensures { IsLawful head.now events.now → RestsWithKeys head.now cpu events.now }
 {}
 
 /// A front of a lawful journal is lawful.
@@ -142,11 +129,7 @@ pub fn lawful_more(head: &Head, before: &[Event], event: &Event)
 /// After a lawful journal at most one event of a seat's operation can stand next, and of a
 /// processor's seat at most one entry.
 pub fn one_next(head: &Head, before: &[Event], op: &Op, one: &Event, other: &Event)
-    ensures { IsLawful head.now before.now →
-        Stands head.now before.now one.now → Stands head.now before.now other.now →
-        seat_of one.now ≡ seat_of other.now →
-        BelongsTo op.now one.now → BelongsTo op.now other.now →
-        one.now ≡ other.now }
+    ensures { IsLawful head.now before.now → AreOneNext head.now before.now op.now one.now other.now }
 {}
 
 /// After a lawful journal the walks in flight are those of the operation that holds the map lock, and but in an
@@ -173,10 +156,7 @@ pub fn no_upmany(head: &Head, events: &[Event])
 /// The walk whose turn it is in an upmany keeps it until the operation's own seat makes an event, whatever
 /// other seats do meanwhile.
 pub fn turn_stays(head: &Head, before: &[Event], event: &Event)
-    ensures { (o : Operation) (cpu : ℕ) → IsLawful head.now before.now → Comes head.now before.now event.now →
-        operation before.now ≡ Some o → is_upmany o.op ≡ true → seat_of event.now ≢ o.seat →
-        turn_of head.now before.now o.seat ≡ Some cpu →
-        turn_of head.now (before.now ++ event.now ∷ []) o.seat ≡ Some cpu }
+    ensures { IsLawful head.now before.now → KeepsTurn head.now before.now event.now }
 {}
 
 /// What comes next of one seat is found in one walk. While its processor walks, what is due from a thread is
@@ -193,16 +173,10 @@ pub fn seat_next(head: &Head, events: &[Event])
 /// has the turn, where no walk is left to begin, and one event changes it at its front and its end alone. It
 /// is no longer than there are possible processors.
 pub fn batch_queue(head: &Head, events: &[Event], event: &Event, queue: &[u32])
-    ensures begins { (seat : ℕ) → ((cpu : ℕ) → walk cpu events.now ≡ None) → IsQueue head.now events.now seat [] }
-    ensures turn { (seat : ℕ) → to_begin head.now events.now ≡ [] → IsQueue head.now events.now seat queue.now →
-        turn_of head.now events.now seat ≡ first queue.now }
-    ensures moves { (o : Operation) → IsLawful head.now events.now → Comes head.now events.now event.now →
-        operation events.now ≡ Some o → is_upmany o.op ≡ true →
-        operation (events.now ++ event.now ∷ []) ≡ Some o → IsQueue head.now events.now o.seat queue.now →
-        IsQueue head.now (events.now ++ event.now ∷ []) o.seat
-        (queue_after (is_own head.now (events.now ++ event.now ∷ []) o.seat) queue.now event.now) }
-    ensures fits { (seat : ℕ) → IsLawful head.now events.now → IsQueue head.now events.now seat queue.now →
-        length queue.now ≤ head.now.possible }
+    ensures begins { (seat : ℕ) → NobodyWalks events.now → IsQueue head.now events.now seat [] }
+    ensures turn { FirstHasTurn head.now events.now queue.now }
+    ensures moves { IsLawful head.now events.now → QueueMoves head.now events.now event.now queue.now }
+    ensures fits { IsLawful head.now events.now → QueueFits head.now events.now queue.now }
 {}
 
 /// What is promised to a lawful journal fits into it: with all its promises it is within the limit.
@@ -215,131 +189,93 @@ pub fn promises_fit(head: &Head, events: &[Event])
 /// left to the walk or the registration that it ends.
 #[tactic(auto, using(crate::proofs::RoomKept::promises_after))]
 pub fn promises_after(head: &Head, before: &[Event], event: &Event)
-    ensures { IsLawful head.now before.now → Comes head.now before.now event.now →
-        promised head.now (before.now ++ event.now ∷ []) + 1 + given_back head.now before.now event.now
-        ≡ promised head.now before.now + taken (need head.now before.now event.now) }
+    ensures { IsLawful head.now before.now → BalancesPromises head.now before.now event.now }
 {}
 
 /// What is promised is never short. An event that can stand after a lawful journal keeps it within the
 /// limit, and one that takes no room of its own finds one of the promises.
 pub fn never_short(head: &Head, before: &[Event], event: &Event)
-    ensures fits { IsLawful head.now before.now → Stands head.now before.now event.now →
-        length before.now + 1 ≤ MAX_EVENTS }
-    ensures promised { IsLawful head.now before.now → Comes head.now before.now event.now →
-        need head.now before.now event.now ≡ None → 1 ≤ promised head.now before.now }
+    ensures fits { IsLawful head.now before.now → FitsIn head.now before.now event.now }
+    ensures promised { IsLawful head.now before.now → FindsPromise head.now before.now event.now }
 {}
 
 /// What a turn of a client's seat finds after a lawful journal, for an operation that it may be for: an
 /// event of it stands, or there is no room for its first event, or it waits, or the thread of a
 /// processor has to make the next entry; and no two of these.
 pub fn turn_finds(head: &Head, events: &[Event])
-    ensures some { (p : Pending) → IsLawful head.now events.now → IsAllowed head.now events.now p →
-        TurnFinds head.now events.now p }
-    ensures one { (p : Pending) → IsLawful head.now events.now → IsAllowed head.now events.now p →
-        FindsOne head.now events.now p }
+    ensures some { EachAllowed head.now events.now TurnFinds }
+    ensures one { EachAllowed head.now events.now FindsOne }
 {}
 
 /// The entry that is due from a seat stands, after any journal, and after a lawful one it is the one
 /// Call of that seat that does. None is due exactly where the seat is idle: no Call of it can come; and none
 /// is due of a seat that leaves.
 pub fn due_entry(head: &Head, events: &[Event], entry: &Event)
-    ensures stands { (seat : ℕ) → due_entry_of head.now events.now seat ≡ Some entry.now →
-        Stands head.now events.now entry.now }
-    ensures exactly { (seat : ℕ) → IsLawful head.now events.now →
-        (due_entry_of head.now events.now seat ≡ Some entry.now)
-        ↔ (Stands head.now events.now entry.now × (is_call entry.now ≡ true) × (seat_of entry.now ≡ seat)) }
-    ensures none { (seat : ℕ) → (due_entry_of head.now events.now seat ≡ None) ↔ IsIdle head.now events.now seat }
-    ensures leaves { (seat : ℕ) → Stands head.now events.now (Leave seat) → due_entry_of head.now events.now seat ≡ None }
+    ensures stands { StandsWhereOwed head.now events.now entry.now }
+    ensures exactly { IsLawful head.now events.now → IsOwedWhereItStands head.now events.now entry.now }
+    ensures none { (seat : ℕ) → OwesNothing head.now events.now seat ↔ IsIdle head.now events.now seat }
+    ensures leaves { (seat : ℕ) → Stands head.now events.now (Leave seat) → OwesNothing head.now events.now seat }
 {}
 
 /// An entry that is due from a seat stays due after an event of another seat, but for one that arms its
 /// processor in the middle of its walk, and for a call of the same hook beside it. It is the one entry that
 /// is due of its processor, and but in an upmany the one that is due at all.
 pub fn due_stays(head: &Head, events: &[Event], entry: &Event, event: &Event)
-    ensures stays { (seat : ℕ) → IsLawful head.now events.now →
-        due_entry_of head.now events.now seat ≡ Some entry.now → Stands head.now events.now event.now →
-        seat_of event.now ≢ seat → arms_walker events.now entry.now event.now ≡ false →
-        calls_beside entry.now event.now ≡ false →
-        due_entry_of head.now (events.now ++ event.now ∷ []) seat ≡ Some entry.now }
-    ensures one { (seat other : ℕ) → IsLawful head.now events.now →
-        due_entry_of head.now events.now seat ≡ Some entry.now →
-        due_entry_of head.now events.now other ≡ Some event.now → cpu_of entry.now ≡ cpu_of event.now →
-        entry.now ≡ event.now }
-    ensures alone { (seat other : ℕ) → IsLawful head.now events.now →
-        due_entry_of head.now events.now seat ≡ Some entry.now →
-        due_entry_of head.now events.now other ≡ Some event.now →
-        held_by is_upmany (operation events.now) ≡ false → entry.now ≡ event.now }
+    ensures stays { IsLawful head.now events.now → StaysDue head.now events.now entry.now event.now }
+    ensures one { IsLawful head.now events.now →
+        AreOneOnProcessor head.now events.now entry.now event.now }
+    ensures alone { IsLawful head.now events.now →
+        AreOneButInUpmany head.now events.now entry.now event.now }
 {}
 
 /// What comes next of a seat and its operation stands, after any journal, and after a lawful one, of a
 /// client's seat and an operation that it may ask for, it is the one event of both that does. Nothing
 /// comes next where the operation has no room, or waits, or a thread has to make the next entry.
 pub fn next_event(head: &Head, events: &[Event], event: &Event)
-    ensures stands { (seat : ℕ) (op : AnOp) → next_event_of head.now events.now seat op ≡ Some event.now →
-        Stands head.now events.now event.now × (seat_of event.now ≡ seat) }
-    ensures exactly { (p : Pending) → IsLawful head.now events.now → IsAllowed head.now events.now p →
-        (next_event_of head.now events.now p.seat p.op ≡ Some event.now)
-        ↔ (Stands head.now events.now event.now × (seat_of event.now ≡ p.seat) × BelongsTo p.op event.now) }
-    ensures none { (p : Pending) → IsLawful head.now events.now → IsAllowed head.now events.now p →
-        (next_event_of head.now events.now p.seat p.op ≡ None)
-        ↔ (IsFull head.now events.now p.seat p.op
-        ⊎ (IsKeptWaiting head.now events.now p ⊎ NeedsThread head.now events.now p)) }
+    ensures stands { StandsWhereNext head.now events.now event.now }
+    ensures exactly { EachAllowed head.now events.now (FindsEvent event.now) }
+    ensures none { EachAllowed head.now events.now FindsNone }
 {}
 
 /// Whether an operation is answered LogFull without an event is found by its first event alone.
 pub fn is_full(head: &Head, events: &[Event])
-    ensures { (p : Pending) → IsLawful head.now events.now → IsAllowed head.now events.now p →
-        (is_full_of head.now events.now p.seat p.op ≡ true) ↔ IsFull head.now events.now p.seat p.op }
+    ensures { EachAllowed head.now events.now FindsFull }
 {}
 
 /// Some seat can move. After a lawful journal, of operations that aren't answered, with all that they
 /// wait for among them, one has an event that can stand next, or a processor's thread has an entry,
 /// or one is answered LogFull.
 pub fn some_seat_can_move(head: &Head, events: &[Event])
-    ensures { (pending : List Pending) → IsLawful head.now events.now →
-        ArePending head.now events.now pending → CanMove head.now events.now pending }
+    ensures { IsLawful head.now events.now → SomeSeatCanMove head.now events.now }
 {}
 
 /// A script has one run for its schedule.
 pub fn one_run(head: &Head, one: &[Event], other: &[Event])
-    ensures { (actors : List (List AnOp)) (schedule : List ℕ) →
-        IsRun head.now actors schedule one.now → IsRun head.now actors schedule other.now →
-        one.now ≡ other.now }
+    ensures { RunsAreOne head.now one.now other.now }
 {}
 
 /// The run of a script by a schedule is a lawful journal, where its head is one that a machine can be
 /// started with and there are seats for all.
 pub fn run_lawful(head: &Head, events: &[Event])
-    ensures { (actors : List (List AnOp)) (schedule : List ℕ) → IsHead head.now →
-        length (present head.now) + length actors ≤ MAX_SEATS →
-        IsRun head.now actors schedule events.now → IsLawful head.now events.now }
+    ensures { IsHead head.now → IsSomeRun head.now events.now → IsLawful head.now events.now }
 {}
 
 /// After any turns of a script, the operation that an actor's turn is for is one that its seat may ask
 /// for.
 pub fn run_asks(head: &Head, op: &Op)
-    ensures { (actors : List (List AnOp)) (seats : List ℕ) (actor : ℕ) → IsScript head.now actors →
-        unanswered actors (after_turns head.now actors (start head.now actors) seats).answers actor ≡ Some op.now →
-        IsAllowed head.now (after_turns head.now actors (start head.now actors) seats).events
-        (record { seat = length (present head.now) + actor; op = op.now }) }
+    ensures { EachScript head.now (MayAsk op.now) }
 {}
 
 /// After any turns of a script, a turn makes exactly what stands: of a processor's thread its entry, of
 /// an actor the event of its first operation that isn't answered, or LogFull where that has no room.
 pub fn turn_makes(head: &Head)
-    ensures { (actors : List (List AnOp)) (seats : List ℕ) (seat : ℕ) → IsScript head.now actors →
-        TurnMakes head.now actors (after_turns head.now actors (start head.now actors) seats) seat
-        (turn head.now actors (after_turns head.now actors (start head.now actors) seats) seat) }
+    ensures { EachScript head.now EachTurnMakes }
 {}
 
 /// After any turns of a script, as many operations of an actor are answered as the journal shows of its
 /// seat, and those that were answered LogFull without an event besides.
 pub fn answers_shown(head: &Head)
-    ensures { (actors : List (List AnOp)) (seats : List ℕ) (actor : ℕ) → IsScript head.now actors →
-        actor < length actors →
-        get_or (after_turns head.now actors (start head.now actors) seats).answers actor 0
-        ≡ answered (length (present head.now) + actor) (after_turns head.now actors (start head.now actors) seats).events
-        + answered_without_event head.now actors (start head.now actors) seats actor }
+    ensures { EachScript head.now AnswersAreShown }
 {}
 
 /// Draws are as many as are asked for, and each is below its bound: so each turn of a schedule that is
@@ -352,32 +288,22 @@ pub fn draws_below()
 /// After any turns of a script, a round makes an event or answers an operation, unless every operation is
 /// answered; and of both there are no more than a journal has room for and the actors have operations.
 pub fn round_goes(head: &Head)
-    ensures on { (actors : List (List AnOp)) (seats : List ℕ) → IsScript head.now actors →
-        is_over actors (after_turns head.now actors (start head.now actors) seats) ≡ false →
-        distance (after_turns head.now actors (start head.now actors) seats)
-        < distance (after_round head.now actors (after_turns head.now actors (start head.now actors) seats)) }
-    ensures bounded { (actors : List (List AnOp)) (seats : List ℕ) → IsScript head.now actors →
-        distance (after_turns head.now actors (start head.now actors) seats)
-        ≤ MAX_EVENTS + sum_by (λ ops. length ops) actors }
+    ensures on { EachScript head.now RoundsGoOn }
+    ensures bounded { EachScript head.now IsNoFurther }
 {}
 
 /// The closing rounds of a script end: it has a run, whatever its schedule.
 pub fn run_ends(head: &Head)
-    ensures { (actors : List (List AnOp)) (schedule : List ℕ) → IsScript head.now actors →
-        (events : List AnEvent) × IsRun head.now actors schedule events }
+    ensures { EachScript head.now HasRun }
 {}
 
 /// Where every operation of a script is answered, no turn does anything more.
 pub fn over_stays(head: &Head)
-    ensures { (actors : List (List AnOp)) (seats : List ℕ) (seat : ℕ) → IsScript head.now actors →
-        is_over actors (after_turns head.now actors (start head.now actors) seats) ≡ true →
-        turn head.now actors (after_turns head.now actors (start head.now actors) seats) seat
-        ≡ after_turns head.now actors (start head.now actors) seats }
+    ensures { EachScript head.now StaysOver }
 {}
 
 /// No event of the next seat stands in a lawful journal, nor of any above it: seats are numbered by how
 /// many were admitted.
 pub fn next_seat(head: &Head, events: &[Event])
-    ensures { (seat : ℕ) → IsLawful head.now events.now → admits events.now ≤ seat →
-        All (λ e. seat_of e ≢ seat) events.now }
+    ensures { IsLawful head.now events.now → NoneOfLaterSeats events.now }
 {}

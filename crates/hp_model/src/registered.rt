@@ -1,11 +1,9 @@
 //! The registered keys, by the events alone.
 
-ghost use Rattle.std.specs.Prelude.{◌≡◌, ◌++◌, List, Option, Some, None, map, option_map, IfOk, OnOk};
-ghost use Rattle.hp_event.specs.declared.event.Event.{Event as AnEvent};
-ghost use Rattle.hp_model.specs.Registrations.{Registration, registration, registration_step};
-ghost use Rattle.hp_model.specs.Registered.{registered, registered_step, applied as applied_of, after_answer, insts_of as insts_of_of, keys as keys_of};
-ghost use Rattle.hp_model.specs.Net.{registered_keys};
-ghost use Rattle.hp_model.specs.Found.{registered_by, asked_by};
+ghost use Rattle.std.specs.Prelude.{◌≡◌, ◌++◌, IfOk, OnOk};
+ghost use Rattle.hp_model.specs.Registered.{registered, applied as applied_of, insts_of as insts_of_of, keys as keys_of};
+ghost use Rattle.hp_model.specs.Net.{registered_keys, keys_with};
+ghost use Rattle.hp_model.specs.Found.{as_registered, FoundAfter};
 
 use crate::lists::without;
 use crate::subsystems::is_multi;
@@ -70,7 +68,7 @@ pub fn instances_of_keys(
 
 /// The instances of the keys where that is registered.
 fn insts_of(alloc: Global, found: Option<Found>) -> Result<Vec<u32>, NoMemory>
-    ensures { IfOk result (λ insts. insts.items ≡ insts_of_of (option_map registered_by found)) }
+    ensures { IfOk result (λ insts. insts.items ≡ insts_of_of (as_registered found)) }
 {
     match found {
         None => Ok(Vec::new(alloc)),
@@ -101,7 +99,7 @@ pub fn registered_at(
     state: u32,
     events: &[Event],
 ) -> Result<Option<Found>, NoMemory>
-    ensures { IfOk result (λ found. option_map registered_by found ≡ registered head.now state events.now) }
+    ensures { IfOk result (λ found. as_registered found ≡ registered head.now state events.now) }
 {
     let mut found = None;
     let mut asked = None;
@@ -132,8 +130,7 @@ fn ended(
     asked: Option<Asked>,
     found: Option<Found>,
 ) -> Result<Option<Found>, NoMemory>
-    ensures { IfOk result (λ f. (r : Option Registration) → asked ≡ option_map asked_by r →
-        option_map registered_by f ≡ after_answer head.now state answer r (option_map registered_by found)) }
+    ensures { IfOk result (FoundAfter head.now state answer asked found) }
 {
     match asked {
         Some(asked) if answer.is_ok() && asked.state == state => applied(
@@ -150,7 +147,7 @@ fn applied(
     op: &Op,
     found: Option<Found>,
 ) -> Result<Option<Found>, NoMemory>
-    ensures { IfOk result (λ f. option_map registered_by f ≡ applied_of head.now op.now (option_map registered_by found)) }
+    ensures { IfOk result (λ f. as_registered f ≡ applied_of head.now op.now (as_registered found)) }
 {
     match op {
         Op::Setup { sub, .. } => Ok(Some(Found {
@@ -180,7 +177,7 @@ fn applied(
 
 /// Appends the keys of a state.
 fn push_keys(keys: &mut Vec<Key>, state: u32, insts: &[u32]) -> Result<(), NoMemory>
-    ensures { OnOk result (keys.new.items ≡ keys.old.items ++ map (λ i. record { state = state; inst = i }) insts.now) }
+    ensures { OnOk result (keys.new.items ≡ keys.old.items ++ keys_with state insts.now) }
 {
     for inst in insts {
         keys.push(Key { state, inst: *inst })?;

@@ -1,17 +1,17 @@
 //! Sets of processors and their numbers.
 
-ghost use Rattle.std.specs.Prelude.{◌≡◌, ℕ, ◌<◌, List, [], ◌∷◌, ◌++◌, All};
+ghost use Rattle.std.specs.Prelude.{◌≡◌, ℕ, ◌<◌, List, [], ◌∷◌, ◌++◌};
 ghost use Rattle.std.specs.List.Sorted.{IsStrictlyIncreasing};
 ghost use Rattle.hp_states.specs.declared.limits.TheConstants.{MAX_CPU_SET};
 ghost use Rattle.hp_model.specs.Listed.{listed};
-ghost use Rattle.hp_model.specs.SetOf.{set_of, IsSet};
+ghost use Rattle.hp_model.specs.SetOf.{set_of, FitSet, IsSet};
 
 use hp_states::CpuSet;
 
 /// The set of numbers that rise and are at most 255 lists these numbers.
 #[tactic(auto, using(crate::proofs::SetLemmas::increasing_listed))]
 pub fn numbers_are_listed(numbers: &[u32])
-    ensures { IsStrictlyIncreasing numbers.now → All (λ c. c < MAX_CPU_SET) numbers.now →
+    ensures { IsStrictlyIncreasing numbers.now → FitSet numbers.now →
         listed (set_of numbers.now) ≡ numbers.now }
 {}
 

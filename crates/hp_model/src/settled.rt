@@ -1,9 +1,9 @@
 //! Where a processor stands, by the events alone.
 
-ghost use Rattle.std.specs.Prelude.{◌≡◌, List, Option, option_map};
-ghost use Rattle.hp_event.specs.declared.event.Event.{Event as AnEvent};
-ghost use Rattle.hp_model.specs.Walks.{Walk, walk, walk_step};
-ghost use Rattle.hp_model.specs.Settled.{settled, settled_step, left_at as left_at_lem};
+ghost use Rattle.std.specs.Prelude.{◌≡◌, Option};
+ghost use Rattle.hp_model.specs.Walks.{Walk};
+ghost use Rattle.hp_model.specs.Found.{SettlesAt, GoesOnTo, target};
+ghost use Rattle.hp_model.specs.Settled.{settled, left_at as left_at_lem};
 
 use hp_event::{Answer, Event, Journal};
 use hp_states::first_state;
@@ -44,10 +44,8 @@ pub fn settled_after(cpu: u32, events: &[Event]) -> u32
 
 /// What one event makes of it.
 fn after(standing: Standing, event: &Event, cpu: u32) -> Standing
-    ensures at { (before : List AnEvent) → standing.to ≡ option_map (λ w. w.to) (walk cpu before) →
-        result.at ≡ settled_step cpu standing.at before event.now }
-    ensures to { (before : List AnEvent) → standing.to ≡ option_map (λ w. w.to) (walk cpu before) →
-        result.to ≡ option_map (λ w. w.to) (walk_step cpu (walk cpu before) before event.now) }
+    ensures at { SettlesAt cpu standing event.now result.at }
+    ensures to { GoesOnTo cpu standing event.now result.to }
 {
     match event {
         Event::WalkBegin {
@@ -72,8 +70,7 @@ fn after(standing: Standing, event: &Event, cpu: u32) -> Standing
 
 /// Where the end of a walk leaves its processor.
 fn left_at(answer: &Answer, standing: Standing) -> u32
-    ensures { (w : Option Walk) → standing.to ≡ option_map (λ w. w.to) w →
-        result ≡ left_at_lem answer.now w standing.at }
+    ensures { (w : Option Walk) → standing.to ≡ target w → result ≡ left_at_lem answer.now w standing.at }
 {
     answer.leaves_at(standing.to.unwrap_or(standing.at), standing.at)
 }

@@ -1,5 +1,6 @@
 -- What is so of the journal of a script that was played.
 use Rattle.std.proofs.Common.{◌≡◌, ℕ, ◌+◌, Option, Some, None, List, length, refl, sym, subst, ◌∙◌}
+use Rattle.hp_states.proofs.Basics.{none_some}
 use Rattle.hp_event.specs.declared.head.Head.{Head}
 use Rattle.hp_event.specs.declared.event.Event.{Event}
 use Rattle.hp_model.specs.Lawful.{IsLawful}
@@ -14,7 +15,6 @@ use Rattle.hp_model.proofs.CompletesProof.{completes_of_front}
 use Rattle.hp_model.proofs.OneWalkProof.{one_walk_of_front}
 use Rattle.hp_model.proofs.KeyLaw.{keys_at_rest}
 use Rattle.hp_model.proofs.OneNext.{owners}
-use Rattle.hp_model.proofs.Owners.{none_some}
 use Rattle.hp_model.proofs.ScriptRuns.{run_lawful}
 use Rattle.hp_script.specs.Schedules.{schedule_written}
 use Rattle.hp_script.specs.Script.{Contents}

@@ -3,3 +3,4 @@ pub mod Racks
 pub mod Played
 pub mod Main
 pub mod Stops
+pub mod Calls

@@ -1,11 +1,15 @@
 -- The rack of hooks before a call and after it, and what it is after a script was played. This project's own.
-use Rattle.std.specs.Prelude.{◌≡◌, ◌+◌, Option, List, ◌++◌, map, length, reverse}
+use Rattle.std.specs.Prelude.{◌≡◌, ◌≢◌, ◌+◌, Option, List, ◌++◌, map, length, reverse}
 use Rattle.std.specs.List.{sum_by}
 use Rattle.hp_actors.specs.Hooks.{IsLater, OneForEachSetup, hooks_there}
 use Rattle.hp_actors.specs.Positions.{Position}
 use Rattle.hp_board.specs.Retired.{registered_hooks}
 use Rattle.hp_event.specs.declared.event.Event.{Event}
 use Rattle.hp_hook.specs.Counted.{Counts}
+use Rattle.hp_hook.specs.declared.hook.Hook as Hook
+use Rattle.hp_hook.specs.declared.rack.Rack.{Rack}
+use Rattle.hp_play.specs.declared.stop.Stop.{Stop}
+use Rattle.hp_play.specs.declared.stop.Stop.TheVariants.{NoMemory}
 use Rattle.hp_model.specs.ScriptRun.{start}
 use Rattle.hp_script.specs.Playable.{setups_in}
 use Rattle.hp_script.specs.Script.{Contents}
@@ -19,9 +23,17 @@ pub record Racks (H : Type 0) : Type 0 where
 abbrev pub racks : {H : Type 0} → (seen : H → Counts) → (old new : List H) → Racks H
 racks seen old new = record { seen = seen; old = old; new = new }
 
+-- of a rack of hooks, before and now
+abbrev pub racks_of : {H : Type 0} → Hook.Ghosts H → (old new : Rack H) → Racks H
+racks_of hook old new = racks hook.counts old.hooks.items new.hooks.items
+
 -- the rack is as it was
 abbrev pub Stays : {H : Type 0} → Racks H → Type 0
 Stays rack = rack.new ≡ rack.old
+
+-- but where memory was wanting
+abbrev pub StaysUnlessWanting : {H : Type 0} → (old new : Rack H) → Stop → Type 0
+StaysUnlessWanting old new = λ stop. stop ≢ NoMemory → new.hooks.items ≡ old.hooks.items
 
 -- The hooks that came back in a run. Each setup took one, in turn the last of the rack, and nothing else did. Turns of the run's seats
 -- made this journal, and what they make of the hooks of operations says `hook_after` of hp_actors: one that was refused leaves its hook

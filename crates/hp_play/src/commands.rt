@@ -1,10 +1,11 @@
 //! What each command does.
 
-ghost use Rattle.std.specs.Prelude.{◌≡◌, ◌≢◌, ◌<◌, length, IfOk, IfErr, OnOk};
-ghost use Rattle.hp_play.specs.Main.{IsDoneBy, IsScriptPlayed, IsReplayed, PlaysNothing};
+ghost use Rattle.std.specs.Prelude.{◌≡◌, ◌<◌, length, IfOk, IfErr, OnOk};
+ghost use Rattle.hp_play.specs.Main.{PlaysNothing};
 ghost use Rattle.hp_play.specs.Played.{IsPlayed};
-ghost use Rattle.hp_play.specs.Racks.{racks};
-ghost use Rattle.hp_play.specs.Stops.{HasRanges, Stops, StopsScript, StopsJournal, Refuses};
+ghost use Rattle.hp_play.specs.Racks.{racks_of, StaysUnlessWanting};
+ghost use Rattle.hp_play.specs.Stops.{HasRanges, Refuses};
+ghost use Rattle.hp_play.specs.Calls.{Does, StopsAt, Plays, StopsScriptAt, Replays, StopsJournalAt};
 
 use crate::output::Output;
 use crate::play::text_played;
@@ -27,13 +28,10 @@ pub fn output_of<S: Source, H: Hook>(
 ) -> Result<Vec<u8>, Stop>
     requires faults { S.faults source.old < u64.MAX }
     requires ranges { HasRanges command }
-    ensures done { IfOk result (λ text. IsDoneBy command
-        (racks H.counts rack.old.hooks.items rack.new.hooks.items)
-        (S.left source.old) (S.left source.new) text.items) }
+    ensures done { IfOk result (Does command S.Source H.Hook source.old source.new rack.old rack.new) }
     ensures faults { OnOk result (S.faults source.new ≡ S.faults source.old) }
-    ensures stop { IfErr result (Stops command (length rack.old.hooks.items)
-        (S.left source.old) (S.left source.new) (S.faults source.old) (S.faults source.new)) }
-    ensures rack { IfErr result (λ stop. stop ≢ Stop.NoMemory → rack.new.hooks.items ≡ rack.old.hooks.items) }
+    ensures stop { IfErr result (StopsAt command S.Source source.old source.new rack.old) }
+    ensures rack { IfErr result (StaysUnlessWanting rack.old rack.new) }
     ensures unused { PlaysNothing command → rack.new.hooks.items ≡ rack.old.hooks.items }
 {
     match command {
@@ -56,13 +54,10 @@ fn script_played<S: Source, H: Hook>(
     rack: &mut Rack<H>,
 ) -> Result<Vec<u8>, Stop>
     requires { S.faults source.old < u64.MAX }
-    ensures played { IfOk result (λ text. IsScriptPlayed of
-        (racks H.counts rack.old.hooks.items rack.new.hooks.items)
-        (S.left source.old) (S.left source.new) text.items) }
+    ensures played { IfOk result (Plays of S.Source H.Hook source.old source.new rack.old rack.new) }
     ensures faults { OnOk result (S.faults source.new ≡ S.faults source.old) }
-    ensures stop { IfErr result (StopsScript (length rack.old.hooks.items)
-        (S.left source.old) (S.left source.new) (S.faults source.old) (S.faults source.new)) }
-    ensures rack { IfErr result (λ stop. stop ≢ Stop.NoMemory → rack.new.hooks.items ≡ rack.old.hooks.items) }
+    ensures stop { IfErr result (StopsScriptAt S.Source source.old source.new rack.old) }
+    ensures rack { IfErr result (StaysUnlessWanting rack.old rack.new) }
 {
     match read_input(alloc, source, MAX_SCRIPT_BYTES) {
         Ok(script) => text_of_script(alloc, of, &script, rack),
@@ -78,10 +73,10 @@ fn text_of_script<H: Hook>(
     rack: &mut Rack<H>,
 ) -> Result<Vec<u8>, Stop>
     ensures played { IfOk result (λ text. IsPlayed of
-        (racks H.counts rack.old.hooks.items rack.new.hooks.items)
+        (racks_of H.Hook rack.old rack.new)
         bytes.now text.items) }
     ensures stop { IfErr result (Refuses (length rack.old.hooks.items) bytes.now) }
-    ensures rack { IfErr result (λ stop. stop ≢ Stop.NoMemory → rack.new.hooks.items ≡ rack.old.hooks.items) }
+    ensures rack { IfErr result (StaysUnlessWanting rack.old rack.new) }
 {
     let hooks = rack.hooks.len().min(u32::MAX as usize) as u32;
     match parse(alloc, bytes, hooks) {
@@ -94,10 +89,9 @@ fn text_of_script<H: Hook>(
 /// The summary of the journal whose text a source holds.
 fn replayed<S: Source>(alloc: Global, source: &mut S) -> Result<Vec<u8>, Stop>
     requires { S.faults source.old < u64.MAX }
-    ensures replayed { IfOk result (λ text. IsReplayed (S.left source.old) (S.left source.new) text.items) }
+    ensures replayed { IfOk result (Replays S.Source source.old source.new) }
     ensures faults { OnOk result (S.faults source.new ≡ S.faults source.old) }
-    ensures stop { IfErr result (StopsJournal
-        (S.left source.old) (S.left source.new) (S.faults source.old) (S.faults source.new)) }
+    ensures stop { IfErr result (StopsJournalAt S.Source source.old source.new) }
 {
     let bytes = match read_input(alloc, source, MAX_JOURNAL_BYTES) {
         Ok(bytes) => bytes,

@@ -7,7 +7,8 @@
 //!
 //! `play` (of `play.rt`) plays a script to its journal, and answers the run; its text is made apart from that.
 //! What is written of a run, `specs/Outputs.antt` says; what is so of its journal, `specs/Played.antt`, and of
-//! the rack, `specs/Racks.antt`; what each status means, `specs/Main.antt`.
+//! the rack, `specs/Racks.antt`; what each status means, `specs/Main.antt`; and `specs/Calls.antt` says it of what
+//! a call was handed, before and now.
 #![tactic(auto)]
 
 mod commands;

@@ -4,7 +4,7 @@ ghost use Rattle.std.specs.Prelude.{◌≤◌, IfOk, length, sum_by};
 ghost use Rattle.hp_model.specs.Scripts.{IsScript};
 ghost use Rattle.hp_script.specs.Playable.{setups_in};
 ghost use Rattle.hp_play.specs.Played.{IsRunOf, WasPlayed};
-ghost use Rattle.hp_play.specs.Racks.{racks};
+ghost use Rattle.hp_play.specs.Racks.{racks_of};
 
 use crate::output::{Output, text_of};
 use hp_actors::Run;
@@ -23,7 +23,7 @@ pub fn play<H: Hook>(alloc: Global, script: &Script, rack: &mut Rack<H>) -> Resu
     requires script { IsScript script.now.head script.now.actors }
     requires hooks { sum_by setups_in script.now.actors ≤ length rack.old.hooks.items }
     ensures { IfOk result (λ run. IsRunOf script.now
-        (racks H.counts rack.old.hooks.items rack.new.hooks.items)
+        (racks_of H.Hook rack.old rack.new)
         run) }
 {
     let mut run = Run::start(alloc, script, rack)?;
@@ -47,7 +47,7 @@ pub fn text_played<H: Hook>(
     requires script { IsScript script.now.head script.now.actors }
     requires hooks { sum_by setups_in script.now.actors ≤ length rack.old.hooks.items }
     ensures { IfOk result (λ text. WasPlayed of script.now
-        (racks H.counts rack.old.hooks.items rack.new.hooks.items)
+        (racks_of H.Hook rack.old rack.new)
         text.items) }
 {
     let run = play(alloc, script, rack)?;

@@ -1,12 +1,8 @@
 //! The top call.
 
-ghost use Rattle.std.specs.Prelude.{◌≡◌, ◌≢◌, ℕ, ◌+◌, ◌<◌, ◌≤◌, List, length, take, map, string_bytes, ◌⊎◌};
-ghost use Rattle.std.specs.Io.KnownBytes.{append_known};
-ghost use Rattle.hp_command.specs.declared.command.Command.{Command};
-ghost use Rattle.hp_command.specs.Commands.{IsCommand};
-ghost use Rattle.hp_play.specs.Main.{Answer, Asked, HasInput, PlaysNothing, Writes, WritesPart};
-ghost use Rattle.hp_play.specs.Racks.{racks};
-ghost use Rattle.hp_play.specs.Stops.{Reads};
+ghost use Rattle.std.specs.Prelude.{◌≡◌, ◌≢◌, ◌<◌, ◌≤◌};
+ghost use Rattle.hp_play.specs.Main.{Answer, PlaysNothing};
+ghost use Rattle.hp_play.specs.Calls.{AskedIn, call, IsDoneIfFine, EndsWith, EndsUnread, EndsHalfWritten};
 
 use crate::commands::output_of;
 use crate::stop::Stop;
@@ -64,40 +60,31 @@ pub fn hp_main<S: Source, K: Sink, H: Hook>(
     ensures statuses { result ≤ BAD_JOURNAL }
 
     // What has its input is done, where no object fails and memory isn't wanting.
-    ensures accepted { Asked (map string_bytes words.now.items)
-        (λ command. HasInput command (length rack.old.hooks.items) (S.left source.old)) →
-        S.faults source.new ≡ S.faults source.old → K.faults sink.new ≡ K.faults sink.old →
-        (result ≡ DONE) ⊎ (result ≡ NO_MEMORY) }
+    ensures accepted { IsDoneIfFine
+        (call S.Source K.Sink H.Hook words.now source.old source.new sink.old sink.new rack.old rack.new)
+        result }
 
     // What is written under 0, 1, 2 and 6, and the rack then.
-    ensures done { result ≡ DONE → Writes Answer.done (map string_bytes words.now.items)
-        (racks H.counts rack.old.hooks.items rack.new.hooks.items)
-        (S.left source.old) (S.left source.new) (K.taken sink.old) (K.taken sink.new) }
-    ensures bad_words { result ≡ BAD_WORDS → Writes Answer.usage (map string_bytes words.now.items)
-        (racks H.counts rack.old.hooks.items rack.new.hooks.items)
-        (S.left source.old) (S.left source.new) (K.taken sink.old) (K.taken sink.new) }
-    ensures bad_script { result ≡ BAD_SCRIPT → Writes Answer.refusal (map string_bytes words.now.items)
-        (racks H.counts rack.old.hooks.items rack.new.hooks.items)
-        (S.left source.old) (S.left source.new) (K.taken sink.old) (K.taken sink.new) }
-    ensures bad_journal { result ≡ BAD_JOURNAL → Writes Answer.bad_journal (map string_bytes words.now.items)
-        (racks H.counts rack.old.hooks.items rack.new.hooks.items)
-        (S.left source.old) (S.left source.new) (K.taken sink.old) (K.taken sink.new) }
+    ensures done { result ≡ DONE → EndsWith Answer.done
+        (call S.Source K.Sink H.Hook words.now source.old source.new sink.old sink.new rack.old rack.new) }
+    ensures bad_words { result ≡ BAD_WORDS → EndsWith Answer.usage
+        (call S.Source K.Sink H.Hook words.now source.old source.new sink.old sink.new rack.old rack.new) }
+    ensures bad_script { result ≡ BAD_SCRIPT → EndsWith Answer.refusal
+        (call S.Source K.Sink H.Hook words.now source.old source.new sink.old sink.new rack.old rack.new) }
+    ensures bad_journal { result ≡ BAD_JOURNAL → EndsWith Answer.bad_journal
+        (call S.Source K.Sink H.Hook words.now source.old source.new sink.old sink.new rack.old rack.new) }
 
     // A fault has its cause in the object that failed.
-    ensures read_fault { result ≡ READ_FAULT → Asked (map string_bytes words.now.items) Reads
-        × (S.faults source.new ≡ S.faults source.old + 1) × (K.taken sink.new ≡ K.taken sink.old)
-        × (rack.new.hooks.items ≡ rack.old.hooks.items) }
-    ensures write_fault { result ≡ WRITE_FAULT → (K.faults sink.new ≡ K.faults sink.old + 1)
-        × WritesPart (map string_bytes words.now.items)
-        (racks H.counts rack.old.hooks.items rack.new.hooks.items)
-        (S.left source.old) (S.left source.new) (K.taken sink.old) (K.taken sink.new) }
+    ensures read_fault { result ≡ READ_FAULT → EndsUnread
+        (call S.Source K.Sink H.Hook words.now source.old source.new sink.old sink.new rack.old rack.new) }
+    ensures write_fault { result ≡ WRITE_FAULT → EndsHalfWritten
+        (call S.Source K.Sink H.Hook words.now source.old source.new sink.old sink.new rack.old rack.new) }
     ensures no_memory { result ≡ NO_MEMORY → K.taken sink.new ≡ K.taken sink.old }
     ensures source_faults { result ≢ READ_FAULT → S.faults source.new ≡ S.faults source.old }
     ensures sink_faults { result ≢ WRITE_FAULT → K.faults sink.new ≡ K.faults sink.old }
 
     // A command that plays no script leaves the rack as it was, under each status.
-    ensures rack { Asked (map string_bytes words.now.items) PlaysNothing →
-        rack.new.hooks.items ≡ rack.old.hooks.items }
+    ensures rack { AskedIn words.now PlaysNothing → rack.new.hooks.items ≡ rack.old.hooks.items }
 {
     let command = match command_of(alloc, words) {
         Ok(Some(command)) => command,

@@ -3,6 +3,7 @@ use Rattle.std.proofs.Common.{◌≡◌, ℕ, zero, suc, ◌+◌, ◌<◌, ◌�
 use Rattle.std.proofs.lemmas.List.{length-set, get_or-set_same, get_or-set_other, append-nil, append_assoc}
 use Rattle.std.proofs.lemmas.List.Sums.{count_by-le-length, fold-append}
 use Rattle.std.proofs.lemmas.Bool.Decides.{nat_tests}
+use Rattle.hp_states.proofs.Basics.{and_false, and_true}
 use Rattle.hp_states.specs.declared.dir.Dir.{Dir}
 use Rattle.hp_states.specs.declared.dir.Dir.TheVariants.{Up, Down}
 use Rattle.hp_states.specs.Rules.{same_dir}
@@ -18,7 +19,7 @@ use Rattle.hp_model.specs.Walks.{Walk, walk, walk_step}
 use Rattle.hp_model.specs.Settled.{settled, settled_step, left_at}
 use Rattle.hp_model.specs.Net.{is_before, with_key, entered, entered_step}
 use Rattle.hp_model.proofs.Laws.{walk_push, settled_push}
-use Rattle.hp_model.proofs.Counts.{done_entries_push}
+use Rattle.hp_model.proofs.Counts.{done_entries_push, done_entries-none}
 use Rattle.hp_print.specs.declared.processor_tally.ProcessorTally.{ProcessorTally}
 use Rattle.hp_print.specs.declared.keys.KeyCount.{KeyCount}
 use Rattle.hp_print.specs.Counts.{one_more, is_key, no_count, with_count, raised, raised_at, counted, AreInOrder}
@@ -146,10 +147,6 @@ counts_as c events = refl
 abbrev Uncounted : (c : ℕ) → List Event → Type 0
 Uncounted c xs = (k : Key) → found k (entered c xs) ≡ false → count_of c xs k ≡ no_count k
 
-done_none : (c s i : ℕ) (d : Dir) → done_entries c s i d [] ≡ 0
-unfolding done_entries
-done_none c s i d = refl
-
 done_few : (c s i : ℕ) (d : Dir) (xs : List Event) → done_entries c s i d xs ≤ length xs
 unfolding done_entries
 done_few c s i d xs = count_by-le-length (is_done_entry c s i d) xs
@@ -219,14 +216,6 @@ map_raised u v u' v' k d [] h = refl
 map_raised u v u' v' k d (x ∷ xs) h =
     ap (λ y. y ∷ map (with_counts u' v') xs) (h x)
     ∙ ap (λ ys. (if is_key k x then raised d (with_counts u v x) else with_counts u v x) ∷ ys) (map_raised u v u' v' k d xs h)
-
-and_true : (b : Bool) → (b && true) ≡ b
-and_true true = refl
-and_true false = refl
-
-and_false : (b : Bool) → (b && false) ≡ false
-and_false true = refl
-and_false false = refl
 
 -- an entry of the processor
 counts_push : (c : ℕ) (xs : List Event) (seat cpu state inst : ℕ) (dir : Dir) (how : How) → (cpu == c) ≡ true →

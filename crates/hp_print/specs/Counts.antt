@@ -1,5 +1,5 @@
 -- How often the entries of each key are done, as a list in the order of the keys. This project's own.
-use Rattle.std.specs.Prelude.{ℕ, ◌+◌, ◌-◌, ◌^◌, min, suc, ◌≡◌, Bool, true, ◌&&◌, ◌==◌, if◌then◌else◌, List, [], ◌∷◌, map}
+use Rattle.std.specs.Prelude.{ℕ, ◌+◌, ◌-◌, ◌^◌, min, suc, ◌≡◌, Bool, true, ◌&&◌, ◌==◌, if◌then◌else◌, List, [], ◌∷◌, map, slice_set, slice_index_or}
 use Rattle.hp_states.specs.declared.dir.Dir.{Dir}
 use Rattle.hp_states.specs.declared.dir.Dir.TheVariants.{Up, Down}
 use Rattle.hp_event.specs.declared.key.Key.{Key}
@@ -12,6 +12,14 @@ is_key k x = k.state == x.state && k.inst == x.inst
 -- one more, as far as a word counts
 abbrev pub one_more : ℕ → ℕ
 one_more n = min (n + 1) (2 ^ 64 - 1)
+
+-- one more where this holds
+abbrev pub one_more_if : Bool → ℕ → ℕ
+one_more_if b n = if b then one_more n else n
+
+-- the counts with one more at this place
+abbrev pub one_more_at : (at : ℕ) → List ℕ → List ℕ
+one_more_at at counts = slice_set counts at (one_more (slice_index_or counts at 0))
 
 abbrev pub no_count : Key → KeyCount
 no_count k = record { key = k; ups = 0; downs = 0 }
@@ -39,6 +47,10 @@ raised_at k d xs = map (λ x. if is_key k x.key then raised d x else x) xs
 
 abbrev pub counted : Key → Dir → (done : Bool) → List KeyCount → List KeyCount
 counted k d done xs = if done then raised_at k d (with_count k xs) else with_count k xs
+
+-- the counts of all processors, with an entry of a key of one of them
+abbrev pub counted_at : (cpu : ℕ) → Key → Dir → (done : Bool) → List (List KeyCount) → List (List KeyCount)
+counted_at cpu k d done keys = slice_set keys cpu (counted k d done (slice_index_or keys cpu []))
 
 -- a key is before each of a list
 abbrev pub IsBeforeAll : Key → List KeyCount → Type 0

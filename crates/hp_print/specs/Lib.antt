@@ -1,3 +1,5 @@
+pub mod Appends
+pub mod Counting
 pub mod Counts
 pub mod Steps
 pub mod Tallies

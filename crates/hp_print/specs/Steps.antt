@@ -14,7 +14,7 @@ use Rattle.hp_model.specs.Events.{answer_by}
 use Rattle.hp_model.specs.Summary.{Kind, is_some_kind}
 use Rattle.hp_print.specs.declared.keys.KeyCount.{KeyCount}
 use Rattle.hp_print.specs.declared.state_tally.Asked.{Asked}
-use Rattle.hp_print.specs.Counts.{one_more, counted}
+use Rattle.hp_print.specs.Counts.{one_more, one_more_if, one_more_at, counted_at}
 
 -- the operation that holds the map lock
 abbrev pub op_after : Option Op → Event → Option Op
@@ -56,8 +56,7 @@ settled_after targets settled _ = settled
 
 abbrev pub keys_after : List (List KeyCount) → Event → List (List KeyCount)
 keys_after keys (Call seat cpu state inst dir how) =
-    slice_set keys cpu
-    (counted (record { state = state; inst = inst }) dir (is_done how) (slice_index_or keys cpu []))
+    counted_at cpu (record { state = state; inst = inst }) dir (is_done how) keys
 keys_after keys _ = keys
 
 -- the registration in flight
@@ -104,11 +103,14 @@ abbrev pub begun_anew : Op → (state : ℕ) → List ℕ → List ℕ
 begun_anew (Setup asked sub form) state counts = slice_set counts state 0
 begun_anew _ state counts = counts
 
+-- the counts with a call of a state, where it is of those that are counted
+abbrev pub with_call : (How → Bool) → How → (state : ℕ) → List ℕ → List ℕ
+with_call test how state counts = if test how then one_more_at state counts else counts
+
 abbrev pub calls_after : (How → Bool) → List ℕ → Event → List ℕ
 calls_after test counts (RegBegin seat state op) = begun_anew op state counts
-calls_after test counts (Call seat cpu state inst dir how) =
-    if test how then slice_set counts state (one_more (slice_index_or counts state 0)) else counts
+calls_after test counts (Call seat cpu state inst dir how) = with_call test how state counts
 calls_after test counts _ = counts
 
 abbrev pub answers_after : Kind → ℕ → Event → ℕ
-answers_after k n e = if is_some_kind k (answer_by e) then one_more n else n
+answers_after k n e = one_more_if (is_some_kind k (answer_by e)) n

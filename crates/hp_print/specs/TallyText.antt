@@ -1,13 +1,15 @@
 -- The text that a summary makes of a tally. This project's own.
-use Rattle.std.specs.Prelude.{ℕ, ◌+◌, Bool, nat_lt, if◌then◌else◌, Option, Some, None, List, [], ◌∷◌, ◌++◌, map, filter, codes, decimal, slice_index_or}
+use Rattle.std.specs.Prelude.{ℕ, ◌+◌, Bool, ◌==◌, nat_lt, length, if◌then◌else◌, Option, Some, None, List, [], ◌∷◌, ◌++◌, map, filter, codes, decimal, slice_index_or}
 use Rattle.std.specs.List.{flat_map}
 use Rattle.hp_states.specs.declared.limits.TheConstants.{ONLINE}
 use Rattle.hp_event.specs.declared.key.Key.{Key}
 use Rattle.hp_event.specs.declared.head.Head.{Head}
+use Rattle.hp_event.specs.declared.event.Event.{Event}
 use Rattle.hp_model.specs.Lists.{among, numbers}
 use Rattle.hp_model.specs.Processors.{is_present}
 use Rattle.hp_model.specs.Words.{line, name_word, list_words}
-use Rattle.hp_model.specs.Summary.{key_word, presence_word, name_of}
+use Rattle.hp_model.specs.JournalText.{journal_text}
+use Rattle.hp_model.specs.Summary.{key_word, presence_word, name_of, summary}
 use Rattle.hp_print.specs.declared.keys.KeyCount.{KeyCount}
 use Rattle.hp_print.specs.declared.answer_counts.AnswerCounts.{AnswerCounts}
 use Rattle.hp_print.specs.declared.processor_tally.ProcessorTally.{ProcessorTally}
@@ -24,6 +26,10 @@ keys_of counts = map (λ x. x.key) (filter is_counted counts)
 abbrev pub key_text : KeyCount → List ℕ
 key_text x = if is_counted x then 32 ∷ key_word x.key else []
 
+-- the words of these keys, or a dash where there is none
+abbrev pub keys_words : List KeyCount → List (List ℕ)
+keys_words counts = list_words (map key_word (keys_of counts))
+
 abbrev pub cpu_words : (cpu : ℕ) → (present : Bool) → (settled : ℕ) → List KeyCount → List (List ℕ)
 cpu_words c present settled counts =
     codes "cpu"
@@ -31,7 +37,7 @@ cpu_words c present settled counts =
     ∷ presence_word present
     ∷ codes "state"
     ∷ decimal settled
-    ∷ codes "keys" ∷ list_words (map key_word (keys_of counts))
+    ∷ codes "keys" ∷ keys_words counts
 
 unfoldable pub cpu_text : Head → ProcessorTally → (cpu : ℕ) → List ℕ
 cpu_text head w c =
@@ -47,9 +53,16 @@ disabled_text n = line (codes "disabled" ∷ decimal n ∷ [])
 abbrev pub frozen_word : List ℕ → (cpu : ℕ) → List ℕ
 frozen_word frozen c = if among c frozen then 32 ∷ decimal c else []
 
+-- the frozen processors in rising number, each behind a space
+abbrev pub each_frozen : (possible : ℕ) → List ℕ → List ℕ
+each_frozen n frozen = flat_map (frozen_word frozen) (numbers n)
+
+-- their words, or a dash where there is none
+abbrev pub frozen_words : (possible : ℕ) → List ℕ → List (List ℕ)
+frozen_words n frozen = list_words (map decimal (filter (λ c. among c frozen) (numbers n)))
+
 unfoldable pub frozen_text : (possible : ℕ) → List ℕ → List ℕ
-frozen_text n frozen =
-    line (codes "frozen" ∷ list_words (map decimal (filter (λ c. among c frozen) (numbers n))))
+frozen_text n frozen = line (codes "frozen" ∷ frozen_words n frozen)
 
 abbrev pub sub_words : (state : ℕ) → (name : List ℕ) → (made faults : ℕ) → (insts : List ℕ) → List (List ℕ)
 sub_words s name made faults insts =
@@ -59,12 +72,15 @@ sub_words s name made faults insts =
     ∷ codes "made"
     ∷ decimal made ∷ codes "faults" ∷ decimal faults ∷ codes "instances" ∷ list_words (map decimal insts)
 
+-- the line of a state that is registered
+abbrev pub sub_line : (state : ℕ) → (name : List ℕ) → (made faults : ℕ) → (insts : List ℕ) → List ℕ
+sub_line s name made faults insts = line (sub_words s name made faults insts)
+
 abbrev pub registered_text : Head → StateTally → (state : ℕ) → Option ℕ → List ℕ
 registered_text head t s None = []
 registered_text head t s (Some sub) =
-    line
-    (sub_words s (name_of head sub) (slice_index_or t.made.items s 0) (slice_index_or t.faults.items s 0)
-    (slice_index_or t.insts.items s []))
+    sub_line s (name_of head sub) (slice_index_or t.made.items s 0) (slice_index_or t.faults.items s 0)
+    (slice_index_or t.insts.items s [])
 
 unfoldable pub sub_text : Head → StateTally → (state : ℕ) → List ℕ
 sub_text head t s = registered_text head t s (slice_index_or t.subs.items s None)
@@ -85,6 +101,14 @@ ops_text a =
 
 unfoldable pub events_text : ℕ → List ℕ
 events_text n = line (codes "events" ∷ decimal n ∷ [])
+
+-- a text with a dash behind a space, where the list that began at this length is empty
+abbrev pub list_ended : (start : ℕ) → List ℕ → List ℕ
+list_ended start bytes = if length bytes == start then bytes ++ 32 ∷ 45 ∷ [] else bytes
+
+-- the text of a journal, and behind it its summary
+abbrev pub text_and_summary : Head → List Event → List ℕ
+text_and_summary head events = journal_text head events ++ summary head events
 
 -- the whole summary
 unfoldable pub tally_text : Head → Tally → (events : ℕ) → List ℕ

@@ -1,8 +1,8 @@
 //! How operations were answered.
 
-ghost use Rattle.std.specs.Prelude.{◌≡◌, if◌then◌else◌};
+ghost use Rattle.std.specs.Prelude.{◌≡◌};
 ghost use Rattle.hp_model.specs.Summary.{is_kind, ok, refused, fault, stuck, full};
-ghost use Rattle.hp_print.specs.Counts.{one_more};
+ghost use Rattle.hp_print.specs.Counts.{one_more_if};
 
 use hp_event::Answer;
 
@@ -32,12 +32,11 @@ impl AnswerCounts {
 
     /// Counts one answer more.
     pub fn count(&mut self, answer: Answer)
-        ensures ok { self.new.ok ≡ (if is_kind ok answer then one_more self.old.ok else self.old.ok) }
-        ensures refused { self.new.refused
-            ≡ (if is_kind refused answer then one_more self.old.refused else self.old.refused) }
-        ensures fault { self.new.fault ≡ (if is_kind fault answer then one_more self.old.fault else self.old.fault) }
-        ensures stuck { self.new.stuck ≡ (if is_kind stuck answer then one_more self.old.stuck else self.old.stuck) }
-        ensures full { self.new.full ≡ (if is_kind full answer then one_more self.old.full else self.old.full) }
+        ensures ok { self.new.ok ≡ one_more_if (is_kind ok answer) self.old.ok }
+        ensures refused { self.new.refused ≡ one_more_if (is_kind refused answer) self.old.refused }
+        ensures fault { self.new.fault ≡ one_more_if (is_kind fault answer) self.old.fault }
+        ensures stuck { self.new.stuck ≡ one_more_if (is_kind stuck answer) self.old.stuck }
+        ensures full { self.new.full ≡ one_more_if (is_kind full answer) self.old.full }
     {
         match answer {
             Answer::Ok(_) => self.ok = self.ok.saturating_add(1),

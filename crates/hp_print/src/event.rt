@@ -1,10 +1,11 @@
 //! The line of an event.
 
-ghost use Rattle.std.specs.Prelude.{◌≡◌, ◌++◌, ◌∷◌, [], OnOk, IfOk, decimal, true};
+ghost use Rattle.std.specs.Prelude.{◌≡◌, ◌++◌, ◌∷◌, OnOk, IfOk, true};
 ghost use Rattle.hp_event.specs.declared.event.Event.TheVariants as event;
-ghost use Rattle.hp_model.specs.Words.{spaced, joined, dir_word};
+ghost use Rattle.hp_model.specs.Words.{spaced, dir_word};
 ghost use Rattle.hp_model.specs.HasLine.{lists_one as lists_one_of, has_line as has_line_of};
-ghost use Rattle.hp_model.specs.EventLine.{event_line as line_of, event_words, how_words, answer_words, walk_answer_words, role_words, file_words};
+ghost use Rattle.hp_model.specs.EventLine.{event_line as line_of, how_words, answer_words, walk_answer_words, role_words, file_words};
+ghost use Rattle.hp_print.specs.Appends.{Appends, AppendsWords};
 
 use crate::op::append_op;
 use crate::words::{append, append_dir, append_number, append_of, append_signed, end_line};
@@ -14,7 +15,7 @@ use std::alloc::{AllocError, Global};
 
 /// Appends how an entry was made.
 fn append_how(out: &mut Vec<u8>, how: How) -> Result<(), AllocError>
-    ensures { OnOk result (out.new.items ≡ out.old.items ++ spaced (how_words how)) }
+    ensures { OnOk result (Appends out.old out.new (spaced (how_words how))) }
 {
     match how {
         How::RanOk => append(out, b" ok"),
@@ -34,7 +35,7 @@ fn append_how(out: &mut Vec<u8>, how: How) -> Result<(), AllocError>
 
 /// Appends the answer of an operation or a registration.
 fn append_answer(out: &mut Vec<u8>, answer: Answer) -> Result<(), AllocError>
-    ensures { OnOk result (out.new.items ≡ out.old.items ++ spaced (answer_words answer)) }
+    ensures { OnOk result (Appends out.old out.new (spaced (answer_words answer))) }
 {
     match answer {
         Answer::Ok(value) => {
@@ -61,7 +62,7 @@ fn append_answer(out: &mut Vec<u8>, answer: Answer) -> Result<(), AllocError>
 
 /// Appends the answer of a walk, which has no number where it is ok.
 fn append_walk_answer(out: &mut Vec<u8>, answer: Answer) -> Result<(), AllocError>
-    ensures { OnOk result (out.new.items ≡ out.old.items ++ spaced (walk_answer_words answer)) }
+    ensures { OnOk result (Appends out.old out.new (spaced (walk_answer_words answer))) }
 {
     match answer {
         Answer::Ok(_) => append(out, b" ok"),
@@ -71,7 +72,7 @@ fn append_walk_answer(out: &mut Vec<u8>, answer: Answer) -> Result<(), AllocErro
 
 /// Appends the role of a seat.
 fn append_role(out: &mut Vec<u8>, role: Role) -> Result<(), AllocError>
-    ensures { OnOk result (out.new.items ≡ out.old.items ++ spaced (role_words role)) }
+    ensures { OnOk result (Appends out.old out.new (spaced (role_words role))) }
 {
     match role {
         Role::Client => append(out, b" client"),
@@ -81,7 +82,7 @@ fn append_role(out: &mut Vec<u8>, role: Role) -> Result<(), AllocError>
 
 /// Appends which file was shown; the file of all states belongs to no processor.
 fn append_file(out: &mut Vec<u8>, file: File, cpu: u32) -> Result<(), AllocError>
-    ensures { OnOk result (out.new.items ≡ out.old.items ++ spaced (file_words file cpu)) }
+    ensures { OnOk result (Appends out.old out.new (spaced (file_words file cpu))) }
 {
     match file {
         File::State => append_of(out, b" state", cpu),
@@ -93,7 +94,7 @@ fn append_file(out: &mut Vec<u8>, file: File, cpu: u32) -> Result<(), AllocError
 
 /// Appends the words of a seat that comes in.
 fn append_admit(out: &mut Vec<u8>, seat: u32, role: Role) -> Result<(), AllocError>
-    ensures { OnOk result (out.new.items ≡ out.old.items ++ joined (event_words (event.Admit seat role))) }
+    ensures { OnOk result (AppendsWords out.old out.new (event.Admit seat role)) }
 {
     append_of(out, b"admit", seat)?;
     append_role(out, role)
@@ -101,7 +102,7 @@ fn append_admit(out: &mut Vec<u8>, seat: u32, role: Role) -> Result<(), AllocErr
 
 /// Appends the words of an operation that takes the map lock.
 fn append_enter(out: &mut Vec<u8>, seat: u32, op: &Op) -> Result<(), AllocError>
-    ensures { OnOk result (out.new.items ≡ out.old.items ++ joined (event_words (event.Enter seat op.now))) }
+    ensures { OnOk result (AppendsWords out.old out.new (event.Enter seat op.now)) }
 {
     append_of(out, b"enter", seat)?;
     append_op(out, op)
@@ -109,7 +110,7 @@ fn append_enter(out: &mut Vec<u8>, seat: u32, op: &Op) -> Result<(), AllocError>
 
 /// Appends the words of an operation that gives the map lock back.
 fn append_done(out: &mut Vec<u8>, seat: u32, answer: Answer) -> Result<(), AllocError>
-    ensures { OnOk result (out.new.items ≡ out.old.items ++ joined (event_words (event.OpEnd seat answer))) }
+    ensures { OnOk result (AppendsWords out.old out.new (event.OpEnd seat answer)) }
 {
     append_of(out, b"done", seat)?;
     append_answer(out, answer)
@@ -117,7 +118,7 @@ fn append_done(out: &mut Vec<u8>, seat: u32, answer: Answer) -> Result<(), Alloc
 
 /// Appends the words of a registration that ends.
 fn append_regged(out: &mut Vec<u8>, seat: u32, answer: Answer) -> Result<(), AllocError>
-    ensures { OnOk result (out.new.items ≡ out.old.items ++ joined (event_words (event.RegEnd seat answer))) }
+    ensures { OnOk result (AppendsWords out.old out.new (event.RegEnd seat answer)) }
 {
     append_of(out, b"regged", seat)?;
     append_answer(out, answer)
@@ -125,7 +126,7 @@ fn append_regged(out: &mut Vec<u8>, seat: u32, answer: Answer) -> Result<(), All
 
 /// Appends the words of an operation that is refused.
 fn append_refused(out: &mut Vec<u8>, seat: u32, errno: u32, op: &Op) -> Result<(), AllocError>
-    ensures { OnOk result (out.new.items ≡ out.old.items ++ joined (event_words (event.Refused seat errno op.now))) }
+    ensures { OnOk result (AppendsWords out.old out.new (event.Refused seat errno op.now)) }
 {
     append_of(out, b"refused", seat)?;
     append_number(out, errno)?;
@@ -134,7 +135,7 @@ fn append_refused(out: &mut Vec<u8>, seat: u32, errno: u32, op: &Op) -> Result<(
 
 /// Appends the words of a walk that begins.
 fn append_walk(out: &mut Vec<u8>, seat: u32, cpu: u32, from: u32, to: u32) -> Result<(), AllocError>
-    ensures { OnOk result (out.new.items ≡ out.old.items ++ joined (event_words (event.WalkBegin seat cpu from to))) }
+    ensures { OnOk result (AppendsWords out.old out.new (event.WalkBegin seat cpu from to)) }
 {
     append_of(out, b"walk", seat)?;
     append_number(out, cpu)?;
@@ -151,7 +152,7 @@ fn append_call(
     dir: Dir,
     how: How,
 ) -> Result<(), AllocError>
-    ensures { OnOk result (out.new.items ≡ out.old.items ++ joined (event_words (event.Call seat cpu key.state key.inst dir how))) }
+    ensures { OnOk result (AppendsWords out.old out.new (event.Call seat cpu key.state key.inst dir how)) }
 {
     append_of(out, b"call", seat)?;
     append_number(out, cpu)?;
@@ -163,7 +164,7 @@ fn append_call(
 /// Appends the direction of an entry, and how it was made. Most ran and were ok, and those go in
 /// one piece.
 fn append_made(out: &mut Vec<u8>, dir: Dir, how: How) -> Result<(), AllocError>
-    ensures { OnOk result (out.new.items ≡ out.old.items ++ 32 ∷ dir_word dir ++ spaced (how_words how)) }
+    ensures { OnOk result (Appends out.old out.new (32 ∷ dir_word dir ++ spaced (how_words how))) }
 {
     match (dir, how) {
         (Dir::Up, How::RanOk) => append(out, b" up ok"),
@@ -177,7 +178,7 @@ fn append_made(out: &mut Vec<u8>, dir: Dir, how: How) -> Result<(), AllocError>
 
 /// Appends the words of a walk that ends.
 fn append_walked(out: &mut Vec<u8>, seat: u32, cpu: u32, answer: Answer) -> Result<(), AllocError>
-    ensures { OnOk result (out.new.items ≡ out.old.items ++ joined (event_words (event.WalkEnd seat cpu answer))) }
+    ensures { OnOk result (AppendsWords out.old out.new (event.WalkEnd seat cpu answer)) }
 {
     append_of(out, b"walked", seat)?;
     append_number(out, cpu)?;
@@ -186,7 +187,7 @@ fn append_walked(out: &mut Vec<u8>, seat: u32, cpu: u32, answer: Answer) -> Resu
 
 /// Appends the words of a registration that begins.
 fn append_reg(out: &mut Vec<u8>, seat: u32, state: u32, op: &Op) -> Result<(), AllocError>
-    ensures { OnOk result (out.new.items ≡ out.old.items ++ joined (event_words (event.RegBegin seat state op.now))) }
+    ensures { OnOk result (AppendsWords out.old out.new (event.RegBegin seat state op.now)) }
 {
     append_of(out, b"reg", seat)?;
     append_number(out, state)?;
@@ -195,7 +196,7 @@ fn append_reg(out: &mut Vec<u8>, seat: u32, state: u32, op: &Op) -> Result<(), A
 
 /// Appends the words of a `fail` file that was written.
 fn append_armed(out: &mut Vec<u8>, seat: u32, cpu: u32, value: i32) -> Result<(), AllocError>
-    ensures { OnOk result (out.new.items ≡ out.old.items ++ joined (event_words (event.Armed seat cpu value))) }
+    ensures { OnOk result (AppendsWords out.old out.new (event.Armed seat cpu value)) }
 {
     append_of(out, b"armed", seat)?;
     append_number(out, cpu)?;
@@ -210,7 +211,7 @@ fn append_shown(
     cpu: u32,
     value: i32,
 ) -> Result<(), AllocError>
-    ensures { OnOk result (out.new.items ≡ out.old.items ++ joined (event_words (event.Shown seat file cpu value))) }
+    ensures { OnOk result (AppendsWords out.old out.new (event.Shown seat file cpu value)) }
 {
     append_of(out, b"shown", seat)?;
     append_file(out, file, cpu)?;
@@ -219,7 +220,7 @@ fn append_shown(
 
 /// Appends the words of an event.
 fn append_words(out: &mut Vec<u8>, event: &Event) -> Result<(), AllocError>
-    ensures { OnOk result (out.new.items ≡ out.old.items ++ joined (event_words event.now)) }
+    ensures { OnOk result (AppendsWords out.old out.new event.now) }
 {
     match event {
         Event::Admit { seat, role } => append_admit(out, *seat, *role),
@@ -269,7 +270,7 @@ fn append_words(out: &mut Vec<u8>, event: &Event) -> Result<(), AllocError>
 
 /// Appends the line of an event.
 pub fn append_event(out: &mut Vec<u8>, event: &Event) -> Result<(), AllocError>
-    ensures { OnOk result (out.new.items ≡ out.old.items ++ line_of event.now) }
+    ensures { OnOk result (Appends out.old out.new (line_of event.now)) }
 {
     append_words(out, event)?;
     end_line(out)

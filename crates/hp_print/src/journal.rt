@@ -1,10 +1,11 @@
 //! The text of a journal.
 
-ghost use Rattle.std.specs.Prelude.{◌≡◌, ◌++◌, ◌∷◌, [], List, map, OnOk, IfOk, decimal};
+ghost use Rattle.std.specs.Prelude.{◌≡◌, ◌∷◌, OnOk, IfOk};
 ghost use Rattle.std.specs.List.{flat_map};
-ghost use Rattle.hp_model.specs.Words.{spaced, name_word, list_words, any_word, calls_word, kind_word};
+ghost use Rattle.hp_model.specs.Words.{calls_word, kind_word};
 ghost use Rattle.hp_model.specs.EventLine.{event_line as line_of};
 ghost use Rattle.hp_model.specs.JournalText.{rule_line, sub_lines, title_line, processor_lines, head_text, journal_text as text_of};
+ghost use Rattle.hp_print.specs.Appends.{Appends};
 
 use crate::event::append_event;
 use crate::words::{
@@ -17,7 +18,7 @@ use std::alloc::{AllocError, Global};
 
 /// Appends the line of a rule.
 fn append_rule(out: &mut Vec<u8>, rule: &Rule) -> Result<(), AllocError>
-    ensures { OnOk result (out.new.items ≡ out.old.items ++ rule_line rule.now) }
+    ensures { OnOk result (Appends out.old out.new (rule_line rule.now)) }
 {
     append(out, b"rule")?;
     append_dir(out, rule.dir)?;
@@ -30,7 +31,7 @@ fn append_rule(out: &mut Vec<u8>, rule: &Rule) -> Result<(), AllocError>
 
 /// Appends the lines of some rules.
 fn append_rules(out: &mut Vec<u8>, rules: &[Rule]) -> Result<(), AllocError>
-    ensures { OnOk result (out.new.items ≡ out.old.items ++ flat_map rule_line rules.now) }
+    ensures { OnOk result (Appends out.old out.new (flat_map rule_line rules.now)) }
 {
     for rule in rules {
         append_rule(out, rule)?;
@@ -40,7 +41,7 @@ fn append_rules(out: &mut Vec<u8>, rules: &[Rule]) -> Result<(), AllocError>
 
 /// Appends which callbacks a subsystem has.
 fn append_calls(out: &mut Vec<u8>, up: bool, down: bool) -> Result<(), AllocError>
-    ensures { OnOk result (out.new.items ≡ out.old.items ++ 32 ∷ calls_word up down) }
+    ensures { OnOk result (Appends out.old out.new (32 ∷ calls_word up down)) }
 {
     match (up, down) {
         (true, true) => append(out, b" both"),
@@ -52,7 +53,7 @@ fn append_calls(out: &mut Vec<u8>, up: bool, down: bool) -> Result<(), AllocErro
 
 /// Appends whether a subsystem's states have instance lists.
 fn append_kind(out: &mut Vec<u8>, multi: bool) -> Result<(), AllocError>
-    ensures { OnOk result (out.new.items ≡ out.old.items ++ 32 ∷ kind_word multi) }
+    ensures { OnOk result (Appends out.old out.new (32 ∷ kind_word multi)) }
 {
     if multi {
         append(out, b" multi")
@@ -63,7 +64,7 @@ fn append_kind(out: &mut Vec<u8>, multi: bool) -> Result<(), AllocError>
 
 /// Appends the line of a subsystem, and those of its rules.
 fn append_sub(out: &mut Vec<u8>, sub: &Sub) -> Result<(), AllocError>
-    ensures { OnOk result (out.new.items ≡ out.old.items ++ sub_lines sub.now) }
+    ensures { OnOk result (Appends out.old out.new (sub_lines sub.now)) }
 {
     append(out, b"sub")?;
     append_name(out, sub.name.as_slice())?;
@@ -75,7 +76,7 @@ fn append_sub(out: &mut Vec<u8>, sub: &Sub) -> Result<(), AllocError>
 
 /// Appends the lines of some subsystems, each with its rules.
 fn append_subs(out: &mut Vec<u8>, subs: &[Sub]) -> Result<(), AllocError>
-    ensures { OnOk result (out.new.items ≡ out.old.items ++ flat_map sub_lines subs.now) }
+    ensures { OnOk result (Appends out.old out.new (flat_map sub_lines subs.now)) }
 {
     for sub in subs {
         append_sub(out, sub)?;
@@ -86,7 +87,7 @@ fn append_subs(out: &mut Vec<u8>, subs: &[Sub]) -> Result<(), AllocError>
 /// Appends the lines of a journal's processors.
 #[tactic(auto, unfolding(hp_model::specs::JournalText::processor_lines))]
 fn append_processors(out: &mut Vec<u8>, head: &Head) -> Result<(), AllocError>
-    ensures { OnOk result (out.new.items ≡ out.old.items ++ processor_lines head.now) }
+    ensures { OnOk result (Appends out.old out.new (processor_lines head.now)) }
 {
     append(out, b"cpus")?;
     append_number(out, head.possible)?;
@@ -98,7 +99,7 @@ fn append_processors(out: &mut Vec<u8>, head: &Head) -> Result<(), AllocError>
 /// Appends the line of the format.
 #[tactic(auto, unfolding(hp_model::specs::JournalText::title_line))]
 fn append_title(out: &mut Vec<u8>) -> Result<(), AllocError>
-    ensures { OnOk result (out.new.items ≡ out.old.items ++ title_line) }
+    ensures { OnOk result (Appends out.old out.new title_line) }
 {
     append(out, b"cpuhp journal 1\n")
 }
@@ -106,7 +107,7 @@ fn append_title(out: &mut Vec<u8>) -> Result<(), AllocError>
 /// Appends the lines before a journal's events.
 #[tactic(auto, unfolding(hp_model::specs::JournalText::head_text))]
 fn append_head(out: &mut Vec<u8>, head: &Head) -> Result<(), AllocError>
-    ensures { OnOk result (out.new.items ≡ out.old.items ++ head_text head.now) }
+    ensures { OnOk result (Appends out.old out.new (head_text head.now)) }
 {
     append_title(out)?;
     append_processors(out, head)?;
@@ -116,7 +117,7 @@ fn append_head(out: &mut Vec<u8>, head: &Head) -> Result<(), AllocError>
 
 /// Appends the lines of some events.
 fn append_events(out: &mut Vec<u8>, events: &[Event]) -> Result<(), AllocError>
-    ensures { OnOk result (out.new.items ≡ out.old.items ++ flat_map line_of events.now) }
+    ensures { OnOk result (Appends out.old out.new (flat_map line_of events.now)) }
 {
     for event in events {
         append_event(out, event)?;
@@ -130,7 +131,7 @@ const LINE: usize = 32;
 /// Appends the text of the journal of a head and its events.
 #[tactic(auto, unfolding(hp_model::specs::JournalText::journal_text))]
 pub fn append_journal(out: &mut Vec<u8>, head: &Head, events: &[Event]) -> Result<(), AllocError>
-    ensures { OnOk result (out.new.items ≡ out.old.items ++ text_of head.now events.now) }
+    ensures { OnOk result (Appends out.old out.new (text_of head.now events.now)) }
 {
     out.reserve(events.len().saturating_mul(LINE))?;
     append_head(out, head)?;

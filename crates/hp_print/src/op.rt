@@ -1,9 +1,10 @@
 //! The words of an operation.
 
-ghost use Rattle.std.specs.Prelude.{◌≡◌, ◌++◌, ◌∷◌, OnOk, map, decimal};
+ghost use Rattle.std.specs.Prelude.{◌++◌, OnOk, map, decimal};
 ghost use Rattle.hp_model.specs.Words.{spaced};
 ghost use Rattle.hp_model.specs.Listed.{listed};
 ghost use Rattle.hp_model.specs.EventLine.{op_words, form_words};
+ghost use Rattle.hp_print.specs.Appends.{Appends, place_text};
 
 use crate::words::{append, append_number, append_of, append_signed};
 use hp_event::{Form, Op};
@@ -12,7 +13,7 @@ use std::alloc::AllocError;
 
 /// Appends the flags of a form.
 fn append_form(out: &mut Vec<u8>, form: Form) -> Result<(), AllocError>
-    ensures { OnOk result (out.new.items ≡ out.old.items ++ spaced (form_words form)) }
+    ensures { OnOk result (Appends out.old out.new (spaced (form_words form))) }
 {
     if form.nocalls {
         append(out, b" nocalls")?;
@@ -25,7 +26,7 @@ fn append_form(out: &mut Vec<u8>, form: Form) -> Result<(), AllocError>
 
 /// Appends the numbers that a set lists, rising.
 fn append_set(out: &mut Vec<u8>, set: &CpuSet) -> Result<(), AllocError>
-    ensures { OnOk result (out.new.items ≡ out.old.items ++ spaced (map decimal (listed set.now))) }
+    ensures { OnOk result (Appends out.old out.new (spaced (map decimal (listed set.now)))) }
 {
     let mut from = 0;
     while let Some(cpu) = set.first_from(from) {
@@ -37,7 +38,7 @@ fn append_set(out: &mut Vec<u8>, set: &CpuSet) -> Result<(), AllocError>
 
 /// Appends an operation, as a script has it.
 pub fn append_op(out: &mut Vec<u8>, op: &Op) -> Result<(), AllocError>
-    ensures { OnOk result (out.new.items ≡ out.old.items ++ spaced (op_words op.now)) }
+    ensures { OnOk result (Appends out.old out.new (spaced (op_words op.now))) }
 {
     match op {
         Op::Up(cpu) => append_of(out, b" up", *cpu),
@@ -91,7 +92,7 @@ fn append_registering(
     which: u32,
     form: Form,
 ) -> Result<(), AllocError>
-    ensures { OnOk result (out.new.items ≡ out.old.items ++ (word.now ++ spaced (decimal state ∷ decimal which ∷ form_words form))) }
+    ensures { OnOk result (Appends out.old out.new (word.now ++ place_text state which form)) }
 {
     append(out, word)?;
     append_number(out, state)?;

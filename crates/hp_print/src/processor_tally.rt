@@ -1,10 +1,10 @@
 //! Where processors stand, and how often the entries of their keys are done.
 
-ghost use Rattle.std.specs.Prelude.{◌≡◌, ℕ, IfOk, OnOk, List, [], slice_set, slice_index_or, replicate};
+ghost use Rattle.std.specs.Prelude.{◌≡◌, ℕ, IfOk, OnOk, [], slice_set, slice_index_or, replicate};
 ghost use Rattle.hp_states.specs.declared.limits.TheConstants.{ONLINE};
 ghost use Rattle.hp_print.specs.Tallies.{IsProcessorTally};
-ghost use Rattle.hp_print.specs.Counts.{AreInOrder, counted};
-ghost use Rattle.hp_print.specs.Steps.{stands_after};
+ghost use Rattle.hp_print.specs.Counts.{AreInOrder, counted_at};
+ghost use Rattle.hp_print.specs.Counting.{settled_walked};
 
 use crate::keys::KeyCounts;
 use hp_event::{Answer, Key};
@@ -70,10 +70,7 @@ impl ProcessorTally {
         requires order { (c : ℕ) → AreInOrder (slice_index_or self.old.keys.items c []) }
         ensures targets { self.new.targets.items ≡ self.old.targets.items }
         ensures settled { self.new.settled.items ≡ self.old.settled.items }
-        ensures keys { OnOk result
-            (self.new.keys.items
-            ≡ slice_set self.old.keys.items cpu
-            (counted key dir done (slice_index_or self.old.keys.items cpu []))) }
+        ensures keys { OnOk result (self.new.keys.items ≡ counted_at cpu key dir done self.old.keys.items) }
     {
         let at = cpu as usize;
         if at < self.keys.len() {
@@ -86,11 +83,7 @@ impl ProcessorTally {
     /// A walk ends.
     pub fn end(&mut self, cpu: u32, answer: Answer)
         ensures targets { self.new.targets.items ≡ slice_set self.old.targets.items cpu None }
-        ensures settled { self.new.settled.items
-            ≡ slice_set self.old.settled.items cpu
-            (stands_after answer
-            (slice_index_or self.old.targets.items cpu None)
-            (slice_index_or self.old.settled.items cpu 0)) }
+        ensures settled { self.new.settled.items ≡ settled_walked self.old cpu answer }
         ensures keys { self.new.keys.items ≡ self.old.keys.items }
     {
         let at = cpu as usize;

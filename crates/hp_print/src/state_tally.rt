@@ -1,13 +1,13 @@
 //! What is registered at each state, and what its hook did.
 
-ghost use Rattle.std.specs.Prelude.{◌≡◌, ◌+◌, ◌<◌, ◌∷◌, IfOk, OnOk, List, [], length, slice_set, slice_index_or, if◌then◌else◌};
+ghost use Rattle.std.specs.Prelude.{◌≡◌, ◌+◌, IfOk, OnOk, [], slice_set};
 ghost use Rattle.hp_model.specs.Calls.{is_called};
-ghost use Rattle.hp_model.specs.Suspend.{is_ok};
 ghost use Rattle.hp_model.specs.Summary.{is_hook_fault};
 ghost use Rattle.hp_event.specs.declared.head.Head.{Head};
-ghost use Rattle.hp_print.specs.Counts.{one_more};
+ghost use Rattle.hp_print.specs.Counts.{one_more_at};
 ghost use Rattle.hp_print.specs.Tallies.{IsStateTally};
-ghost use Rattle.hp_print.specs.Steps.{subs_applied, sub_after, all_insts_applied, insts_after, begun_anew};
+ghost use Rattle.hp_print.specs.Steps.{subs_applied, sub_after, insts_after, begun_anew, with_call};
+ghost use Rattle.hp_print.specs.Counting.{subs_ended, insts_with, insts_ended};
 
 use crate::instance_list::InstanceList;
 use hp_event::{Answer, How, Op};
@@ -39,7 +39,7 @@ pub struct StateTally {
 /// Counts one more at a state.
 fn raise(counts: &mut Vec<usize>, state: u32)
     ensures { counts.new.items
-        ≡ slice_set counts.old.items state (one_more (slice_index_or counts.old.items state 0)) }
+        ≡ one_more_at state counts.old.items }
 {
     let at = state as usize;
     if at < counts.len() {
@@ -128,14 +128,8 @@ impl StateTally {
         ensures asked { self.new.asked ≡ self.old.asked }
         ensures subs { self.new.subs.items ≡ self.old.subs.items }
         ensures insts { self.new.insts.items ≡ self.old.insts.items }
-        ensures made { self.new.made.items
-            ≡ (if is_called how
-            then slice_set self.old.made.items state (one_more (slice_index_or self.old.made.items state 0))
-            else self.old.made.items) }
-        ensures faults { self.new.faults.items
-            ≡ (if is_hook_fault how
-            then slice_set self.old.faults.items state (one_more (slice_index_or self.old.faults.items state 0))
-            else self.old.faults.items) }
+        ensures made { self.new.made.items ≡ with_call is_called how state self.old.made.items }
+        ensures faults { self.new.faults.items ≡ with_call is_hook_fault how state self.old.faults.items }
     {
         if how.is_called() {
             raise(&mut self.made, state);
@@ -148,14 +142,8 @@ impl StateTally {
     /// The registration ends.
     pub fn end(&mut self, answer: Answer) -> Result<(), AllocError>
         ensures asked { OnOk result (self.new.asked ≡ None) }
-        ensures subs { OnOk result
-            (self.new.subs.items
-            ≡ (if is_ok answer then subs_applied self.old.asked self.old.subs.items else self.old.subs.items)) }
-        ensures insts { OnOk result
-            (self.new.insts.items
-            ≡ (if is_ok answer
-            then all_insts_applied self.old.asked self.old.subs.items self.old.insts.items
-            else self.old.insts.items)) }
+        ensures subs { OnOk result (self.new.subs.items ≡ subs_ended self.old answer) }
+        ensures insts { OnOk result (self.new.insts.items ≡ insts_ended self.old answer) }
         ensures made { self.new.made.items ≡ self.old.made.items }
         ensures faults { self.new.faults.items ≡ self.old.faults.items }
     {
@@ -171,8 +159,7 @@ impl StateTally {
     fn apply(&mut self, asked: Asked) -> Result<(), AllocError>
         ensures asked { self.new.asked ≡ self.old.asked }
         ensures subs { OnOk result (self.new.subs.items ≡ subs_applied (Some asked) self.old.subs.items) }
-        ensures insts { OnOk result
-            (self.new.insts.items ≡ all_insts_applied (Some asked) self.old.subs.items self.old.insts.items) }
+        ensures insts { OnOk result (self.new.insts.items ≡ insts_with self.old asked) }
         ensures made { self.new.made.items ≡ self.old.made.items }
         ensures faults { self.new.faults.items ≡ self.old.faults.items }
     {

@@ -1,13 +1,11 @@
 //! The summary of a journal.
 
-ghost use Rattle.std.specs.Prelude.{◌≡◌, ℕ, ◌+◌, ◌<◌, ◌++◌, ◌∷◌, ◌==◌, [], List, map, OnOk, IfOk, length, filter, decimal, if◌then◌else◌};
+ghost use Rattle.std.specs.Prelude.{◌≡◌, ◌+◌, ◌<◌, ◌++◌, ◌∷◌, OnOk, IfOk, length, decimal};
 ghost use Rattle.std.specs.List.{flat_map};
-ghost use Rattle.hp_model.specs.Lists.{among, numbers};
-ghost use Rattle.hp_model.specs.Words.{line, spaced, list_words};
-ghost use Rattle.hp_model.specs.JournalText.{journal_text as text_of};
-ghost use Rattle.hp_model.specs.Summary.{key_word, presence_word, name_of as name_of_sub, summary as summary_of};
-ghost use Rattle.hp_print.specs.Tallies.{IsTally};
-ghost use Rattle.hp_print.specs.TallyText.{keys_of, key_text, cpu_words, cpu_text, cpus_text, disabled_text, frozen_word, frozen_text, sub_words, registered_text, sub_text, subs_text, ops_text, events_text, tally_text};
+ghost use Rattle.hp_model.specs.Words.{line, spaced};
+ghost use Rattle.hp_model.specs.Summary.{presence_word, name_of as name_of_sub, summary as summary_of};
+ghost use Rattle.hp_print.specs.TallyText.{key_text, cpu_words, cpu_text, cpus_text, disabled_text, frozen_word, frozen_text, sub_text, subs_text, ops_text, events_text, tally_text, keys_words, each_frozen, frozen_words, sub_line, list_ended, text_and_summary};
+ghost use Rattle.hp_print.specs.Appends.{Appends};
 
 use crate::answer_counts::AnswerCounts;
 use crate::journal::append_journal;
@@ -24,7 +22,7 @@ use std::alloc::{AllocError, Global};
 
 /// Appends a word and a count, behind a space.
 fn append_count_of(out: &mut Vec<u8>, word: &[u8], count: usize) -> Result<(), AllocError>
-    ensures { OnOk result (out.new.items ≡ out.old.items ++ (word.now ++ 32 ∷ decimal count)) }
+    ensures { OnOk result (Appends out.old out.new (word.now ++ 32 ∷ decimal count)) }
 {
     append(out, word)?;
     append_count(out, count)
@@ -32,9 +30,7 @@ fn append_count_of(out: &mut Vec<u8>, word: &[u8], count: usize) -> Result<(), A
 
 /// Appends a dash where nothing was appended since the buffer had this length.
 fn end_list(out: &mut Vec<u8>, start: usize) -> Result<(), AllocError>
-    ensures { OnOk result
-        (out.new.items
-        ≡ (if length out.old.items == start then out.old.items ++ 32 ∷ 45 ∷ [] else out.old.items)) }
+    ensures { OnOk result (out.new.items ≡ list_ended start out.old.items) }
 {
     if out.len() == start {
         append(out, b" -")
@@ -45,7 +41,7 @@ fn end_list(out: &mut Vec<u8>, start: usize) -> Result<(), AllocError>
 
 /// Appends a key where it counts as in force.
 fn append_key(out: &mut Vec<u8>, count: &KeyCount) -> Result<(), AllocError>
-    ensures { OnOk result (out.new.items ≡ out.old.items ++ key_text count.now) }
+    ensures { OnOk result (Appends out.old out.new (key_text count.now)) }
 {
     if count.downs >= count.ups {
         return Ok(());
@@ -56,7 +52,7 @@ fn append_key(out: &mut Vec<u8>, count: &KeyCount) -> Result<(), AllocError>
 
 /// Appends the keys that count as in force.
 fn append_each_key(out: &mut Vec<u8>, counts: &[KeyCount]) -> Result<(), AllocError>
-    ensures { OnOk result (out.new.items ≡ out.old.items ++ flat_map key_text counts.now) }
+    ensures { OnOk result (Appends out.old out.new (flat_map key_text counts.now)) }
 {
     for count in counts {
         append_key(out, count)?;
@@ -66,7 +62,7 @@ fn append_each_key(out: &mut Vec<u8>, counts: &[KeyCount]) -> Result<(), AllocEr
 
 /// Appends the keys that count as in force, or a dash.
 fn append_keys(out: &mut Vec<u8>, counts: &[KeyCount]) -> Result<(), AllocError>
-    ensures { OnOk result (out.new.items ≡ out.old.items ++ spaced (list_words (map key_word (keys_of counts.now)))) }
+    ensures { OnOk result (Appends out.old out.new (spaced (keys_words counts.now))) }
 {
     let start = out.len();
     append_each_key(out, counts)?;
@@ -76,7 +72,7 @@ fn append_keys(out: &mut Vec<u8>, counts: &[KeyCount]) -> Result<(), AllocError>
 
 /// Appends whether a processor is present.
 fn append_presence(out: &mut Vec<u8>, present: bool) -> Result<(), AllocError>
-    ensures { OnOk result (out.new.items ≡ out.old.items ++ 32 ∷ presence_word present) }
+    ensures { OnOk result (Appends out.old out.new (32 ∷ presence_word present)) }
 {
     if present {
         append(out, b" present")
@@ -93,7 +89,7 @@ fn append_cpu(
     settled: u32,
     counts: &[KeyCount],
 ) -> Result<(), AllocError>
-    ensures { OnOk result (out.new.items ≡ out.old.items ++ line (cpu_words cpu present settled counts.now)) }
+    ensures { OnOk result (Appends out.old out.new (line (cpu_words cpu present settled counts.now))) }
 {
     append(out, b"cpu")?;
     append_number(out, cpu)?;
@@ -114,7 +110,7 @@ fn append_cpus(
 ) -> Result<(), AllocError>
     requires settled { length processors.now.settled.items ≡ head.now.possible }
     requires keys { length processors.now.keys.items ≡ head.now.possible }
-    ensures { OnOk result (out.new.items ≡ out.old.items ++ cpus_text head.now processors.now) }
+    ensures { OnOk result (Appends out.old out.new (cpus_text head.now processors.now)) }
 {
     for cpu in 0..head.possible {
         append_cpu_of(out, head, processors, cpu)?;
@@ -133,7 +129,7 @@ fn append_cpu_of(
     requires possible { cpu < head.now.possible }
     requires settled { length processors.now.settled.items ≡ head.now.possible }
     requires keys { length processors.now.keys.items ≡ head.now.possible }
-    ensures { OnOk result (out.new.items ≡ out.old.items ++ cpu_text head.now processors.now cpu) }
+    ensures { OnOk result (Appends out.old out.new (cpu_text head.now processors.now cpu)) }
 {
     let present = head.is_present(cpu);
     let settled = processors.settled[cpu as usize];
@@ -149,7 +145,7 @@ fn append_cpu_of(
 /// Appends how often hotplug is disabled.
 #[tactic(auto, unfolding(crate::specs::TallyText::disabled_text))]
 fn append_disabled(out: &mut Vec<u8>, disabled: usize) -> Result<(), AllocError>
-    ensures { OnOk result (out.new.items ≡ out.old.items ++ disabled_text disabled) }
+    ensures { OnOk result (Appends out.old out.new (disabled_text disabled)) }
 {
     append_count_of(out, b"disabled", disabled)?;
     end_line(out)
@@ -157,7 +153,7 @@ fn append_disabled(out: &mut Vec<u8>, disabled: usize) -> Result<(), AllocError>
 
 /// Appends a processor where it is frozen.
 fn append_if_frozen(out: &mut Vec<u8>, frozen: &[u32], cpu: u32) -> Result<(), AllocError>
-    ensures { OnOk result (out.new.items ≡ out.old.items ++ frozen_word frozen.now cpu) }
+    ensures { OnOk result (Appends out.old out.new (frozen_word frozen.now cpu)) }
 {
     if frozen.contains(&cpu) {
         append_number(out, cpu)
@@ -168,7 +164,7 @@ fn append_if_frozen(out: &mut Vec<u8>, frozen: &[u32], cpu: u32) -> Result<(), A
 
 /// Appends the processors that are frozen, in rising number.
 fn append_each_frozen(out: &mut Vec<u8>, frozen: &[u32], possible: u32) -> Result<(), AllocError>
-    ensures { OnOk result (out.new.items ≡ out.old.items ++ flat_map (frozen_word frozen.now) (numbers possible)) }
+    ensures { OnOk result (Appends out.old out.new (each_frozen possible frozen.now)) }
 {
     for cpu in 0..possible {
         append_if_frozen(out, frozen, cpu)?;
@@ -178,10 +174,7 @@ fn append_each_frozen(out: &mut Vec<u8>, frozen: &[u32], possible: u32) -> Resul
 
 /// Appends the processors that are frozen, in rising number, or a dash.
 fn append_frozen_list(out: &mut Vec<u8>, frozen: &[u32], possible: u32) -> Result<(), AllocError>
-    ensures { OnOk result
-        (out.new.items
-        ≡ out.old.items
-        ++ spaced (list_words (map decimal (filter (λ c. among c frozen.now) (numbers possible))))) }
+    ensures { OnOk result (Appends out.old out.new (spaced (frozen_words possible frozen.now))) }
 {
     let start = out.len();
     append_each_frozen(out, frozen, possible)?;
@@ -192,7 +185,7 @@ fn append_frozen_list(out: &mut Vec<u8>, frozen: &[u32], possible: u32) -> Resul
 /// Appends the line of the frozen processors.
 #[tactic(auto, unfolding(crate::specs::TallyText::frozen_text))]
 fn append_frozen(out: &mut Vec<u8>, frozen: &[u32], possible: u32) -> Result<(), AllocError>
-    ensures { OnOk result (out.new.items ≡ out.old.items ++ frozen_text possible frozen.now) }
+    ensures { OnOk result (Appends out.old out.new (frozen_text possible frozen.now)) }
 {
     append(out, b"frozen")?;
     append_frozen_list(out, frozen, possible)?;
@@ -208,7 +201,7 @@ fn append_registered(
     faults: usize,
     insts: &[u32],
 ) -> Result<(), AllocError>
-    ensures { OnOk result (out.new.items ≡ out.old.items ++ line (sub_words state name.now made faults insts.now)) }
+    ensures { OnOk result (Appends out.old out.new (sub_line state name.now made faults insts.now)) }
 {
     append(out, b"sub")?;
     append_number(out, state)?;
@@ -242,7 +235,7 @@ fn append_state(
     requires insts { state < length states.now.insts.items }
     requires made { state < length states.now.made.items }
     requires faults { state < length states.now.faults.items }
-    ensures { OnOk result (out.new.items ≡ out.old.items ++ sub_text head.now states.now state) }
+    ensures { OnOk result (Appends out.old out.new (sub_text head.now states.now state)) }
 {
     let at = state as usize;
     match states.subs[at] {
@@ -270,7 +263,7 @@ fn append_states(
     requires insts { length states.now.insts.items ≡ many }
     requires made { length states.now.made.items ≡ many }
     requires faults { length states.now.faults.items ≡ many }
-    ensures { OnOk result (out.new.items ≡ out.old.items ++ subs_text head.now states.now many) }
+    ensures { OnOk result (Appends out.old out.new (subs_text head.now states.now many)) }
 {
     for state in 0..many {
         append_state(out, head, states, state)?;
@@ -281,7 +274,7 @@ fn append_states(
 /// Appends how operations were answered.
 #[tactic(auto, unfolding(crate::specs::TallyText::ops_text))]
 fn append_ops(out: &mut Vec<u8>, answers: &AnswerCounts) -> Result<(), AllocError>
-    ensures { OnOk result (out.new.items ≡ out.old.items ++ ops_text answers.now) }
+    ensures { OnOk result (Appends out.old out.new (ops_text answers.now)) }
 {
     append_count_of(out, b"ops ok", answers.ok)?;
     append_count_of(out, b" refused", answers.refused)?;
@@ -294,7 +287,7 @@ fn append_ops(out: &mut Vec<u8>, answers: &AnswerCounts) -> Result<(), AllocErro
 /// Appends the number of events.
 #[tactic(auto, unfolding(crate::specs::TallyText::events_text))]
 fn append_event_count(out: &mut Vec<u8>, count: usize) -> Result<(), AllocError>
-    ensures { OnOk result (out.new.items ≡ out.old.items ++ events_text count) }
+    ensures { OnOk result (Appends out.old out.new (events_text count)) }
 {
     append_count_of(out, b"events", count)?;
     end_line(out)
@@ -314,7 +307,7 @@ fn append_tally(
     requires insts { length tally.now.states.insts.items ≡ ONLINE + 1 }
     requires made { length tally.now.states.made.items ≡ ONLINE + 1 }
     requires faults { length tally.now.states.faults.items ≡ ONLINE + 1 }
-    ensures { OnOk result (out.new.items ≡ out.old.items ++ tally_text head.now tally.now count) }
+    ensures { OnOk result (Appends out.old out.new (tally_text head.now tally.now count)) }
 {
     append_cpus(out, head, &tally.processors)?;
     append_disabled(out, tally.suspended.disabled)?;
@@ -326,7 +319,7 @@ fn append_tally(
 
 /// Appends the summary of a journal.
 fn append_summary(alloc: Global, out: &mut Vec<u8>, journal: &Journal) -> Result<(), AllocError>
-    ensures { OnOk result (out.new.items ≡ out.old.items ++ summary_of journal.now.head journal.now.events) }
+    ensures { OnOk result (Appends out.old out.new (summary_of journal.now.head journal.now.events)) }
 {
     let tally = tally_of(alloc, journal.head(), journal.events())?;
     append_tally(out, journal.head(), &tally, journal.events().len())
@@ -352,9 +345,7 @@ pub fn summary(alloc: Global, journal: &Journal) -> Result<Vec<u8>, NoMemory>
 /// Takes memory as `journal_text` and `summary` do, but in one buffer; where it is wanting the
 /// answer is `NoMemory`, and the journal is as before.
 pub fn journal_and_summary(alloc: Global, journal: &Journal) -> Result<Vec<u8>, NoMemory>
-    ensures { IfOk result (λ v.
-        v.items
-        ≡ text_of journal.now.head journal.now.events ++ summary_of journal.now.head journal.now.events) }
+    ensures { IfOk result (λ v. v.items ≡ text_and_summary journal.now.head journal.now.events) }
 {
     let mut out = Vec::new(alloc);
     append_journal(&mut out, journal.head(), journal.events())?;

@@ -1,9 +1,8 @@
 //! How often hotplug is disabled, and which processors are frozen.
 
-ghost use Rattle.std.specs.Prelude.{◌≡◌, ◌-◌, ◌&&◌, ◌++◌, ◌∷◌, if◌then◌else◌, OnOk, List, []};
-ghost use Rattle.hp_model.specs.Suspend.{is_ok, is_freeze, is_thaw, is_disabling, is_enabling};
-ghost use Rattle.hp_print.specs.Counts.{one_more};
-ghost use Rattle.hp_print.specs.Steps.{is_held};
+ghost use Rattle.std.specs.Prelude.{◌≡◌, if◌then◌else◌, OnOk, []};
+ghost use Rattle.hp_model.specs.Suspend.{is_freeze};
+ghost use Rattle.hp_print.specs.Counting.{disabled_entered, disabled_ended, frozen_walked, frozen_ended};
 
 use hp_event::{Answer, Op};
 use std::alloc::{AllocError, Global};
@@ -36,7 +35,7 @@ impl SuspendTally {
     /// An operation takes the map lock.
     pub fn enter(&mut self, op: Op)
         ensures op { self.new.op ≡ Some op }
-        ensures disabled { self.new.disabled ≡ (if is_thaw op then self.old.disabled - 1 else self.old.disabled) }
+        ensures disabled { self.new.disabled ≡ disabled_entered self.old op }
         ensures frozen { self.new.frozen.items ≡ (if is_freeze op then [] else self.old.frozen.items) }
     {
         match op {
@@ -51,11 +50,7 @@ impl SuspendTally {
     pub fn end_walk(&mut self, cpu: u32, answer: Answer) -> Result<(), AllocError>
         ensures op { self.new.op ≡ self.old.op }
         ensures disabled { self.new.disabled ≡ self.old.disabled }
-        ensures frozen { OnOk result
-            (self.new.frozen.items
-            ≡ (if is_held is_freeze self.old.op && is_ok answer
-            then self.old.frozen.items ++ cpu ∷ []
-            else self.old.frozen.items)) }
+        ensures frozen { OnOk result (self.new.frozen.items ≡ frozen_walked self.old cpu answer) }
     {
         if matches!(self.op, Some(Op::Freeze(_))) && answer.is_ok() {
             self.frozen.push(cpu)?;
@@ -66,11 +61,8 @@ impl SuspendTally {
     /// The operation gives the map lock back.
     pub fn end(&mut self)
         ensures op { self.new.op ≡ None }
-        ensures disabled { self.new.disabled
-            ≡ (if is_held is_disabling self.old.op
-            then one_more self.old.disabled
-            else (if is_held is_enabling self.old.op then self.old.disabled - 1 else self.old.disabled)) }
-        ensures frozen { self.new.frozen.items ≡ (if is_held is_thaw self.old.op then [] else self.old.frozen.items) }
+        ensures disabled { self.new.disabled ≡ disabled_ended self.old }
+        ensures frozen { self.new.frozen.items ≡ frozen_ended self.old }
     {
         match self.op {
             Some(Op::Disable | Op::Freeze(_)) => self.disabled = self.disabled.saturating_add(1),

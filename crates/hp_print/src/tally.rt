@@ -1,11 +1,11 @@
 //! A tally of a journal's events, made in one pass.
 
 ghost use Rattle.std.specs.Prelude.{◌≡◌, ℕ, [], IfOk, OnOk, slice_index_or};
-ghost use Rattle.hp_model.specs.Calls.{is_called};
-ghost use Rattle.hp_model.specs.Summary.{is_hook_fault, ok, refused, fault, stuck, full};
+ghost use Rattle.hp_model.specs.Summary.{ok, refused, fault, stuck, full};
 ghost use Rattle.hp_print.specs.Counts.{AreInOrder};
-ghost use Rattle.hp_print.specs.Steps.{op_after, disabled_after, frozen_after, targets_after, settled_after, keys_after, asked_after, subs_after, all_insts_after, calls_after, answers_after};
+ghost use Rattle.hp_print.specs.Steps.{op_after, asked_after};
 ghost use Rattle.hp_print.specs.Tallies.{IsTally};
+ghost use Rattle.hp_print.specs.Counting.{disabled_and, frozen_and, targets_and, settled_and, keys_and, subs_and, insts_and, made_and, faults_and, answered_and};
 
 use crate::answer_counts::AnswerCounts;
 use crate::processor_tally::ProcessorTally;
@@ -40,32 +40,21 @@ impl Tally {
     fn count(&mut self, event: &Event) -> Result<(), AllocError>
         requires order { (c : ℕ) → AreInOrder (slice_index_or self.old.processors.keys.items c []) }
         ensures op { OnOk result (self.new.suspended.op ≡ op_after self.old.suspended.op event.now) }
-        ensures disabled { OnOk result
-            (self.new.suspended.disabled ≡ disabled_after self.old.suspended.op self.old.suspended.disabled event.now) }
-        ensures frozen { OnOk result
-            (self.new.suspended.frozen.items
-            ≡ frozen_after self.old.suspended.op self.old.suspended.frozen.items event.now) }
-        ensures targets { OnOk result
-            (self.new.processors.targets.items ≡ targets_after self.old.processors.targets.items event.now) }
-        ensures settled { OnOk result
-            (self.new.processors.settled.items
-            ≡ settled_after self.old.processors.targets.items self.old.processors.settled.items event.now) }
-        ensures keys { OnOk result
-            (self.new.processors.keys.items ≡ keys_after self.old.processors.keys.items event.now) }
+        ensures disabled { OnOk result (self.new.suspended.disabled ≡ disabled_and self.old event.now) }
+        ensures frozen { OnOk result (self.new.suspended.frozen.items ≡ frozen_and self.old event.now) }
+        ensures targets { OnOk result (self.new.processors.targets.items ≡ targets_and self.old event.now) }
+        ensures settled { OnOk result (self.new.processors.settled.items ≡ settled_and self.old event.now) }
+        ensures keys { OnOk result (self.new.processors.keys.items ≡ keys_and self.old event.now) }
         ensures asked { OnOk result (self.new.states.asked ≡ asked_after self.old.states.asked event.now) }
-        ensures subs { OnOk result
-            (self.new.states.subs.items ≡ subs_after self.old.states.asked self.old.states.subs.items event.now) }
-        ensures insts { OnOk result
-            (self.new.states.insts.items
-            ≡ all_insts_after self.old.states.asked self.old.states.subs.items self.old.states.insts.items event.now) }
-        ensures made { OnOk result (self.new.states.made.items ≡ calls_after is_called self.old.states.made.items event.now) }
-        ensures faults { OnOk result
-            (self.new.states.faults.items ≡ calls_after is_hook_fault self.old.states.faults.items event.now) }
-        ensures ok { OnOk result (self.new.answers.ok ≡ answers_after ok self.old.answers.ok event.now) }
-        ensures refused { OnOk result (self.new.answers.refused ≡ answers_after refused self.old.answers.refused event.now) }
-        ensures fault { OnOk result (self.new.answers.fault ≡ answers_after fault self.old.answers.fault event.now) }
-        ensures stuck { OnOk result (self.new.answers.stuck ≡ answers_after stuck self.old.answers.stuck event.now) }
-        ensures full { OnOk result (self.new.answers.full ≡ answers_after full self.old.answers.full event.now) }
+        ensures subs { OnOk result (self.new.states.subs.items ≡ subs_and self.old event.now) }
+        ensures insts { OnOk result (self.new.states.insts.items ≡ insts_and self.old event.now) }
+        ensures made { OnOk result (self.new.states.made.items ≡ made_and self.old event.now) }
+        ensures faults { OnOk result (self.new.states.faults.items ≡ faults_and self.old event.now) }
+        ensures ok { OnOk result (self.new.answers.ok ≡ answered_and ok self.old event.now) }
+        ensures refused { OnOk result (self.new.answers.refused ≡ answered_and refused self.old event.now) }
+        ensures fault { OnOk result (self.new.answers.fault ≡ answered_and fault self.old event.now) }
+        ensures stuck { OnOk result (self.new.answers.stuck ≡ answered_and stuck self.old event.now) }
+        ensures full { OnOk result (self.new.answers.full ≡ answered_and full self.old event.now) }
     {
         match *event {
             Event::Call {

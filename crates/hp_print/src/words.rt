@@ -1,8 +1,9 @@
 //! Pieces of lines, appended to a buffer.
 
-ghost use Rattle.std.specs.Prelude.{◌≡◌, ◌≤◌, ◌<◌, ◌+◌, ◌++◌, ◌∷◌, [], OnOk, Option, map, decimal};
+ghost use Rattle.std.specs.Prelude.{◌≡◌, ◌≤◌, ◌<◌, ◌+◌, ◌++◌, ◌∷◌, [], OnOk, map, decimal};
 ghost use Rattle.std.specs.Fmt.{signed_decimal};
 ghost use Rattle.hp_model.specs.Words.{spaced, dir_word, name_word, any_word, list_words};
+ghost use Rattle.hp_print.specs.Appends.{Appends};
 
 use hp_states::Dir;
 use itoa::Buffer;
@@ -20,7 +21,7 @@ fn digit(value: u32) -> u8
 /// are written, so that this takes less than to copy them as a slice.
 #[inline(always)]
 pub fn append(out: &mut Vec<u8>, bytes: &[u8]) -> Result<(), AllocError>
-    ensures { OnOk result (out.new.items ≡ out.old.items ++ bytes.now) }
+    ensures { OnOk result (Appends out.old out.new bytes.now) }
 {
     out.reserve(bytes.len())?;
     for byte in bytes {
@@ -33,7 +34,7 @@ pub fn append(out: &mut Vec<u8>, bytes: &[u8]) -> Result<(), AllocError>
 #[tactic(auto, using(std::proofs::lemmas::Fmt::decimal_digit))]
 fn append_one_digit(out: &mut Vec<u8>, number: u32) -> Result<(), AllocError>
     requires { number < 10 }
-    ensures { OnOk result (out.new.items ≡ out.old.items ++ 32 ∷ decimal number) }
+    ensures { OnOk result (Appends out.old out.new (32 ∷ decimal number)) }
 {
     append(out, &[b' ', digit(number)])
 }
@@ -43,7 +44,7 @@ fn append_one_digit(out: &mut Vec<u8>, number: u32) -> Result<(), AllocError>
 fn append_two_digits(out: &mut Vec<u8>, number: u32) -> Result<(), AllocError>
     requires from { 10 ≤ number }
     requires below { number < 100 }
-    ensures { OnOk result (out.new.items ≡ out.old.items ++ 32 ∷ decimal number) }
+    ensures { OnOk result (Appends out.old out.new (32 ∷ decimal number)) }
 {
     append(out, &[b' ', digit(number / 10), digit(number % 10)])
 }
@@ -53,7 +54,7 @@ fn append_two_digits(out: &mut Vec<u8>, number: u32) -> Result<(), AllocError>
 fn append_three_digits(out: &mut Vec<u8>, number: u32) -> Result<(), AllocError>
     requires from { 100 ≤ number }
     requires below { number < 1000 }
-    ensures { OnOk result (out.new.items ≡ out.old.items ++ 32 ∷ decimal number) }
+    ensures { OnOk result (Appends out.old out.new (32 ∷ decimal number)) }
 {
     append(
         out,
@@ -69,7 +70,7 @@ fn append_three_digits(out: &mut Vec<u8>, number: u32) -> Result<(), AllocError>
 /// Appends a number, behind a space. Most numbers of a journal have up to three digits, and these
 /// go in one piece.
 pub fn append_number(out: &mut Vec<u8>, number: u32) -> Result<(), AllocError>
-    ensures { OnOk result (out.new.items ≡ out.old.items ++ 32 ∷ decimal number) }
+    ensures { OnOk result (Appends out.old out.new (32 ∷ decimal number)) }
 {
     match number {
         0..=9 => append_one_digit(out, number),
@@ -82,7 +83,7 @@ pub fn append_number(out: &mut Vec<u8>, number: u32) -> Result<(), AllocError>
 /// Appends a number, behind a dot. Most instances are 0.
 #[tactic(auto, using(std::proofs::lemmas::Fmt::decimal_digit))]
 pub fn append_behind_dot(out: &mut Vec<u8>, number: u32) -> Result<(), AllocError>
-    ensures { OnOk result (out.new.items ≡ out.old.items ++ 46 ∷ decimal number) }
+    ensures { OnOk result (Appends out.old out.new (46 ∷ decimal number)) }
 {
     if number < 10 {
         return append(out, &[b'.', digit(number)]);
@@ -94,7 +95,7 @@ pub fn append_behind_dot(out: &mut Vec<u8>, number: u32) -> Result<(), AllocErro
 
 /// Appends a word and, behind a space, the number that it is of.
 pub fn append_of(out: &mut Vec<u8>, word: &[u8], number: u32) -> Result<(), AllocError>
-    ensures { OnOk result (out.new.items ≡ out.old.items ++ (word.now ++ 32 ∷ decimal number)) }
+    ensures { OnOk result (Appends out.old out.new (word.now ++ 32 ∷ decimal number)) }
 {
     append(out, word)?;
     append_number(out, number)
@@ -102,7 +103,7 @@ pub fn append_of(out: &mut Vec<u8>, word: &[u8], number: u32) -> Result<(), Allo
 
 /// Appends a signed number, behind a space.
 pub fn append_signed(out: &mut Vec<u8>, number: i32) -> Result<(), AllocError>
-    ensures { OnOk result (out.new.items ≡ out.old.items ++ 32 ∷ signed_decimal number) }
+    ensures { OnOk result (Appends out.old out.new (32 ∷ signed_decimal number)) }
 {
     let mut buffer = Buffer::new();
     out.push(b' ')?;
@@ -111,7 +112,7 @@ pub fn append_signed(out: &mut Vec<u8>, number: i32) -> Result<(), AllocError>
 
 /// Appends a direction, behind a space.
 pub fn append_dir(out: &mut Vec<u8>, dir: Dir) -> Result<(), AllocError>
-    ensures { OnOk result (out.new.items ≡ out.old.items ++ 32 ∷ dir_word dir) }
+    ensures { OnOk result (Appends out.old out.new (32 ∷ dir_word dir)) }
 {
     match dir {
         Dir::Up => append(out, b" up"),
@@ -121,7 +122,7 @@ pub fn append_dir(out: &mut Vec<u8>, dir: Dir) -> Result<(), AllocError>
 
 /// Appends the end of a line.
 pub fn end_line(out: &mut Vec<u8>) -> Result<(), AllocError>
-    ensures { OnOk result (out.new.items ≡ out.old.items ++ 10 ∷ []) }
+    ensures { OnOk result (Appends out.old out.new (10 ∷ [])) }
 {
     append(out, b"\n")
 }
@@ -130,7 +131,7 @@ pub fn end_line(out: &mut Vec<u8>) -> Result<(), AllocError>
 /// buffer.
 #[inline(never)]
 pub fn append_count(out: &mut Vec<u8>, count: usize) -> Result<(), AllocError>
-    ensures { OnOk result (out.new.items ≡ out.old.items ++ 32 ∷ decimal count) }
+    ensures { OnOk result (Appends out.old out.new (32 ∷ decimal count)) }
 {
     let mut buffer = Buffer::new();
     out.push(b' ')?;
@@ -139,7 +140,7 @@ pub fn append_count(out: &mut Vec<u8>, count: usize) -> Result<(), AllocError>
 
 /// Appends a name, behind a space; a missing one is a dash.
 pub fn append_name(out: &mut Vec<u8>, name: &[u8]) -> Result<(), AllocError>
-    ensures { OnOk result (out.new.items ≡ out.old.items ++ 32 ∷ name_word name.now) }
+    ensures { OnOk result (Appends out.old out.new (32 ∷ name_word name.now)) }
 {
     if name.is_empty() {
         return append(out, b" -");
@@ -150,7 +151,7 @@ pub fn append_name(out: &mut Vec<u8>, name: &[u8]) -> Result<(), AllocError>
 
 /// Appends a number, behind a space; an absent one is a star.
 pub fn append_any(out: &mut Vec<u8>, number: Option<u32>) -> Result<(), AllocError>
-    ensures { OnOk result (out.new.items ≡ out.old.items ++ 32 ∷ any_word number) }
+    ensures { OnOk result (Appends out.old out.new (32 ∷ any_word number)) }
 {
     match number {
         None => append(out, b" *"),
@@ -160,7 +161,7 @@ pub fn append_any(out: &mut Vec<u8>, number: Option<u32>) -> Result<(), AllocErr
 
 /// Appends some numbers, or a dash where there is none.
 pub fn append_numbers(out: &mut Vec<u8>, numbers: &[u32]) -> Result<(), AllocError>
-    ensures { OnOk result (out.new.items ≡ out.old.items ++ spaced (list_words (map decimal numbers.now))) }
+    ensures { OnOk result (Appends out.old out.new (spaced (list_words (map decimal numbers.now)))) }
 {
     if numbers.is_empty() {
         return append(out, b" -");

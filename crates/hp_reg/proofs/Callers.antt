@@ -4,6 +4,7 @@ use Rattle.std.proofs.Common.{◌≡◌, ℕ, zero, suc, ◌+◌, ◌<◌, ◌�
 use Rattle.std.specs.Prelude.{AllPairs, slice_index}
 use Rattle.std.proofs.lemmas.Bool.{lt-ltb}
 use Rattle.std.proofs.lemmas.List.Elements.{filter-append}
+use Rattle.hp_model.proofs.ListLemmas.{filter_agree}
 use Rattle.hp_states.specs.declared.dir.Dir.{Dir}
 use Rattle.hp_states.specs.declared.place.Place.{Place}
 use Rattle.hp_event.specs.declared.op.Op.{Op}
@@ -32,19 +33,13 @@ use Rattle.hp_reg.specs.After.{IsNextEntry, IsWhole}
 use Rattle.hp_reg.specs.declared.step.RegStep.{RegStep}
 use Rattle.hp_reg.proofs.Lowest.{filter_rises}
 
-filter_same : (p q : ℕ → Bool) (n : ℕ) → ((c : ℕ) → c < n → p c ≡ q c) → filter p (numbers n) ≡ filter q (numbers n)
-filter_same p q zero h = refl
-filter_same p q (suc n) h =
-    rw (filter-append p (numbers n) (n ∷ []), filter-append q (numbers n) (n ∷ []), h n (omega arith), filter_same p q n (λ c b. h c (omega arith)))
-    refl
-
 -- the processors concerned are those of the events, where the settled states are and all possible processors have one
 pub concerned_processors : (head : Head) (s : ℕ) (before : List Event) (stands : List ℕ) → length stands ≡ head.possible →
     ((c : ℕ) → c < head.possible → settled c before ≡ slice_index stands c) →
     processors head s before ≡ concerned s stands head.absent
 concerned_processors head s before stands e h =
     rw e
-    (filter_same (λ c. is_present head c && leb s (settled c before)) (is_concerned s stands head.absent) head.possible
+    (filter_agree (λ c. is_present head c && leb s (settled c before)) (is_concerned s stands head.absent) head.possible
     (λ c b. rw (lt-ltb c head.possible b, h c b) refl))
 
 -- they are in rising number, by either account

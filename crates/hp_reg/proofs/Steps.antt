@@ -5,6 +5,7 @@ use Rattle.std.specs.Prelude.{AllPairs}
 use Rattle.std.proofs.lemmas.Bool.{false≢true}
 use Rattle.std.proofs.lemmas.List.{append-nil}
 use Rattle.std.proofs.lemmas.List.Elements.{filter_map-append}
+use Rattle.hp_states.proofs.Basics.{not_not}
 use Rattle.hp_states.specs.declared.dir.Dir.{Dir}
 use Rattle.hp_states.specs.declared.place.Place.{Place}
 use Rattle.hp_states.specs.declared.place.Place.TheVariants.{Undo, Remove}
@@ -118,10 +119,6 @@ whole key cpus es p h e =
       answered =
           answered p.phase (ok_value p.op p.state) es w.outcome (w.outcome_is ∙ ap outcome_of h.codes) h.codes;
     }
-
-not_not : (b : Bool) → b ≡ not (not b)
-not_not true = refl
-not_not false = refl
 
 branch_live : (done can : Bool) (a b : Tree) → IsLive a → (can ≡ true → IsLive b) → (done || can) ≡ true →
     IsLive (cond (not done) b a)

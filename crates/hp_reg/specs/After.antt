@@ -45,6 +45,10 @@ pub record IsAfter (key : Option ℕ) (cpus : List ℕ) (entries : List Event) (
   pub leads : Runs (registration_tree (is_adding p.op) p.state key cpus) entries (tree_left key cpus p)
   pub codes : codes_of_faults entries ≡ codes_in p.phase
 
+-- it stands before its first entry, whatever its key is and whichever processors it concerns
+abbrev pub HasBegun : Progress → Type 0
+HasBegun p = (key : Option ℕ) (cpus : List ℕ) → AllPairs (λ c d. c < d) cpus → IsAfter key cpus [] p
+
 -- an entry that goes on with a registration shape, after exactly these entries
 pub record IsNextEntry (key : Option ℕ) (cpus : List ℕ) (entries : List Event) (p : Progress) (place : Place) (entry : Event) : Type 0 where
   pub outcome : Registering

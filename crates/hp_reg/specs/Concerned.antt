@@ -1,7 +1,7 @@
 -- On which processors a registration makes an entry, and of which key, by what the caller keeps: the table, where
 -- processors stand, and which are absent. After the loops over the present processors of
 -- `__cpuhp_setup_state_cpuslocked` and its kin of `kernel/cpu.c`.
-use Rattle.std.specs.Prelude.{◌≡◌, ℕ, ◌<◌, Bool, true, not, ◌&&◌, nat_le, Option, Some, None, List, ◌∷◌, filter, length, slice_index}
+use Rattle.std.specs.Prelude.{◌≡◌, ℕ, ◌<◌, ◌≤◌, Bool, true, false, not, ◌&&◌, nat_le, Option, Some, None, List, ◌∷◌, filter, length, slice_index}
 use Rattle.hp_event.specs.declared.op.Op.{Op}
 use Rattle.hp_event.specs.declared.op.Op.TheVariants.{Setup, Remove, Add, Del}
 use Rattle.hp_model.specs.Lists.{among, numbers}
@@ -17,6 +17,14 @@ is_concerned s settled absent c = not (among c absent) && nat_le s (slice_index 
 -- these, in rising number
 abbrev pub concerned : (state : ℕ) → (settled absent : List ℕ) → List ℕ
 concerned s settled absent = filter (is_concerned s settled absent) (numbers (length settled))
+
+-- a processor between two numbers that is
+abbrev pub IsConcernedWithin : (state : ℕ) → (settled absent : List ℕ) → (from to : ℕ) → (cpu : ℕ) → Type 0
+IsConcernedWithin s settled absent from to c = (from ≤ c) × (c < to) × (is_concerned s settled absent c ≡ true)
+
+-- no processor between them is
+abbrev pub NoneConcerned : (state : ℕ) → (settled absent : List ℕ) → (from to : ℕ) → Type 0
+NoneConcerned s settled absent from to = (d : ℕ) → from ≤ d → d < to → is_concerned s settled absent d ≡ false
 
 -- the lowest processor whose entry is still to come in a phase: it has a place, and is concerned
 abbrev pub IsFirstLeft : Phase → (state : ℕ) → (settled absent : List ℕ) → (cpu : ℕ) → Type 0

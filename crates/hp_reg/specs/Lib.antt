@@ -4,3 +4,4 @@ pub mod Known
 pub mod Asked
 pub mod After
 pub mod CallsLeft
+pub mod ByTable

@@ -9,7 +9,8 @@
 //! the entries that `next` asks for are a registration shape of hp_model, and `Ended` has that
 //! shape's answer. `IsAfter` and `GoesOn` of
 //! `specs/After.antt` say it step by step, `asked` of `specs/Asked.antt` which step it is,
-//! `specs/Concerned.antt` on which processors, `specs/CallsLeft.antt` how many can still come.
+//! `specs/Concerned.antt` on which processors, `specs/ByTable.antt` both by what the caller keeps,
+//! `specs/CallsLeft.antt` how many can still come.
 #![tactic(auto)]
 
 mod phase;

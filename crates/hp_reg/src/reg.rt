@@ -1,15 +1,16 @@
 //! A registration in flight.
 
-ghost use Rattle.std.specs.Prelude.{◌≡◌, ℕ, ◌-◌, ◌*◌, ◌<◌, ◌≤◌, true, false, Option, IfSome, IfNone, List, [], AllPairs, length};
+ghost use Rattle.std.specs.Prelude.{◌≡◌, ℕ, ◌-◌, ◌*◌, ◌<◌, ◌≤◌, true, Option, IfSome, IfNone, List, [], length};
 ghost use Rattle.hp_model.specs.Events.{is_registration_op};
 ghost use Rattle.hp_model.specs.Lists.{among};
 ghost use Rattle.hp_model.specs.Entries.{fault_of};
 ghost use Rattle.hp_event.specs.Ops.{is_adding};
 ghost use Rattle.hp_model.specs.RegistrationShape.{ok_value};
-ghost use Rattle.hp_reg.specs.Concerned.{is_concerned, key_at, cpus_at, IsFirstLeft};
+ghost use Rattle.hp_reg.specs.Concerned.{key_at, cpus_at, IsConcernedWithin, NoneConcerned, IsFirstLeft};
 ghost use Rattle.hp_reg.specs.Progress.{cpus_left, past};
-ghost use Rattle.hp_reg.specs.Asked.{direction, place, answer, asked, IfCall};
-ghost use Rattle.hp_reg.specs.After.{IsAfter, WentOn, GoesOnFrom};
+ghost use Rattle.hp_reg.specs.Asked.{direction, place, answer, IfCall};
+ghost use Rattle.hp_reg.specs.After.{HasBegun, WentOn};
+ghost use Rattle.hp_reg.specs.ByTable.{asked_by, GoesOnWith, ConcernsItsState};
 ghost use Rattle.hp_reg.specs.CallsLeft.{calls_left, LessIsLeft};
 
 use crate::phase::Phase;
@@ -57,7 +58,7 @@ impl Reg {
         requires state { state ≤ ONLINE }
         ensures op { result.op ≡ op }
         ensures state { result.state ≡ state }
-        ensures after { (key : Option ℕ) (cpus : List ℕ) → AllPairs (λ c d. c < d) cpus → IsAfter key cpus [] result }
+        ensures after { HasBegun result }
         ensures few { (key : Option ℕ) (cpus : List ℕ) → calls_left key cpus result ≤ 2 * length cpus - 1 }
     {
         Reg {
@@ -106,11 +107,9 @@ impl Reg {
     #[inline(always)]
     pub fn next<H: Hook>(&self, table: &Table<H>, settled: &[u32], absent: &[u32]) -> RegStep
         requires { length settled.now ≤ MAX_CPUS }
-        ensures asks { result ≡ asked (key_at table.now self.now) (cpus_at settled.now absent.now self.now) self.now }
-        ensures goes_on { GoesOnFrom
-            (key_at table.now self.now) (cpus_at settled.now absent.now self.now) self.now result }
-        ensures on { IfCall result (λ cpu key. (cpu < length settled.now)
-            × (is_concerned self.now.state settled.now absent.now cpu ≡ true) × (key.state ≡ self.now.state)) }
+        ensures asks { result ≡ asked_by table.now settled.now absent.now self.now }
+        ensures goes_on { GoesOnWith table.now settled.now absent.now self.now result }
+        ensures on { IfCall result (ConcernsItsState settled.now absent.now self.now) }
     {
         let Some(inst) = self.key(table) else {
             return RegStep::Ended(self.answer());
@@ -247,9 +246,9 @@ fn is_absent(absent: &[u32], cpu: u32) -> bool
 /// The lowest processor between two numbers that is present and stands at a state or above it.
 fn lowest(state: u32, settled: &[u32], absent: &[u32], from: u32, to: u32) -> Option<u32>
     requires { to ≤ length settled.now }
-    ensures found { IfSome result (λ c. (from ≤ c) × (c < to) × (is_concerned state settled.now absent.now c ≡ true)) }
-    ensures first { IfSome result (λ c. (d : ℕ) → from ≤ d → d < c → is_concerned state settled.now absent.now d ≡ false) }
-    ensures none { IfNone result ((d : ℕ) → from ≤ d → d < to → is_concerned state settled.now absent.now d ≡ false) }
+    ensures found { IfSome result (IsConcernedWithin state settled.now absent.now from to) }
+    ensures first { IfSome result (NoneConcerned state settled.now absent.now from) }
+    ensures none { IfNone result (NoneConcerned state settled.now absent.now from to) }
 {
     for cpu in from..to {
         if !is_absent(absent, cpu) && settled[cpu as usize] >= state {

@@ -5,11 +5,11 @@ use Rattle.std.specs.List.Sorted.{IsStrictlyIncreasing}
 use Rattle.std.specs.Option.{option_map, option_and_then}
 use Rattle.std.proofs.lemmas.Bool.{ne_eqb, lt-ltb}
 use Rattle.std.proofs.lemmas.List.Elements.{recursion_from_All}
+use Rattle.hp_states.proofs.Basics.{map_some}
 use Rattle.hp_model.specs.Lists.{occurs, among}
 use Rattle.hp_model.proofs.Rising.{Rise, FirstFrom, increasing_rise}
 use Rattle.hp_replay.specs.HeadWords.{from_below}
 use Rattle.hp_replay.specs.Rising.{rising_from}
-use Rattle.hp_replay.proofs.Basics.{map_some}
 use Rattle.hp_replay.proofs.LineLaws.{all_free, decimal_free}
 use Rattle.hp_replay.proofs.HeadFields.{from_below_takes, from_below_again}
 

@@ -10,6 +10,7 @@ use Rattle.hp_replay.specs.declared.error.ReplayError.TheVariants.{Bad}
 use Rattle.hp_replay.specs.EventAt.{event_at}
 use Rattle.hp_replay.specs.EndAt.{end_at}
 use Rattle.hp_replay.specs.LinesLeft.{LinesLeft, Takes}
+pub use Rattle.hp_replay.specs.LawStages.{stage_of, with_event}
 use Rattle.hp_replay.specs.Stages.{Stage, among_events, Step, asks, end_step, event_step, step}
 use Rattle.hp_replay.specs.Judged.{Leads}
 use Rattle.hp_replay.specs.Reading.{GoesOver, RefusesLine, RefusedFrom}
@@ -22,12 +23,6 @@ among_asks head events l e h = ap (λ (o : Option Event). event_step head events
 among_end : (head : Head) (events : List Event) (l : List ℕ) → None ≡ event_at l → end_step head events (end_at l) ≡ step (among_events head events) l
 unfolding step
 among_end head events l h = ap (λ (o : Option Event). event_step head events o (end_step head events (end_at l))) h
-
-abbrev pub stage_of : Taken → Stage
-stage_of taken = among_events taken.head taken.events
-
-abbrev pub with_event : Taken → Event → Taken
-with_event taken e = record taken { events = taken.events ++ e ∷ [] }
 
 -- ---- of the lines that were gone over, and one line more
 

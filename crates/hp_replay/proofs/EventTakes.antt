@@ -3,6 +3,7 @@ use Rattle.std.proofs.Common.{◌≡◌, ℕ, Bool, true, false, cond, List, [],
 use Rattle.std.specs.Prelude.{pos, codes}
 use Rattle.std.specs.Fmt.{decimal}
 use Rattle.std.specs.Str.{bytes_eq}
+use Rattle.hp_states.proofs.Basics.{same_some}
 use Rattle.hp_states.specs.declared.dir.Dir.{Dir}
 use Rattle.hp_states.specs.declared.dir.Dir.TheVariants.{Up, Down}
 use Rattle.hp_event.specs.declared.how.How.TheVariants.{RanOk, RanFault, Injected, Empty, Presumed, Overruled}
@@ -18,7 +19,6 @@ use Rattle.hp_replay.specs.Readers.{Tail, one_of}
 use Rattle.hp_replay.specs.Fits.{IsU32, HowFits, AnswerFits, RoleFits, EventFits}
 use Rattle.hp_replay.specs.Spelled.{IsWalkAnswer, IsSpelled}
 use Rattle.hp_replay.specs.EventAt.{direction, role_rows, role, how_rows, how, answer_rows, answer, walk_answer_rows, walk_answer, shown_rows, event_rows, event, event_at}
-use Rattle.hp_replay.proofs.Basics.{some_is}
 use Rattle.hp_replay.proofs.ReaderLaws.{IsField, Spells, done_spells, bind_spells, mapped_spells, one_spells, same_word, line_takes}
 use Rattle.hp_replay.proofs.OpTakes.{number_field, integer_field, op_spells}
 
@@ -28,8 +28,8 @@ abbrev pub AnyDir : Dir → Type 0
 AnyDir d = Unit {0}
 
 direction_is : (w : List ℕ) (d : Dir) (t u : Bool) → bytes_eq w (codes "up") ≡ t → bytes_eq w (codes "down") ≡ u → cond t (Some Up) (cond u (Some Down) None) ≡ Some d → w ≡ dir_word d
-direction_is w d true u a b h = same_word w (codes "up") a ∙ ap dir_word (some_is Up d h)
-direction_is w d false true a b h = same_word w (codes "down") b ∙ ap dir_word (some_is Down d h)
+direction_is w d true u a b h = same_word w (codes "up") a ∙ ap dir_word (same_some Up d h)
+direction_is w d false true a b h = same_word w (codes "down") b ∙ ap dir_word (same_some Down d h)
 direction_is w d false false a b h = absurd cc
 
 direction_takes : (w : List ℕ) (d : Dir) → direction w ≡ Some d → (w ≡ dir_word d) × AnyDir d

@@ -8,12 +8,12 @@ use Rattle.std.proofs.lemmas.Bool.{ne_eqb, and_parts, and_from, leb-true, le-leb
 use Rattle.std.proofs.lemmas.Slice.Eq.{bytes_eq-Decides}
 use Rattle.std.proofs.lemmas.List.Sums.{AllPass-from_list_all, list_all-from_AllPass}
 use Rattle.std.proofs.lemmas.List.Elements.{All-nil}
+use Rattle.hp_states.proofs.Basics.{map_some, passed, same_some}
 use Rattle.hp_states.specs.declared.limits.TheConstants.{MAX_NAME_LEN}
 use Rattle.hp_model.specs.Words.{name_word, any_word, calls_word, kind_word}
 use Rattle.hp_model.specs.Heads.{IsName, is_name_byte}
 use Rattle.hp_replay.specs.Numbers.{are_digits, number_below}
 use Rattle.hp_replay.specs.HeadWords.{at_least, from_below, within, any_within, is_name, name, calls, kind}
-use Rattle.hp_replay.proofs.Basics.{passed, some_is, map_some}
 use Rattle.hp_replay.proofs.NumberLaws.{decimal_written, below_takes, below_again}
 use Rattle.hp_replay.proofs.LineLaws.{is_free, decimal_free}
 use Rattle.hp_replay.proofs.ReaderLaws.{IsField, same_word}
@@ -28,7 +28,7 @@ range_takes low limit w n None le h e = absurd cc
 range_takes low limit w n (Some m) le h e =
     let p = passed (leb low m) (Some m) n e in
     let t = below_takes limit w m le h in
-    let is : m ≡ n = some_is m n p.1 in
+    let is : m ≡ n = same_some m n p.1 in
     subst (λ (k : ℕ). (w ≡ decimal k) × InRange low limit k) is (t.0, (leb-true low m p.0, t.1))
 
 pub from_below_takes : (low limit : ℕ) (w : List ℕ) (n : ℕ) → limit ≤ 2 ^ 64 → from_below low limit w ≡ Some n → (w ≡ decimal n) × InRange low limit n
@@ -52,7 +52,7 @@ AnyInRange low limit o = IfSome o (InRange low limit)
 star_takes : (low high : ℕ) (w : List ℕ) (o : Option ℕ) (t : Bool) → high + 1 ≤ 2 ^ 64 → bytes_eq w (codes "*") ≡ t →
     cond t (Some None) (option_map (λ n. Some n) (within low high w)) ≡ Some o → (w ≡ any_word o) × AnyInRange low (high + 1) o
 star_takes low high w o true le t e =
-    subst (λ (x : Option ℕ). (w ≡ any_word x) × AnyInRange low (high + 1) x) (some_is None o e) (same_word w (codes "*") t, tt)
+    subst (λ (x : Option ℕ). (w ≡ any_word x) × AnyInRange low (high + 1) x) (same_some None o e) (same_word w (codes "*") t, tt)
 star_takes low high w o false le t e =
     let m = map_some (λ n. Some n) (within low high w) o e in
     let r = from_below_takes low (high + 1) w m.0 le m.1 in
@@ -93,12 +93,12 @@ name_word_some [] h = absurd (omega (arith, h))
 name_word_some (b ∷ bs) h = refl
 
 name_says : (w n : List ℕ) (t : Bool) → bytes_eq w (codes "-") ≡ t → cond t (Some []) (cond (is_name w) (Some w) None) ≡ Some n → (w ≡ name_word n) × IsName n
-name_says w n true t e = subst (λ (x : List ℕ). (w ≡ name_word x) × IsName x) (some_is [] n e) (same_word w (codes "-") t, no_name)
+name_says w n true t e = subst (λ (x : List ℕ). (w ≡ name_word x) × IsName x) (same_some [] n e) (same_word w (codes "-") t, no_name)
 name_says w n false t e =
     let p = passed (is_name w) (Some w) n e in
     let q = and_parts (leb 1 (length w)) (leb (length w) MAX_NAME_LEN && list_all is_name_byte w) p.0 in
     let r = and_parts (leb (length w) MAX_NAME_LEN) (list_all is_name_byte w) q.1 in
-    subst (λ (x : List ℕ). (w ≡ name_word x) × IsName x) (some_is w n p.1) (
+    subst (λ (x : List ℕ). (w ≡ name_word x) × IsName x) (same_some w n p.1) (
       name_word_some w (leb-true 1 (length w) q.0),
       record {
         short = leb-true _ _ r.0;
@@ -146,7 +146,7 @@ abbrev pub Whatever : {A : Type 0} → A → Type 0
 Whatever a = Unit {0}
 
 calls_are : (w : List ℕ) (c d : Bool × Bool) → w ≡ calls_words c → Some c ≡ Some d → (w ≡ calls_words d) × Whatever d
-calls_are w c d h e = (h ∙ ap calls_words (some_is c d e), tt)
+calls_are w c d h e = (h ∙ ap calls_words (same_some c d e), tt)
 
 calls_say : (w : List ℕ) (c : Bool × Bool) (s t u v : Bool) → bytes_eq w (codes "both") ≡ s → bytes_eq w (codes "up") ≡ t → bytes_eq w (codes "down") ≡ u → bytes_eq w (codes "none") ≡ v →
     cond s (Some (true, true)) (cond t (Some (true, false)) (cond u (Some (false, true)) (cond v (Some (false, false)) None))) ≡ Some c → (w ≡ calls_words c) × Whatever c
@@ -177,8 +177,8 @@ calls_free false true = refl
 calls_free false false = refl
 
 kind_says : (w : List ℕ) (m : Bool) (s t : Bool) → bytes_eq w (codes "multi") ≡ s → bytes_eq w (codes "single") ≡ t → cond s (Some true) (cond t (Some false) None) ≡ Some m → (w ≡ kind_word m) × Whatever m
-kind_says w m true t a b e = (same_word w (codes "multi") a ∙ ap kind_word (some_is true m e), tt)
-kind_says w m false true a b e = (same_word w (codes "single") b ∙ ap kind_word (some_is false m e), tt)
+kind_says w m true t a b e = (same_word w (codes "multi") a ∙ ap kind_word (same_some true m e), tt)
+kind_says w m false true a b e = (same_word w (codes "single") b ∙ ap kind_word (same_some false m e), tt)
 kind_says w m false false a b e = absurd cc
 
 kind_takes : (w : List ℕ) (m : Bool) → kind w ≡ Some m → (w ≡ kind_word m) × Whatever m

@@ -3,6 +3,7 @@ use Rattle.std.proofs.Common.{◌≡◌, ℕ, ◌+◌, ◌^◌, ◌<◌, ◌≤�
 use Rattle.std.specs.Prelude.{codes, decimal, IfSome}
 use Rattle.std.specs.Str.{bytes_eq}
 use Rattle.std.proofs.lemmas.Bool.{and_parts, cond-true}
+use Rattle.hp_states.proofs.Basics.{passed, same_some}
 use Rattle.hp_states.specs.declared.limits.TheConstants.{MAX_CPUS, MAX_RULE_CPU, MAX_INSTANCE, MAX_EVENTS, MAX_CODE}
 use Rattle.hp_states.specs.declared.plan.Rule.{Rule}
 use Rattle.hp_event.specs.declared.head.Sub.{Sub}
@@ -16,7 +17,6 @@ use Rattle.hp_replay.specs.Readers.{one_of}
 use Rattle.hp_replay.specs.Rising.{rising_from}
 use Rattle.hp_replay.specs.HeadLines.{HeadLine, a_sub, a_rule, the_events, cpus_rows, cpus_at, absent_tail, absent_rows, absent_at, head_rows, head_line_at}
 use Rattle.hp_replay.specs.EndAt.{any_number, end_tail, end_rows, end_at}
-use Rattle.hp_replay.proofs.Basics.{passed, some_is}
 use Rattle.hp_replay.proofs.NumberLaws.{number_is, decimal_written}
 use Rattle.hp_replay.proofs.LineLaws.{all_free, decimal_free, words_take}
 use Rattle.hp_replay.proofs.ReaderLaws.{Spells, done_spells, bind_spells, one_spells, same_word, line_takes, line_again, single_row, single_field, and_then_was}
@@ -62,7 +62,7 @@ absent_says : (possible : ℕ) (w : List ℕ) (ws : List (List ℕ)) (ns : List 
     cond t (Some []) (rising_from 1 possible (w ∷ ws)) ≡ Some ns → (codes "absent" ∷ w ∷ ws ≡ absent_words ns) × Rise 1 possible ns
 absent_says possible w ws ns true le t e =
     let p = and_parts (bytes_eq w (codes "-")) (is_empty ws) t in
-    subst (λ (x : List ℕ). (codes "absent" ∷ w ∷ ws ≡ absent_words x) × Rise 1 possible x) (some_is [] ns e) (dash ws (same_word w (codes "-") p.0) p.1, tt)
+    subst (λ (x : List ℕ). (codes "absent" ∷ w ∷ ws ≡ absent_words x) × Rise 1 possible x) (same_some [] ns e) (dash ws (same_word w (codes "-") p.0) p.1, tt)
   where
     dash : (vs : List (List ℕ)) → w ≡ codes "-" → is_empty vs ≡ true → codes "absent" ∷ w ∷ vs ≡ absent_words []
     dash [] a b = ap (λ (x : List ℕ). codes "absent" ∷ x ∷ []) a
@@ -193,7 +193,7 @@ end_words n = codes "end" ∷ decimal n ∷ []
 
 number_form : (w : List ℕ) (n : ℕ) → any_number w ≡ Some n → (is_number w ≡ true) × (value w ≡ n)
 unfolding any_number
-number_form w n e = let p = passed (is_number w) (Some (value w)) n e in (p.0, some_is (value w) n p.1)
+number_form w n e = let p = passed (is_number w) (Some (value w)) n e in (p.0, same_some (value w) n p.1)
 
 number_small : (w : List ℕ) (n : ℕ) → n < 2 ^ 64 → any_number w ≡ Some n → w ≡ decimal n
 number_small w n lt e = let p = number_form w n e in number_is w p.0 (omega (arith, p.1)) ∙ ap decimal p.1

@@ -4,6 +4,7 @@ use Rattle.std.specs.Str.{bytes_eq}
 use Rattle.std.specs.Option.{option_and_then}
 use Rattle.std.specs.List.{list_any}
 use Rattle.std.proofs.lemmas.List.Folds.{list_any-append}
+use Rattle.hp_states.proofs.Basics.{same_some}
 use Rattle.hp_states.specs.declared.limits.TheConstants.{MAX_SUBS, MAX_RULES}
 use Rattle.hp_event.specs.declared.head.Sub.{Sub}
 use Rattle.hp_event.specs.declared.head.Head.{Head}
@@ -20,7 +21,6 @@ use Rattle.hp_replay.specs.EventAt.{event_at}
 use Rattle.hp_replay.specs.EndAt.{end_at}
 use Rattle.hp_replay.specs.Kinds.{is_there, is_events_line, is_end_line, kind_among_events, kind_of}
 use Rattle.hp_replay.specs.Stages.{Stage, begins, titled, counted, headed, ruled, among_events, whole, among_summary, Step, goes, asks, stops, with_sub, cpus_step, absent_step, headed_step, ruled_step, event_step, end_step, summary_step, step}
-use Rattle.hp_replay.proofs.Basics.{some_is}
 use Rattle.hp_replay.proofs.ReaderLaws.{same_word}
 use Rattle.hp_replay.proofs.HeadFields.{other_word}
 use Rattle.hp_replay.proofs.HeadLaws.{head_takes, events_again, end_says}
@@ -119,7 +119,7 @@ absent_parts possible before l None m r t h = absurd h
 head_parts : (before : List (List ℕ)) (l : List ℕ) (x : HeadLine) → Seen before false false → head_line_at l ≡ Some x → x ≢ the_events → Seen (before ++ l ∷ []) false false
 head_parts before l x r t other =
     seen_more before l false false false false r
-    (no_events l (λ same. other (some_is x the_events (sym t ∙ ap head_line_at same ∙ events_again))))
+    (no_events l (λ same. other (same_some x the_events (sym t ∙ ap head_line_at same ∙ events_again))))
     (no_end l (head_line_at l) x t (λ k e. head_no_end l k e))
 
 next_parts : (before : List (List ℕ)) (l : List ℕ) (x : HeadLine) (s : Stage) (t : Bool) (m : Stage) → Seen before false false → head_line_at l ≡ Some x → x ≢ the_events → (Seen (before ++ l ∷ []) false false → Parted s (before ++ l ∷ [])) →

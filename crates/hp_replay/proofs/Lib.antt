@@ -1,4 +1,3 @@
-pub mod Basics
 pub mod NumberLaws
 pub mod LineLaws
 pub mod ReaderLaws

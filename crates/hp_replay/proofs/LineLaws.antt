@@ -5,11 +5,11 @@ use Rattle.std.specs.Fmt.{decimal, signed_decimal}
 use Rattle.std.specs.Option.{option_map}
 use Rattle.std.specs.List.{onto_first}
 use Rattle.std.proofs.lemmas.Bool.{eqb-true, ne_eqb, and_parts, leb-true, not-true}
+use Rattle.hp_states.proofs.Basics.{map_some, same_some}
 use Rattle.hp_model.specs.Words.{line}
 use Rattle.hp_replay.specs.Numbers.{is_digit, are_digits}
 use Rattle.hp_replay.specs.Fits.{IsI32}
 use Rattle.hp_replay.specs.LineWords.{ended, words_at}
-use Rattle.hp_replay.proofs.Basics.{some_is, map_some}
 use Rattle.hp_replay.proofs.NumberLaws.{decimal_written}
 
 -- the line has a first word, and is spelled of its words
@@ -24,7 +24,7 @@ Takes l = (ws : List (List ℕ)) → words_at l ≡ Some ws → IsLineOf l ws
 
 after_newline : (bs : List ℕ) (ws : List (List ℕ)) → ended bs ≡ Some ws → IsLineOf (10 ∷ bs) ws
 after_newline [] ws e =
-    subst (λ (vs : List (List ℕ)). IsLineOf (10 ∷ []) vs) (some_is ([] ∷ []) ws e) (record { first = []; others = []; words_are = refl; whole = refl })
+    subst (λ (vs : List (List ℕ)). IsLineOf (10 ∷ []) vs) (same_some ([] ∷ []) ws e) (record { first = []; others = []; words_are = refl; whole = refl })
 after_newline (b ∷ bs) ws e = absurd cc
 
 after_space : (bs : List ℕ) (ws : List (List ℕ)) → Takes bs → option_map (λ vs. [] ∷ vs) (words_at bs) ≡ Some ws → IsLineOf (32 ∷ bs) ws

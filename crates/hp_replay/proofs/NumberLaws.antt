@@ -6,10 +6,10 @@ use Rattle.std.specs.Option.{option_map}
 use Rattle.std.proofs.lemmas.Bool.{eq-eqb, ne_eqb, eqb-true, and_parts, and_from, leb-true, ltb-true, lt-ltb, cond-true}
 use Rattle.std.proofs.lemmas.Fmt.{decimal-digits_value, digits_decimal, digits_value-decimal, first_decimal, decimal_nonempty, decimal_digit}
 use Rattle.std.proofs.lemmas.Str.Parse.{IsNumeralModel, numerals_by_fold}
+use Rattle.hp_states.proofs.Basics.{map_some, passed, same_some}
 use Rattle.hp_model.specs.Lists.{is_empty}
 use Rattle.hp_replay.specs.Numbers.{is_digit, are_digits, is_number, read_on, value, number_below, negated, integer}
 use Rattle.hp_replay.specs.Fits.{IsI32}
-use Rattle.hp_replay.proofs.Basics.{passed, some_is, map_some}
 
 pub own : IsNumeralModel (λ ds. are_digits ds ≡ true) (read_on 0)
 own = numerals_by_fold _ (search rules) read_on (search rules)
@@ -60,7 +60,7 @@ unfolding number_below
 below_takes limit w n le e =
     let p = passed (is_number w && ltb (value w) limit) (Some (value w)) n e in
     let t = and_parts (is_number w) (ltb (value w) limit) p.0 in
-    let is : value w ≡ n = some_is (value w) n p.1 in
+    let is : value w ≡ n = same_some (value w) n p.1 in
     let small : value w < limit = ltb-true _ _ t.1 in
     (number_is w t.0 (omega arith) ∙ ap decimal is, subst (λ (m : ℕ). m < limit) is small)
 
@@ -79,7 +79,7 @@ negated_takes bs z None h e = absurd cc
 negated_takes bs z (Some zero) h e = absurd cc
 negated_takes bs z (Some (suc n)) h e =
     let t = below_takes (2 ^ 31 + 1) bs (suc n) (omega arith) h in
-    subst (λ (y : ℤ). (45 ∷ bs ≡ signed_decimal y) × IsI32 y) (some_is (negsuc n) z e) (ap (λ (w : List ℕ). 45 ∷ w) t.0, omega (arith, t.1))
+    subst (λ (y : ℤ). (45 ∷ bs ≡ signed_decimal y) × IsI32 y) (same_some (negsuc n) z e) (ap (λ (w : List ℕ). 45 ∷ w) t.0, omega (arith, t.1))
 
 natural_takes : (w : List ℕ) (z : ℤ) → option_map (λ n. pos n) (number_below (2 ^ 31) w) ≡ Some z → (w ≡ signed_decimal z) × IsI32 z
 natural_takes w z e =

@@ -4,6 +4,7 @@ use Rattle.std.specs.Prelude.{codes}
 use Rattle.std.specs.Fmt.{decimal, signed_decimal}
 use Rattle.std.specs.Str.{bytes_eq}
 use Rattle.std.proofs.lemmas.Bool.{and_parts}
+use Rattle.hp_states.proofs.Basics.{map_some, passed, same_some}
 use Rattle.hp_event.specs.declared.op.Op.{Op}
 use Rattle.hp_event.specs.declared.op.Op.TheVariants.{Up, Down, Target, Arm, ShowState, ShowTarget, ShowFail, ShowStates, Setup, Remove, Add, Del, Lock, Unlock, Boot, Disable, Enable, Freeze, Thaw, Wakeup, UpMany}
 use Rattle.hp_event.specs.declared.op.Form.{Form}
@@ -18,7 +19,6 @@ use Rattle.hp_replay.specs.Numbers.{number, integer}
 use Rattle.hp_replay.specs.Readers.{Tail, mapped, one_of}
 use Rattle.hp_replay.specs.Fits.{IsU32, IsI32, OpFits}
 use Rattle.hp_replay.specs.OpAt.{flags, form, show_rows, upmany_tail, op_rows, op}
-use Rattle.hp_replay.proofs.Basics.{passed, some_is, map_some}
 use Rattle.hp_replay.proofs.AbsentLaws.{rising_takes}
 use Rattle.hp_replay.proofs.NumberLaws.{below_takes, integer_takes}
 use Rattle.hp_replay.proofs.ReaderLaws.{IsField, Spells, done_spells, bind_spells, mapped_spells, one_spells, same_word}
@@ -32,7 +32,7 @@ integer_field = record { takes = λ w a e. integer_takes w a e }
 -- ---- forms
 
 form_is : (f : Form) (w : List (List ℕ)) (g : Form) → w ≡ form_words f → Some f ≡ Some g → w ≡ form_words g
-form_is f w g e h = e ∙ ap form_words (some_is f g h)
+form_is f w g e h = e ∙ ap form_words (same_some f g h)
 
 one_flag : (w : List ℕ) (g : Form) (t u : Bool) → bytes_eq w (codes "nocalls") ≡ t → bytes_eq w (codes "locked") ≡ u →
     cond t (Some (flags true false)) (cond u (Some (flags false true)) None) ≡ Some g → w ∷ [] ≡ form_words g

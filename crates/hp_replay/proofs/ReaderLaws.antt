@@ -7,10 +7,10 @@ use Rattle.std.proofs.lemmas.Slice.Eq.{bytes_eq-Decides}
 use Rattle.std.proofs.lemmas.List.{append-nil}
 use Rattle.hp_replay.specs.Readers.{Field, Tail, goes_on, ◌>>=◌, done, mapped, Row, row, row_of, one_of}
 use Rattle.std.proofs.lemmas.Bool.{and_parts}
+use Rattle.hp_states.proofs.Basics.{map_some, same_some}
 use Rattle.hp_model.specs.Words.{line}
 use Rattle.hp_replay.specs.LineWords.{words_at}
 use Rattle.hp_replay.proofs.LineLaws.{is_free, all_free, words_take, words_again}
-use Rattle.hp_replay.proofs.Basics.{some_is, map_some}
 
 -- a word that a field takes is the spelling of its value
 pub record IsField {A : Type 0} (field : Field A) (word : A → List ℕ) (In : A → Type 0) : Type 0 where
@@ -23,7 +23,7 @@ pub record Spells {X : Type 0} (words : X → List (List ℕ)) (In : X → Type 
 done_takes : {X : Type 0} (words : X → List (List ℕ)) (In : X → Type 0) (front : List (List ℕ)) (x : X) → words x ≡ front → In x →
     (ws : List (List ℕ)) (y : X) → done x ws ≡ Some y → (front ++ ws ≡ words y) × In y
 done_takes words In front x e i [] y h =
-    subst (λ (z : _). (front ++ [] ≡ words z) × In z) (some_is x y h) (append-nil front ∙ sym e, i)
+    subst (λ (z : _). (front ++ [] ≡ words z) × In z) (same_some x y h) (append-nil front ∙ sym e, i)
 done_takes words In front x e i (w ∷ ws) y h = absurd cc
 
 pub done_spells : {X : Type 0} {words : X → List (List ℕ)} {In : X → Type 0} {front : List (List ℕ)} (x : X) → words x ≡ front → In x → Spells words In front (done x)

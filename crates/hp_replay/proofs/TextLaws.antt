@@ -1,5 +1,6 @@
 -- A text has one journal.
 use Rattle.std.proofs.Common.{◌≡◌, List, refl, sym, ap, ◌∙◌, inl}
+use Rattle.hp_states.proofs.Basics.{same_some}
 use Rattle.hp_event.specs.declared.head.Head.{Head}
 use Rattle.hp_event.specs.declared.event.Event.{Event}
 use Rattle.hp_model.specs.EventLine.{event_line}
@@ -9,12 +10,11 @@ use Rattle.hp_replay.specs.Spelled.{IsSpelled}
 use Rattle.hp_replay.specs.EventAt.{event_at}
 use Rattle.hp_replay.specs.CanStand.{IsJournal}
 use Rattle.hp_replay.specs.Judged.{accepted}
-use Rattle.hp_replay.proofs.Basics.{some_is}
 use Rattle.hp_replay.proofs.EventAgain.{event_at_again}
 use Rattle.hp_replay.proofs.VerdictLaws.{verdict_one}
 
 pub line_says_one : (a b : Event) → EventFits a → IsSpelled a → EventFits b → IsSpelled b → event_line a ≡ event_line b → a ≡ b
-line_says_one a b f s g t e = some_is a b (sym (event_at_again a f s) ∙ ap event_at e ∙ event_at_again b g t)
+line_says_one a b f s g t e = same_some a b (sym (event_at_again a f s) ∙ ap event_at e ∙ event_at_again b g t)
 
 pub text_says_one : (one other : Head) (events others : List Event) → IsJournal one events → IsJournal other others → journal_text one events ≡ journal_text other others → (one ≡ other) × (events ≡ others)
 text_says_one one other events others j k e =

@@ -16,9 +16,14 @@ pub mod Judged
 pub mod CanStand
 pub mod Kinds
 pub mod Verdict
+pub mod Spellings
 pub mod Judge
 pub mod Texts
 pub mod WordsLeft
 pub mod FirstWords
 pub mod LinesLeft
 pub mod Reading
+pub mod LineSteps
+pub mod HeadDraft
+pub mod LawStages
+pub mod Stories

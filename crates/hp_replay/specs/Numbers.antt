@@ -29,6 +29,10 @@ read_on n (b ∷ bs) = read_on (n * 10 + (b - 48)) bs
 abbrev pub value : (digits : List ℕ) → ℕ
 value digits = read_on 0 digits
 
+-- the number that digits say, where it is below a limit
+abbrev pub digits_below : (limit : ℕ) → (digits : List ℕ) → Option ℕ
+digits_below limit digits = if are_digits digits && nat_lt (value digits) limit then Some (value digits) else None
+
 unfoldable pub number_below : (limit : ℕ) → (word : List ℕ) → Option ℕ
 number_below limit word = if is_number word && nat_lt (value word) limit then Some (value word) else None
 

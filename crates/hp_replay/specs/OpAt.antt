@@ -1,7 +1,9 @@
 -- The operation that words say, as the lines of a script have them. This project's own.
 use Rattle.std.specs.Prelude.{Bool, true, false, ◌&&◌, if◌then◌else◌, List, [], ◌∷◌, Some, None, codes}
+use Rattle.std.specs.Option.{option_map}
 use Rattle.std.specs.Str.{bytes_eq}
 use Rattle.hp_states.specs.declared.limits.TheConstants.{MAX_CPU_SET}
+use Rattle.hp_states.specs.declared.cpu_set.CpuSet.{CpuSet}
 use Rattle.hp_event.specs.declared.op.Op.{Op}
 use Rattle.hp_event.specs.declared.op.Op.TheVariants.{Up, Down, Target, Arm, ShowState, ShowTarget, ShowFail, ShowStates, Setup, Remove, Add, Del, Lock, Unlock, Boot, Disable, Enable, Freeze, Thaw, Wakeup, UpMany}
 use Rattle.hp_event.specs.declared.op.Form.{Form}
@@ -65,6 +67,10 @@ abbrev pub freeze_tail : Tail Op
 freeze_tail = do
   primary ← integer
   done (Freeze primary)
+
+-- the set of these numbers, which are from 0 to 255 and rise
+abbrev pub set_said : Tail CpuSet
+set_said words = option_map (λ cpus. set_of cpus) (rising_from 0 MAX_CPU_SET words)
 
 -- the processors of an upmany: one or more numbers from 0 to 255, each above the one before it
 abbrev pub upmany_tail : Tail Op

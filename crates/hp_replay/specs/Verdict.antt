@@ -1,7 +1,7 @@
 -- What the reader of a journal answers to an input, in the words of its grammar: a lawful journal, where the bytes are
 -- its text, or its text and its summary; else the first line that can't stand, counted from 1, and its kind; where
 -- all lines can stand and the input ends too early, the line after the last. This project's own.
-use Rattle.std.specs.Prelude.{◌≡◌, ◌⊎◌, ℕ, ◌+◌, ◌<◌, ◌≤◌, List, [], ◌∷◌, ◌++◌, length}
+use Rattle.std.specs.Prelude.{◌≡◌, ◌↔◌, ◌⊎◌, ℕ, ◌+◌, ◌<◌, ◌≤◌, List, [], ◌∷◌, ◌++◌, length}
 use Rattle.hp_states.specs.declared.limits.TheConstants.{MAX_JOURNAL_BYTES}
 use Rattle.hp_event.specs.declared.head.Head.{Head}
 use Rattle.hp_event.specs.declared.event.Event.{Event}
@@ -24,6 +24,16 @@ IsTextOrBoth bytes head events = (bytes ≡ journal_text head events) ⊎ (bytes
 pub record IsTextOf (bytes : List ℕ) (head : Head) (events : List Event) : Type 0 where
   pub journal : IsJournal head events
   pub bytes_are : IsTextOrBoth bytes head events
+
+-- and they aren't too long
+abbrev pub IsShortTextOf : (bytes : List ℕ) → Head → List Event → Type 0
+IsShortTextOf bytes head events = (length bytes ≤ MAX_JOURNAL_BYTES) × IsTextOf bytes head events
+
+-- two lawful journals with the same text are one
+abbrev pub AreOneByText : (one : Head) (events : List Event) (other : Head) (others : List Event) → Type 0
+AreOneByText one events other others =
+    IsJournal one events → IsJournal other others → journal_text one events ≡ journal_text other others →
+    (one ≡ other) × (events ≡ others)
 
 -- the lines before this one can stand, and with it they can't
 pub record IsFirstBad (lines : List (List ℕ)) (number : ℕ) (kind : ReplayKind) : Type 0 where
@@ -53,6 +63,14 @@ abbrev pub IsReplay : (bytes : List ℕ) → Outcome → Type 0
 IsReplay bytes o =
     ((MAX_JOURNAL_BYTES < length bytes) × (o ≡ refused 0 TooLong))
     ⊎ ((length bytes ≤ MAX_JOURNAL_BYTES) × IsVerdict bytes o)
+
+-- the journals that are answered to an input are those whose text it is, where it isn't too long
+abbrev pub AcceptsTexts : (bytes : List ℕ) → Type 0
+AcceptsTexts bytes = (head : Head) (events : List Event) → IsReplay bytes (accepted head events) ↔ IsShortTextOf bytes head events
+
+-- of an input that is too long that is answered, and nothing else
+abbrev pub RefusesIfLong : (bytes : List ℕ) → Outcome → Type 0
+RefusesIfLong bytes o = MAX_JOURNAL_BYTES < length bytes → IsReplay bytes o ↔ (o ≡ refused 0 TooLong)
 
 -- of an error: it is the verdict on the input, but where memory was wanting
 abbrev pub IsRefusal : (bytes : List ℕ) → ReplayError → Type 0

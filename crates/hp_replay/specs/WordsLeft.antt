@@ -4,9 +4,13 @@ use Rattle.std.specs.Prelude.{ℕ, ◌==◌, List, [], ◌∷◌, Option, Some, 
 use Rattle.std.specs.Borrow.{Bor}
 use Rattle.std.specs.List.{slice_split}
 
+-- the pieces between the spaces of a text
+abbrev pub pieces : (text : List ℕ) → List (List ℕ)
+pieces text = slice_split (λ b. b == 32) text
+
 abbrev pub words_left : Option (Bor (List ℕ)) → List (List ℕ)
 words_left None = []
-words_left (Some b) = slice_split (λ x. x == 32) b.now
+words_left (Some b) = pieces b.now
 
 -- the first word
 abbrev pub first_of : List (List ℕ) → Option (List ℕ)

@@ -1,13 +1,13 @@
 //! The lines of the events and the `end` line: they say the journal.
 
-ghost use Rattle.std.specs.Prelude.{◌≡◌, ◌<◌, ◌+◌, ◌++◌, ◌∷◌, [], length, OnOk, OnErr, IfOk, IfErr};
-ghost use Rattle.hp_states.specs.declared.limits.TheConstants.{MAX_EVENTS};
+ghost use Rattle.std.specs.Prelude.{◌≡◌, [], OnOk, IfOk, IfErr};
 ghost use Rattle.hp_model.specs.Heads.{IsHead};
-ghost use Rattle.hp_model.specs.Lawful.{Stands, IsLawful};
-ghost use Rattle.hp_replay.specs.EndAt.{end_at};
-ghost use Rattle.hp_replay.specs.Stages.{among_events, whole, asks, end_step};
+ghost use Rattle.hp_model.specs.Lawful.{Stands};
+ghost use Rattle.hp_replay.specs.Stages.{among_events};
 ghost use Rattle.hp_replay.specs.Judged.{Leads};
 ghost use Rattle.hp_replay.specs.Reading.{GoesOver, RefusesLine, RefusedFrom};
+ghost use Rattle.hp_replay.specs.LawStages.{with_event, stage_of, whole_of, event_asked, end_told};
+ghost use Rattle.hp_replay.specs.Stories.{ReadsEvents};
 
 use crate::end::end_of_line;
 use crate::error::{ReplayError, ReplayKind};
@@ -20,9 +20,8 @@ use std::alloc::Global;
 /// Takes an event's line.
 fn take_event(law: &mut Law, event: &Event, line: &Line<'_>) -> Result<(), ReplayError>
     ensures stands { OnOk result (Stands law.old.head law.old.events event.now) }
-    ensures taken { OnOk result (law.new
-        ≡ record law.old { events = law.old.events ++ event.now ∷ [] }) }
-    ensures bad { IfErr result (RefusesLine (asks law.old.head law.old.events event.now) line.now.number) }
+    ensures taken { OnOk result (law.new ≡ with_event law.old event.now) }
+    ensures bad { IfErr result (RefusesLine (event_asked law.old event.now) line.now.number) }
 {
     if !law.offer(event)? {
         return Err(line.bad(ReplayKind::Unlawful));
@@ -32,11 +31,8 @@ fn take_event(law: &mut Law, event: &Event, line: &Line<'_>) -> Result<(), Repla
 
 /// Takes the line behind the last event's.
 pub fn take_end(law: &Law, line: &Line<'_>) -> Result<(), ReplayError>
-    ensures ok { OnOk result
-        (Leads (end_step law.now.head law.now.events (end_at line.now.bytes.now))
-        (whole law.now.head law.now.events)) }
-    ensures bad { IfErr result
-        (RefusesLine (end_step law.now.head law.now.events (end_at line.now.bytes.now)) line.now.number) }
+    ensures ok { OnOk result (Leads (end_told law.now line.now.bytes.now) (whole_of law.now)) }
+    ensures bad { IfErr result (RefusesLine (end_told law.now line.now.bytes.now) line.now.number) }
 {
     match end_of_line(line) {
         None => Err(line.bad(ReplayKind::Syntax)),
@@ -52,9 +48,8 @@ pub fn take_end(law: &Law, line: &Line<'_>) -> Result<(), ReplayError>
 
 /// Takes the lines of the events, and the `end` line behind them.
 fn take_events(law: &mut Law, lines: &mut Lines<'_>) -> Result<(), ReplayError>
-    ensures ok { OnOk result
-        (GoesOver lines.old (among_events law.old.head law.old.events) lines.new (whole law.new.head law.new.events)) }
-    ensures bad { IfErr result (RefusedFrom (among_events law.old.head law.old.events) lines.old) }
+    ensures ok { OnOk result (GoesOver lines.old (stage_of law.old) lines.new (whole_of law.new)) }
+    ensures bad { IfErr result (RefusedFrom (stage_of law.old) lines.old) }
 {
     loop {
         let line = lines.expect()?;
@@ -72,8 +67,7 @@ pub fn read_events(
     lines: &mut Lines<'_>,
 ) -> Result<Journal, ReplayError>
     requires { IsHead head.now }
-    ensures ok { IfOk result (λ journal.
-        GoesOver lines.old (among_events head.now []) lines.new (whole journal.head journal.events)) }
+    ensures ok { IfOk result (λ journal. ReadsEvents lines.old head.now lines.new journal) }
     ensures promised { IfOk result (λ journal. journal.promised ≡ 0) }
     ensures bad { IfErr result (RefusedFrom (among_events head.now []) lines.old) }
 {

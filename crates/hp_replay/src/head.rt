@@ -1,10 +1,11 @@
 //! The lines before the events, one after another: they say the head.
 
-ghost use Rattle.std.specs.Prelude.{◌≡◌, ◌<◌, ◌++◌, ◌∷◌, [], Option, OnOk, IfOk, IfErr};
-ghost use Rattle.hp_replay.specs.HeadLines.{a_sub, a_rule, the_events};
-ghost use Rattle.hp_replay.specs.Stages.{begins, titled, counted, headed, among_events, step, next_sub};
+ghost use Rattle.std.specs.Prelude.{◌≡◌, ◌<◌, [], OnOk, IfOk, IfErr};
+ghost use Rattle.hp_replay.specs.Stages.{begins, titled, counted, headed, among_events};
 ghost use Rattle.hp_replay.specs.Judged.{Leads};
-ghost use Rattle.hp_replay.specs.Reading.{GoesOver, RefusesLine, RefusedFrom, head_stage, head_step, ended_head};
+ghost use Rattle.hp_replay.specs.Reading.{GoesOver, RefusesLine, RefusedFrom, ended_head};
+ghost use Rattle.hp_replay.specs.LineSteps.{LineLeads, LineRefused};
+ghost use Rattle.hp_replay.specs.HeadDraft.{draft_stage, sub_step, rule_step};
 
 use crate::error::{ReplayError, ReplayKind};
 use crate::head_lines::{HeadLine, absent, cpus, head_line};
@@ -19,8 +20,8 @@ const TITLE: &[u8; 16] = b"cpuhp journal 1\n";
 /// Takes the title.
 #[tactic(auto, unfolding(crate::specs::Stages::step, hp_model::specs::JournalText::title_line))]
 fn take_title(line: &Line<'_>) -> Result<(), ReplayError>
-    ensures ok { OnOk result (Leads (step begins line.now.bytes.now) titled) }
-    ensures bad { IfErr result (λ e. RefusesLine (step begins line.now.bytes.now) line.now.number e) }
+    ensures ok { OnOk result (LineLeads begins line.now titled) }
+    ensures bad { IfErr result (λ e. LineRefused begins line.now e) }
 {
     if line.bytes == TITLE.as_slice() {
         return Ok(());
@@ -31,9 +32,9 @@ fn take_title(line: &Line<'_>) -> Result<(), ReplayError>
 /// Takes how many processors are possible.
 #[tactic(auto, unfolding(crate::specs::Stages::step))]
 fn take_cpus(line: &Line<'_>) -> Result<u32, ReplayError>
-    ensures ok { IfOk result (λ n. Leads (step titled line.now.bytes.now) (counted n)) }
+    ensures ok { IfOk result (λ n. LineLeads titled line.now (counted n)) }
     ensures some { IfOk result (λ n. 0 < n) }
-    ensures bad { IfErr result (λ e. RefusesLine (step titled line.now.bytes.now) line.now.number e) }
+    ensures bad { IfErr result (λ e. LineRefused titled line.now e) }
 {
     match cpus(line) {
         Some(possible) => Ok(possible),
@@ -45,8 +46,8 @@ fn take_cpus(line: &Line<'_>) -> Result<u32, ReplayError>
 #[tactic(auto, unfolding(crate::specs::Stages::step))]
 fn take_absent(alloc: Global, possible: u32, line: &Line<'_>) -> Result<Head, ReplayError>
     requires { 0 < possible }
-    ensures ok { IfOk result (λ head. Leads (step (counted possible) line.now.bytes.now) (headed head)) }
-    ensures bad { IfErr result (λ e. RefusesLine (step (counted possible) line.now.bytes.now) line.now.number e) }
+    ensures ok { IfOk result (λ head. LineLeads (counted possible) line.now (headed head)) }
+    ensures bad { IfErr result (λ e. LineRefused (counted possible) line.now e) }
 {
     match absent(alloc, possible, line)? {
         Some(absent) => Ok(Head {
@@ -79,8 +80,8 @@ impl Draft {
 
     /// Takes a subsystem more. After `Err` the head is as a refused line leaves it, and isn't used.
     fn take_sub(&mut self, sub: Sub, line: &Line<'_>) -> Result<(), ReplayError>
-        ensures ok { OnOk result (Leads (next_sub (ended_head self.old.head self.old.last) sub) (head_stage self.new.head self.new.last)) }
-        ensures bad { IfErr result (λ e. RefusesLine (next_sub (ended_head self.old.head self.old.last) sub) line.now.number e) }
+        ensures ok { OnOk result (Leads (sub_step self.old sub) (draft_stage self.new)) }
+        ensures bad { IfErr result (λ e. RefusesLine (sub_step self.old sub) line.now.number e) }
     {
         if let Some(last) = self.last.take() {
             self.head.subs.push(last)?;
@@ -94,8 +95,8 @@ impl Draft {
 
     /// Takes a rule more of the last subsystem.
     fn take_rule(&mut self, rule: Rule, line: &Line<'_>) -> Result<(), ReplayError>
-        ensures ok { OnOk result (Leads (head_step self.old.head self.old.last (a_rule rule)) (head_stage self.new.head self.new.last)) }
-        ensures bad { IfErr result (λ e. RefusesLine (head_step self.old.head self.old.last (a_rule rule)) line.now.number e) }
+        ensures ok { OnOk result (Leads (rule_step self.old rule) (draft_stage self.new)) }
+        ensures bad { IfErr result (λ e. RefusesLine (rule_step self.old rule) line.now.number e) }
     {
         let Some(mut sub) = self.last.take() else {
             return Err(line.bad(ReplayKind::Header));

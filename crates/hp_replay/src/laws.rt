@@ -3,31 +3,26 @@
 //! The functions have no work to do: their contracts are the laws, which callers cite. One of them
 //! looks at each event, so that its numbers are known to fit.
 
-ghost use Rattle.std.specs.Prelude.{◌≡◌, ◌↔◌, ℕ, ◌≤◌, ◌<◌, ◌^◌, false, Some, List, [], ◌∷◌, map, codes, decimal, length, All};
-ghost use Rattle.std.specs.List.Sorted.{IsStrictlyIncreasing};
-ghost use Rattle.hp_model.specs.Lists.{among};
-ghost use Rattle.hp_states.specs.declared.limits.TheConstants.{MAX_CPUS, MAX_JOURNAL_BYTES};
+ghost use Rattle.std.specs.Prelude.{◌≡◌, ◌↔◌, ℕ, ◌<◌, ◌^◌, Some, List, [], ◌∷◌, codes};
 ghost use Rattle.hp_states.specs.declared.plan.Rule.{Rule as ARule};
 ghost use Rattle.hp_event.specs.declared.event.Event.{Event as AnEvent};
 ghost use Rattle.hp_event.specs.declared.head.Head.{Head as AHead};
 ghost use Rattle.hp_event.specs.declared.head.Sub.{Sub as ASub};
-ghost use Rattle.hp_model.specs.Words.{line, list_words, name_word, calls_word, kind_word};
-ghost use Rattle.hp_model.specs.Heads.{IsHead, IsName, IsRule};
+ghost use Rattle.hp_model.specs.Words.{line};
+ghost use Rattle.hp_model.specs.Heads.{IsHead};
 ghost use Rattle.hp_model.specs.EventLine.{event_line};
-ghost use Rattle.hp_model.specs.JournalText.{rule_line, journal_text};
-ghost use Rattle.hp_model.specs.Lawful.{Stands, IsLawful};
-ghost use Rattle.hp_replay.specs.Fits.{EventFits};
+ghost use Rattle.hp_model.specs.Lawful.{Stands};
 ghost use Rattle.hp_replay.specs.Spelled.{IsSpelled};
 ghost use Rattle.hp_replay.specs.EventAt.{event_at};
-ghost use Rattle.hp_replay.specs.HeadLines.{a_sub, a_rule, the_events, cpus_at, absent_at, head_line_at};
+ghost use Rattle.hp_replay.specs.HeadLines.{a_sub, a_rule, the_events, cpus_at};
 ghost use Rattle.hp_replay.specs.EndAt.{end_at};
 ghost use Rattle.hp_replay.specs.InputLines.{lines_of};
-ghost use Rattle.hp_replay.specs.CanStand.{IsJournal};
 ghost use Rattle.hp_replay.specs.Stages.{begins};
-ghost use Rattle.hp_replay.specs.Judged.{Outcome, accepted, refused, Judged};
+ghost use Rattle.hp_replay.specs.Judged.{Outcome, accepted, Judged};
 ghost use Rattle.hp_replay.specs.Judge.{Test, IsTest, judge};
-ghost use Rattle.hp_replay.specs.Verdict.{IsTextOrBoth, IsTextOf, IsVerdict, IsReplay};
-ghost use Rattle.hp_replay.specs.declared.error.ReplayKind.TheVariants.{TooLong};
+ghost use Rattle.hp_replay.specs.Verdict.{IsVerdict, IsReplay, AcceptsTexts, RefusesIfLong, AreOneByText};
+ghost use Rattle.hp_replay.specs.Spellings.{IfSaid, IsEventLine, HaveSameLine, IsCpusLine, SpellsAbsent, absent_text, SaysAbsent, SaysInHead, IsSubLine, IsRuleLine, end_text};
+ghost use Rattle.hp_replay.specs.Stories.{IsLawfulStory, IsShort, IsItsText, IsAccepted};
 
 use crate::fits::events_fit;
 use hp_event::{Event, Head, Journal};
@@ -36,19 +31,17 @@ use hp_event::{Event, Head, Journal};
 /// text can say it.
 #[tactic(auto, using(crate::proofs::EventAgain::event_at_again))]
 pub fn event_is_read(event: &Event)
-    ensures { EventFits event.now → IsSpelled event.now → event_at (event_line event.now) ≡ Some event.now }
+    ensures { IfSaid event.now (event_at (event_line event.now) ≡ Some event.now) }
 {}
 
 /// A line that says an event is that event's line, byte for byte, and the event is such a one.
 pub fn read_event_is_spelled(line: &[u8])
-    ensures { (event : AnEvent) → event_at line.now ≡ Some event →
-        (line.now ≡ event_line event) × EventFits event × IsSpelled event }
+    ensures { (event : AnEvent) → event_at line.now ≡ Some event → IsEventLine line.now event }
 {}
 
 /// A line says one event at most, and no two events have the same line.
 pub fn line_says_one(one: &Event, other: &Event)
-    ensures { EventFits one.now → IsSpelled one.now → EventFits other.now → IsSpelled other.now →
-        event_line one.now ≡ event_line other.now → one.now ≡ other.now }
+    ensures { IfSaid one.now (IfSaid other.now (HaveSameLine one.now other.now → one.now ≡ other.now)) }
 {}
 
 /// What stands after events can be said by the text.
@@ -59,35 +52,26 @@ pub fn standing_is_spelled(head: &Head, before: &[Event], event: &Event)
 
 /// The line of the possible processors: what is read is a number in its range, and so spelled.
 pub fn cpus_line(bytes: &[u8])
-    ensures { (n : ℕ) → (cpus_at bytes.now ≡ Some n) ↔
-        ((1 ≤ n) × (n ≤ MAX_CPUS) × (bytes.now ≡ line (codes "cpus" ∷ decimal n ∷ []))) }
+    ensures { (n : ℕ) → (cpus_at bytes.now ≡ Some n) ↔ IsCpusLine bytes.now n }
 {}
 
 /// The line of the absent processors: what is read rises, from 1 to the last possible one, and is so
 /// spelled; and that of a head is read.
 pub fn absent_line(bytes: &[u8])
-    ensures spelled { (possible : ℕ) (absent : List ℕ) → possible ≤ MAX_CPUS →
-        absent_at possible bytes.now ≡ Some absent →
-        IsStrictlyIncreasing absent × All (λ c. c < possible) absent × (among 0 absent ≡ false)
-        × (bytes.now ≡ line (codes "absent" ∷ list_words (map decimal absent))) }
-    ensures read { (head : AHead) → IsHead head →
-        bytes.now ≡ line (codes "absent" ∷ list_words (map decimal head.absent)) →
-        absent_at head.possible bytes.now ≡ Some head.absent }
+    ensures spelled { (possible : ℕ) (absent : List ℕ) → SpellsAbsent possible bytes.now absent }
+    ensures read { (head : AHead) → IsHead head → bytes.now ≡ absent_text head.absent → SaysAbsent head bytes.now }
 {}
 
 /// The lines of subsystems and rules, and the line after which the events stand.
 pub fn head_line(bytes: &[u8])
-    ensures sub { (sub : ASub) → (head_line_at bytes.now ≡ Some (a_sub sub)) ↔
-        (IsName sub.name × (sub.plan ≡ [])
-        × (bytes.now ≡ line (codes "sub" ∷ name_word sub.name ∷ calls_word sub.up sub.down ∷ kind_word sub.multi ∷ []))) }
-    ensures rule { (rule : ARule) → (head_line_at bytes.now ≡ Some (a_rule rule)) ↔
-        (IsRule rule × (bytes.now ≡ rule_line rule)) }
-    ensures events { (head_line_at bytes.now ≡ Some the_events) ↔ (bytes.now ≡ line (codes "events" ∷ [])) }
+    ensures sub { (sub : ASub) → SaysInHead bytes.now (a_sub sub) ↔ IsSubLine bytes.now sub }
+    ensures rule { (rule : ARule) → SaysInHead bytes.now (a_rule rule) ↔ IsRuleLine bytes.now rule }
+    ensures events { SaysInHead bytes.now the_events ↔ (bytes.now ≡ line (codes "events" ∷ [])) }
 {}
 
 /// The line after the events, with a number that fits: what is read is so spelled.
 pub fn end_line(bytes: &[u8])
-    ensures { (n : ℕ) → n < 2 ^ 64 → (end_at bytes.now ≡ Some n) ↔ (bytes.now ≡ line (codes "end" ∷ decimal n ∷ [])) }
+    ensures { (n : ℕ) → n < 2 ^ 64 → (end_at bytes.now ≡ Some n) ↔ (bytes.now ≡ end_text n) }
 {}
 
 /// What is judged line by line is the verdict in the grammar's words, and the other way round. So an
@@ -101,10 +85,8 @@ pub fn judged_is_verdict(input: &[u8])
 /// A journal is accepted exactly where the input isn't too long and is the text of that lawful
 /// journal, or its text and its summary. There is one answer at most.
 pub fn accepted_is_text(input: &[u8])
-    ensures accepted { (head : AHead) (events : List AnEvent) → IsReplay input.now (accepted head events) ↔
-        ((length input.now ≤ MAX_JOURNAL_BYTES) × IsTextOf input.now head events) }
-    ensures too_long { (o : Outcome) → MAX_JOURNAL_BYTES < length input.now →
-        IsReplay input.now o ↔ (o ≡ refused 0 TooLong) }
+    ensures accepted { AcceptsTexts input.now }
+    ensures too_long { (o : Outcome) → RefusesIfLong input.now o }
     ensures one { (a b : Outcome) → IsReplay input.now a → IsReplay input.now b → a ≡ b }
 {}
 
@@ -116,9 +98,7 @@ pub fn judge_is_verdict(input: &[u8])
 /// A text is that of one journal.
 #[tactic(auto, using(crate::proofs::TextLaws::text_says_one))]
 pub fn text_says_one(one: &Head, events: &[Event], other: &Head, others: &[Event])
-    ensures { IsJournal one.now events.now → IsJournal other.now others.now →
-        journal_text one.now events.now ≡ journal_text other.now others.now →
-        (one.now ≡ other.now) × (events.now ≡ others.now) }
+    ensures { AreOneByText one.now events.now other.now others.now }
 {}
 
 /// The text of a lawful journal that the code holds is accepted, alone and with its summary, as that
@@ -127,9 +107,8 @@ pub fn text_says_one(one: &Head, events: &[Event], other: &Head, others: &[Event
 ///
 /// It looks at each event, since of the numbers of a definition it isn't known that they fit.
 pub fn text_is_accepted(journal: &Journal, text: &[u8])
-    ensures { IsLawful journal.now.head journal.now.events → length text.now ≤ MAX_JOURNAL_BYTES →
-        IsTextOrBoth text.now journal.now.head journal.now.events →
-        IsReplay text.now (accepted journal.now.head journal.now.events) }
+    ensures { IsLawfulStory journal.now → IsShort text.now → IsItsText text.now journal.now →
+        IsAccepted text.now journal.now }
 {
     events_fit(journal.events());
 }

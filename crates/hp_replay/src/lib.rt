@@ -10,8 +10,10 @@
 //! lawful journal, where the bytes are its text or its text and its summary, or the first line that
 //! can't stand, with its kind (`Kinds`); which lines can stand says `CanStand`. `Judged` says the
 //! answer line by line, as a reader finds it, by the stages of `Stages`. That both are the same is
-//! the contract of `judged_is_verdict`. `LinesLeft`, `WordsLeft`, `FirstWords` and `Reading` are what
-//! the clauses of the code say on the way.
+//! the contract of `judged_is_verdict`. `Spellings` says how a line is spelled that is read, and
+//! `Stories` what is said of a journal that the code holds. `LinesLeft`, `WordsLeft`, `FirstWords`,
+//! `Reading`, `LineSteps`, `HeadDraft` and `LawStages` are what the clauses of the code say on the
+//! way.
 //!
 //! The functions of `laws` have no work to do: their contracts are laws, which callers cite.
 #![tactic(auto)]

@@ -1,7 +1,7 @@
 //! Words that are numbers. A number is `0`, or digits of which the first isn't 0.
 
-ghost use Rattle.std.specs.Prelude.{◌≡◌, ◌≤◌, ◌<◌, ◌^◌, ◌&&◌, nat_lt, if◌then◌else◌, Some, None, option_map, IfSome};
-ghost use Rattle.hp_replay.specs.Numbers.{are_digits, is_number as is_number_at, value as value_at, number_below as number_below_at, number as number_at, integer as integer_at, negated as negated_at, is_plain as is_plain_at, fitting};
+ghost use Rattle.std.specs.Prelude.{◌≡◌, ◌≤◌, ◌<◌, ◌^◌, Some, option_map, IfSome};
+ghost use Rattle.hp_replay.specs.Numbers.{are_digits, is_number as is_number_at, number_below as number_below_at, digits_below as digits_below_at, number as number_at, integer as integer_at, negated as negated_at, is_plain as is_plain_at, fitting};
 ghost use Rattle.hp_replay.specs.EndAt.{any_number as any_number_at};
 
 /// One more than the highest number of the type `u32`.
@@ -13,9 +13,7 @@ const I32_LIMIT: u64 = 0x8000_0000;
 fn digits_below(limit: u64, digits: &[u8]) -> Option<u32>
     requires some { 0 < limit }
     requires small { limit ≤ 2 ^ 32 }
-    ensures said { result
-        ≡ (if are_digits digits.now && nat_lt (value_at digits.now) limit
-        then Some (value_at digits.now) else None) }
+    ensures said { result ≡ digits_below_at limit digits.now }
     ensures below { IfSome result (λ n. n < limit) }
 {
     let mut value: u64 = 0;

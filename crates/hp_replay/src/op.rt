@@ -1,12 +1,9 @@
 //! The operation that words say, as the lines of a script have them.
 
-ghost use Rattle.std.specs.Prelude.{◌≡◌, ◌∷◌, option_map};
-ghost use Rattle.hp_states.specs.declared.limits.TheConstants.{MAX_CPU_SET as MAX_CPU_SET_OF};
+ghost use Rattle.std.specs.Prelude.{◌≡◌, ◌∷◌};
 ghost use Rattle.hp_event.specs.declared.op.Op.TheVariants as op;
-ghost use Rattle.hp_model.specs.SetOf.{set_of};
-ghost use Rattle.hp_replay.specs.Rising.{rising_from};
 ghost use Rattle.hp_replay.specs.Tails.{numbered, valued};
-ghost use Rattle.hp_replay.specs.OpAt.{flags as flags_at, one_flag as one_flag_at, form as form_at, show_tail, setup_tail, remove_tail, add_tail, del_tail, freeze_tail, upmany_tail, op as op_at};
+ghost use Rattle.hp_replay.specs.OpAt.{flags as flags_at, one_flag as one_flag_at, form as form_at, show_tail, setup_tail, remove_tail, add_tail, del_tail, freeze_tail, upmany_tail, op as op_at, set_said};
 
 use crate::first_word::{OpWord, op_word};
 use crate::head_words::from_below;
@@ -179,7 +176,7 @@ fn freeze(words: &mut Words<'_>) -> Option<Op>
 /// The set of the numbers that this word says and those behind it: they are from 0 to 255, and each
 /// is above the one before it.
 fn cpu_set(first: &[u8], words: &mut Words<'_>) -> Option<CpuSet>
-    ensures { result ≡ option_map (λ cpus. set_of cpus) (rising_from 0 MAX_CPU_SET_OF (first.now ∷ words.old)) }
+    ensures { result ≡ set_said (first.now ∷ words.old) }
 {
     let mut set = CpuSet::none();
     let mut low = 0;

@@ -1,9 +1,8 @@
 //! The whole of a journal's text.
 
 ghost use Rattle.std.specs.Prelude.{◌≡◌, IfOk, IfSome, IfErr};
-ghost use Rattle.hp_model.specs.Summary.{summary as summary_text};
-ghost use Rattle.hp_replay.specs.Judged.{accepted};
-ghost use Rattle.hp_replay.specs.Verdict.{IsReplay, IsRefusal};
+ghost use Rattle.hp_replay.specs.Verdict.{IsRefusal};
+ghost use Rattle.hp_replay.specs.Stories.{IsAccepted, summary_of};
 
 use crate::error::{ReplayError, ReplayKind};
 use crate::events::read_events;
@@ -30,7 +29,7 @@ use std::alloc::Global;
 /// journals is this project's own.
 pub fn check(alloc: Global, bytes: &[u8]) -> Result<Journal, ReplayError>
     // The bytes are the text of this lawful journal, or its text and its summary.
-    ensures journal { IfOk result (λ j. IsReplay bytes.now (accepted j.head j.events)) }
+    ensures journal { IfOk result (λ j. IsAccepted bytes.now j) }
     ensures promised { IfOk result (λ j. j.promised ≡ 0) }
     // They are none, and this is the first line that can't stand, or that is missing.
     ensures refused { IfErr result (IsRefusal bytes.now) }
@@ -44,9 +43,9 @@ pub fn check(alloc: Global, bytes: &[u8]) -> Result<Journal, ReplayError>
 /// It refuses what `check` refuses, and as `check` does. The summary is that of the input, where it has
 /// one, and is printed where it has none. Takes memory for it in either case.
 pub fn check_and_summarize(alloc: Global, bytes: &[u8]) -> Result<(Journal, Vec<u8>), ReplayError>
-    ensures journal { IfOk result (λ r. IsReplay bytes.now (accepted r.0.head r.0.events)) }
+    ensures journal { IfOk result (λ r. IsAccepted bytes.now r.0) }
     ensures promised { IfOk result (λ r. r.0.promised ≡ 0) }
-    ensures summary { IfOk result (λ r. r.1.items ≡ summary_text r.0.head r.0.events) }
+    ensures summary { IfOk result (λ r. r.1.items ≡ summary_of r.0) }
     ensures refused { IfErr result (IsRefusal bytes.now) }
 {
     let (journal, text) = read(alloc, bytes)?;
@@ -59,9 +58,9 @@ pub fn check_and_summarize(alloc: Global, bytes: &[u8]) -> Result<(Journal, Vec<
 
 /// The journal whose text an input is, and its summary where the input has one.
 fn read(alloc: Global, bytes: &[u8]) -> Result<(Journal, Option<Vec<u8>>), ReplayError>
-    ensures journal { IfOk result (λ r. IsReplay bytes.now (accepted r.0.head r.0.events)) }
+    ensures journal { IfOk result (λ r. IsAccepted bytes.now r.0) }
     ensures promised { IfOk result (λ r. r.0.promised ≡ 0) }
-    ensures text { IfOk result (λ r. IfSome r.1 (λ text. text.items ≡ summary_text r.0.head r.0.events)) }
+    ensures text { IfOk result (λ r. IfSome r.1 (λ text. text.items ≡ summary_of r.0)) }
     ensures refused { IfErr result (IsRefusal bytes.now) }
 {
     if bytes.len() > MAX_JOURNAL_BYTES as usize {

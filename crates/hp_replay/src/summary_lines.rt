@@ -1,13 +1,8 @@
 //! The lines behind the `end` line: none, or those of the journal's summary.
 
-ghost use Rattle.std.specs.Prelude.{◌≡◌, List, OnOk, IfOk, IfSome, IfErr};
-ghost use Rattle.hp_event.specs.declared.head.Head.{Head as AHead};
-ghost use Rattle.hp_event.specs.declared.event.Event.{Event as AnEvent};
-ghost use Rattle.hp_model.specs.Summary.{summary as summary_text};
-ghost use Rattle.hp_replay.specs.InputLines.{lines_of};
-ghost use Rattle.hp_replay.specs.Stages.{whole, among_summary};
-ghost use Rattle.hp_replay.specs.Judged.{accepted, Judged};
+ghost use Rattle.std.specs.Prelude.{◌≡◌, OnOk, IfOk, IfSome, IfErr};
 ghost use Rattle.hp_replay.specs.Reading.{RefusedFrom};
+ghost use Rattle.hp_replay.specs.Stories.{AcceptsAsSummary, RefusesAsSummary, AcceptsRest, text_stage, summary_of};
 
 use crate::error::{ReplayError, ReplayKind};
 use crate::line::{Lines, line_end};
@@ -17,11 +12,8 @@ use std::alloc::Global;
 
 /// Compares the lines that are left with those of a summary, of whichever journal it is.
 fn compare(text: &[u8], lines: &mut Lines<'_>) -> Result<(), ReplayError>
-    ensures same { OnOk result ((head : AHead) (events : List AnEvent) →
-        Judged (among_summary head events (lines_of text.now)) lines.old.number lines.old.lines
-        (accepted head events)) }
-    ensures bad { IfErr result (λ e. (head : AHead) (events : List AnEvent) →
-        RefusedFrom (among_summary head events (lines_of text.now)) lines.old e) }
+    ensures same { OnOk result (AcceptsAsSummary text.now lines.old) }
+    ensures bad { IfErr result (λ e. RefusesAsSummary text.now lines.old e) }
 {
     let mut rest = text;
     while !rest.is_empty() {
@@ -45,12 +37,9 @@ pub fn read_summary(
     journal: &Journal,
     lines: &mut Lines<'_>,
 ) -> Result<Option<Vec<u8>>, ReplayError>
-    ensures ok { OnOk result
-        (Judged (whole journal.now.head journal.now.events) lines.old.number lines.old.lines
-        (accepted journal.now.head journal.now.events)) }
-    ensures text { IfOk result (λ found.
-        IfSome found (λ text. text.items ≡ summary_text journal.now.head journal.now.events)) }
-    ensures bad { IfErr result (RefusedFrom (whole journal.now.head journal.now.events) lines.old) }
+    ensures ok { OnOk result (AcceptsRest lines.old journal.now) }
+    ensures text { IfOk result (λ found. IfSome found (λ text. text.items ≡ summary_of journal.now)) }
+    ensures bad { IfErr result (RefusedFrom (text_stage journal.now) lines.old) }
 {
     if lines.is_done() {
         return Ok(None);

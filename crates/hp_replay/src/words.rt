@@ -1,9 +1,8 @@
 //! The words of a line, one after another.
 
-ghost use Rattle.std.specs.Prelude.{◌≡◌, ◌==◌, ◌∷◌, ℕ, List, false, IsTrue, IsSome, IfSome, Some, codes, option_map};
-ghost use Rattle.std.specs.List.{slice_split};
+ghost use Rattle.std.specs.Prelude.{◌≡◌, ◌∷◌, ℕ, List, false, IsTrue, IsSome, IfSome, Some, codes, option_map};
 ghost use Rattle.hp_model.specs.Lists.{is_empty};
-ghost use Rattle.hp_replay.specs.WordsLeft.{first_of, others_of, first_says};
+ghost use Rattle.hp_replay.specs.WordsLeft.{first_of, others_of, first_says, pieces};
 ghost use Rattle.hp_replay.specs.Numbers.{number as number_at};
 ghost use Rattle.hp_replay.specs.Readers.{done as done_at};
 
@@ -31,9 +30,8 @@ impl<'a> Model for Words<'a> {
 /// The number that the first word of a text says, and what stands behind the space that ends it, where
 /// that word is one digit. Most numbers are.
 fn behind_digit(text: &[u8]) -> Option<(u32, &[u8])>
-    ensures said { IfSome result (λ r. Some r.0 ≡ first_says number_at (slice_split (λ b. b == 32) text.now)) }
-    ensures rest { IfSome result (λ r.
-        slice_split (λ b. b == 32) r.1.now ≡ others_of (slice_split (λ b. b == 32) text.now)) }
+    ensures said { IfSome result (λ r. Some r.0 ≡ first_says number_at (pieces text.now)) }
+    ensures rest { IfSome result (λ r. pieces r.1.now ≡ others_of (pieces text.now)) }
 {
     match text {
         [digit, b' ', others @ ..] if digit.is_ascii_digit() => {
@@ -45,8 +43,7 @@ fn behind_digit(text: &[u8]) -> Option<(u32, &[u8])>
 
 /// What stands behind the first word of a text and the space that ends it, where that word is `call`.
 fn behind_call(text: &[u8]) -> Option<&[u8]>
-    ensures { IfSome result (λ others.
-        slice_split (λ b. b == 32) text.now ≡ codes "call" ∷ slice_split (λ b. b == 32) others.now) }
+    ensures { IfSome result (λ others. pieces text.now ≡ codes "call" ∷ pieces others.now) }
 {
     match text.split_first_chunk() {
         Some((b"call ", others)) => Some(others),
@@ -57,7 +54,7 @@ fn behind_call(text: &[u8]) -> Option<&[u8]>
 impl<'a> Words<'a> {
     /// The pieces between the spaces of a text.
     pub fn of(text: &'a [u8]) -> Words<'a>
-        ensures { result ≡ slice_split (λ b. b == 32) text.now }
+        ensures { result ≡ pieces text.now }
     {
         Words { left: Some(text) }
     }

@@ -1,5 +1,5 @@
 -- The processors of an upmany read one by one: the set so far is that of the numbers in front of those that are left, and these decide.
-use Rattle.std.proofs.Common.{◌≡◌, ℕ, ◌+◌, ◌≤◌, true, false, cond, leb, List, [], ◌∷◌, ◌++◌, Option, Some, None, Ok, Err, refl, sym, ap, ◌∙◌, append_assoc, arith}
+use Rattle.std.proofs.Common.{◌≡◌, ℕ, ◌+◌, ◌≤◌, true, false, cond, leb, List, [], ◌∷◌, ◌++◌, Option, Some, Ok, Err, refl, sym, ap, ◌∙◌, append_assoc, arith}
 use Rattle.std.specs.Prelude.{Result}
 use Rattle.std.proofs.lemmas.Bool.{leb-true, and_parts}
 use Rattle.std.proofs.lemmas.List.{append-nil}
@@ -29,10 +29,6 @@ first_word w ws (x ∷ xs) h = go (some_is h)
 
     go : ◌≡◌ {A = List ℕ × List (List ℕ)} (w, ws) (x, xs) → x ∷ xs ≡ w ∷ ws
     go e = ap (λ p. p.0 ∷ p.1) (sym e)
-
-pub no_word : (all : List (List ℕ)) → None ≡ next all → all ≡ []
-no_word [] h = refl
-no_word (x ∷ xs) h = absurd cc
 
 pub at_start : (set : CpuSet) (all : List ℕ) → IsSet set → ((c : ℕ) → has set c ≡ false) → SoFar set 0 all all
 at_start set all is none = record {

@@ -5,6 +5,7 @@ use Rattle.std.proofs.lemmas.Bool.{leb-true, leb-false}
 use Rattle.std.proofs.lemmas.Bool.Decides.{nat_tests}
 use Rattle.std.proofs.lemmas.List.{append-nil}
 use Rattle.std.proofs.lemmas.List.Elements.{All-nil, All-cons}
+use Rattle.hp_states.proofs.Basics.{and_parts}
 use Rattle.hp_states.specs.declared.limits.TheConstants.{MAX_SUBS, MAX_SCRIPT_BYTES}
 use Rattle.hp_event.specs.declared.op.Op.{Op}
 use Rattle.hp_event.specs.declared.op.Op.TheVariants as op
@@ -34,7 +35,7 @@ use Rattle.hp_script.specs.Drafts.{contents_maybe, Fits}
 use Rattle.hp_script.specs.Judged.{AreFine, IsRead, too_long, at_line, at_end}
 use Rattle.hp_script.specs.Playable.{IsPlayable}
 use Rattle.hp_script.proofs.ReadLoop.{contents_more, fits_more}
-use Rattle.hp_script.proofs.TakenLines.{taken, both}
+use Rattle.hp_script.proofs.TakenLines.{taken}
 use Rattle.hp_script.proofs.Rises.{rises}
 use Rattle.hp_script.proofs.SoundScripts.{SoundHead, SoundActors, IsSoundOp, AreLocked, first_unlocked, others_locked, at_least, head_more, actors_more}
 
@@ -187,7 +188,7 @@ some_at (x ∷ xs) (suc n) within = some_at xs n (omega (arith, within))
 
 has_its_sub : (head : Head) (subs : ℕ) (op : Op) → length head.subs ≡ subs → IsSoundOp subs op → names_sub head op ≡ true
 has_its_sub head subs (op.Setup state zero form) count sound =
-    absurd (omega (arith, at_least 1 MAX_SUBS 0 (both (is_within 0 MAX_NAMED_STATE state) (is_within 1 MAX_SUBS 0) sound.0).1))
+    absurd (omega (arith, at_least 1 MAX_SUBS 0 (and_parts (is_within 0 MAX_NAMED_STATE state) (is_within 1 MAX_SUBS 0) sound.0).1))
 has_its_sub head subs (op.Setup state (suc n) form) count sound = some_at head.subs n (grind (arith, nat_tests, count, sound.1))
 has_its_sub head subs (op.UpMany set) count sound = sound.0
 has_its_sub head subs other count sound = refl

@@ -5,6 +5,7 @@ use Rattle.std.proofs.lemmas.Bool.{leb-true, leb-false}
 use Rattle.std.proofs.lemmas.Bool.Decides.{nat_tests}
 use Rattle.std.proofs.lemmas.List.Elements.{All-nil, All-cons, All-head, All-tail, All-append}
 use Rattle.std.proofs.lemmas.List.Sums.{fold-append, sum_by-append}
+use Rattle.hp_states.proofs.Basics.{and_parts}
 use Rattle.hp_states.specs.declared.limits.TheConstants.{MAX_CPUS, MAX_SUBS, MAX_RULES, MAX_RULE_CPU, MAX_INSTANCE, MAX_EVENTS, MAX_CODE, MAX_OPERATIONS}
 use Rattle.hp_states.specs.declared.plan.Rule.{Rule}
 use Rattle.hp_event.specs.declared.op.Op.{Op}
@@ -24,7 +25,7 @@ use Rattle.hp_script.specs.Script.{Contents}
 use Rattle.hp_script.specs.Drafts.{contents_and, with_last, one_rule_more, one_op_more, last_rules, Fits}
 use Rattle.hp_script.specs.Playable.{setups_in}
 use Rattle.hp_script.proofs.Lasts.{as_many}
-use Rattle.hp_script.proofs.TakenLines.{Taken, both}
+use Rattle.hp_script.proofs.TakenLines.{Taken}
 
 -- ---- the head
 
@@ -40,10 +41,10 @@ pub record SoundHead (s : Contents) (b : Before) : Type 0 where
   pub schedule : is_schedule s.schedule ≡ true
 
 pub at_least : (low high n : ℕ) → is_within low high n ≡ true → low ≤ n
-at_least low high n e = leb-true low n (both _ _ e).0
+at_least low high n e = leb-true low n (and_parts _ _ e).0
 
 pub at_most : (low high n : ℕ) → is_within low high n ≡ true → n ≤ high
-at_most low high n e = leb-true n high (both _ _ e).1
+at_most low high n e = leb-true n high (and_parts _ _ e).1
 
 any_least : (low high : ℕ) (o : Option ℕ) → is_any_within low high o ≡ true → IfSome o (λ n. low ≤ n)
 any_least low high None e = tt
@@ -55,9 +56,9 @@ any_most low high (Some n) e = at_most low high n e
 
 rule_fits : (rule : Rule) → is_rule rule ≡ true → IsRule rule
 rule_fits rule e =
-    let code = both (is_any_within 0 MAX_RULE_CPU rule.cpu && is_any_within 0 MAX_INSTANCE rule.inst && is_any_within 1 MAX_EVENTS rule.nth) (is_within 1 MAX_CODE rule.code) e in
-    let nth = both (is_any_within 0 MAX_RULE_CPU rule.cpu && is_any_within 0 MAX_INSTANCE rule.inst) (is_any_within 1 MAX_EVENTS rule.nth) code.0 in
-    let first = both (is_any_within 0 MAX_RULE_CPU rule.cpu) (is_any_within 0 MAX_INSTANCE rule.inst) nth.0 in
+    let code = and_parts (is_any_within 0 MAX_RULE_CPU rule.cpu && is_any_within 0 MAX_INSTANCE rule.inst && is_any_within 1 MAX_EVENTS rule.nth) (is_within 1 MAX_CODE rule.code) e in
+    let nth = and_parts (is_any_within 0 MAX_RULE_CPU rule.cpu && is_any_within 0 MAX_INSTANCE rule.inst) (is_any_within 1 MAX_EVENTS rule.nth) code.0 in
+    let first = and_parts (is_any_within 0 MAX_RULE_CPU rule.cpu) (is_any_within 0 MAX_INSTANCE rule.inst) nth.0 in
     record {
       cpu_fits = any_most 0 MAX_RULE_CPU rule.cpu first.0;
       inst_fits = any_most 0 MAX_INSTANCE rule.inst first.1;

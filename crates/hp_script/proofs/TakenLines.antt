@@ -4,6 +4,7 @@ use Rattle.std.specs.Prelude.{option_map, codes, nat_le}
 use Rattle.std.specs.List.{list_all}
 use Rattle.std.proofs.lemmas.Bool.{leb-true}
 use Rattle.std.proofs.lemmas.List.Sums.{AllPass-from_list_all}
+use Rattle.hp_states.proofs.Basics.{and_parts, not_false}
 use Rattle.hp_states.specs.declared.limits.TheConstants.{MAX_NAME_LEN}
 use Rattle.hp_states.specs.Names.{is_name_byte, IsName}
 use Rattle.hp_event.specs.declared.head.Sub.{Sub}
@@ -44,14 +45,6 @@ pub record Taken (hooks : ℕ) (b : Before) (s : Statement) : Type 0 where
   pub sub : names_no_sub b.subs s ≡ false
   pub room : is_too_many hooks b s ≡ false
 
-pub both : (a b : Bool) → (a && b) ≡ true → (a ≡ true) × (b ≡ true)
-both true b e = (refl, e)
-both false b e = absurd cc
-
-pub from_not : (a : Bool) → not a ≡ false → a ≡ true
-from_not true e = refl
-from_not false e = absurd cc
-
 and_yes : (a : Bool) → (a && true) ≡ false → a ≡ false
 and_yes true e = absurd cc
 and_yes false e = refl
@@ -71,10 +64,10 @@ spelled : (word : List ℕ) → is_name_word word ≡ true → IsName (name_spel
 spelled word e = by_dash (is_byte 45 word) refl
   where
     parts : ((nat_le 1 (length word) && nat_le (length word) MAX_NAME_LEN) ≡ true) × (list_all is_name_byte word ≡ true)
-    parts = both (nat_le 1 (length word) && nat_le (length word) MAX_NAME_LEN) (list_all is_name_byte word) e
+    parts = and_parts (nat_le 1 (length word) && nat_le (length word) MAX_NAME_LEN) (list_all is_name_byte word) e
 
     few : length word ≤ MAX_NAME_LEN
-    few = leb-true (length word) MAX_NAME_LEN (both (nat_le 1 (length word)) (nat_le (length word) MAX_NAME_LEN) parts.0).1
+    few = leb-true (length word) MAX_NAME_LEN (and_parts (nat_le 1 (length word)) (nat_le (length word) MAX_NAME_LEN) parts.0).1
 
     all : list_all is_name_byte word ≡ true
     all = parts.1
@@ -140,7 +133,7 @@ none_holds (row ∷ rows) e = by_test row.0 refl e (λ h. none_holds rows h)
     by_test false is e more = (is, more e)
 
 first_is : (g : Group) (v : Verb) → (is_first g && not (is_cpus (Some v))) ≡ false → not (can_stand g v) ≡ false → is_first g ≡ is_cpus (Some v)
-first_is g verb.Cpus cpus stands = from_not (is_first g) stands
+first_is g verb.Cpus cpus stands = not_false (is_first g) stands
 first_is g other cpus stands = and_yes (is_first g) cpus
 
 taken_verb : (hooks : ℕ) (b : Before) (v : Option Verb) (rest : List (List ℕ)) (s : Statement)
@@ -153,7 +146,7 @@ taken_verb hooks b (Some v) rest s fine said =
       first = first_is b.group v all.0 all.1.1.0 ∙ f.cpus;
       unlocked = ap (λ (a : Bool). a && b.locked) (sym f.actor) ∙ all.1.1.1.0;
       titled = f.titled;
-      range = from_not (is_in_range b.possible s) all.1.1.1.1.1.0;
+      range = not_false (is_in_range b.possible s) all.1.1.1.1.1.0;
       sub = all.1.1.1.1.1.1.0;
       room = all.1.1.1.1.1.1.1.0;
     }

@@ -1,5 +1,5 @@
 -- A script as it grows, one statement at a time. This project's own.
-use Rattle.std.specs.Prelude.{ℕ, ◌<◌, ◌≤◌, Option, Some, None, List, [], ◌∷◌, ◌++◌, length, map, vec_items}
+use Rattle.std.specs.Prelude.{ℕ, ◌<◌, ◌≤◌, Option, Some, None, List, [], ◌∷◌, ◌++◌, length, map, Vec, vec_items}
 use Rattle.hp_states.specs.declared.limits.TheConstants.{MAX_RULES, MAX_ACTORS}
 use Rattle.hp_states.specs.declared.plan.Rule.{Rule}
 use Rattle.hp_event.specs.declared.op.Op.{Op}
@@ -10,10 +10,14 @@ use Rattle.hp_script.specs.declared.statement.Statement.{Statement}
 use Rattle.hp_script.specs.declared.statement.Statement.TheVariants as says
 use Rattle.hp_script.specs.Script.{Contents, cpus_or, absent_or, schedule_or}
 
+-- the operations of each actor
+abbrev pub ops_of : {A B : Type 0} → Vec (Vec Op A) B → List (List Op)
+ops_of actors = map vec_items actors.items
+
 abbrev pub contents_of : Draft → Contents
 contents_of d = record {
   head = record { possible = d.possible; absent = d.absent; subs = d.subs.items };
-  actors = map vec_items d.actors.items;
+  actors = ops_of d.actors;
   schedule = d.schedule;
 }
 

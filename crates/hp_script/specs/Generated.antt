@@ -1,6 +1,6 @@
 -- The script that is generated of a seed and a size: twelve subsystems, a schedule of ten thousand drawn turns, and
 -- six actors on eight processors. Its numbers are drawn from the seed, in the order of the lines. This project's own.
-use Rattle.std.specs.Prelude.{ℕ, zero, suc, ◌+◌, ◌%◌, ◌==◌, nat_lt, false, if◌then◌else◌, List, [], ◌∷◌, ◌++◌, map, codes, decimal}
+use Rattle.std.specs.Prelude.{◌≡◌, ℕ, zero, suc, ◌+◌, ◌%◌, ◌==◌, nat_lt, false, if◌then◌else◌, List, Vec, [], ◌∷◌, ◌++◌, map, codes, decimal}
 use Rattle.std.specs.List.{flat_map}
 use Rattle.hp_event.specs.declared.op.Form.{Form}
 use Rattle.hp_event.specs.declared.op.Op.{Op}
@@ -28,6 +28,10 @@ second_draw m x = draw_of m (state_behind 2 x)
 -- the state with instances at this place of three
 abbrev pub instanced_state : (place : ℕ) → ℕ
 instanced_state place = if place == 0 then 42 else (if place == 1 then 120 else 180)
+
+-- a state with instances, and an instance, drawn from a state on
+abbrev pub instance_drawn : (state : ℕ) → ℕ × ℕ
+instance_drawn x = (instanced_state (first_draw 3 x), 1 + second_draw 4 x)
 
 -- by a draw below 8, and by those that follow it from a state on
 abbrev pub drawn_by : (draw state : ℕ) → Drawn
@@ -74,6 +78,20 @@ ops_drawn drawn.Section = op.Lock ∷ op.Unlock ∷ []
 ops_drawn (drawn.Add state inst) = op.Add state inst plain ∷ []
 ops_drawn (drawn.Del state inst) = op.Del state inst plain ∷ []
 ops_drawn (drawn.Show cpu) = op.ShowState cpu ∷ []
+
+-- ---- lines as bytes
+
+-- a line of which the last word ends with a number
+abbrev pub numbered_line : (front : List ℕ) (number : ℕ) → List ℕ
+numbered_line front number = front ++ (decimal number ++ 10 ∷ [])
+
+-- a line of a word, a state and an instance
+abbrev pub instance_line : (front : List ℕ) (state inst : ℕ) → List ℕ
+instance_line front state inst = front ++ (decimal state ++ 32 ∷ (decimal inst ++ 10 ∷ []))
+
+-- the buffer has these lines behind what it had
+abbrev pub AppendsLines : {A : Type 0} → (old new : Vec ℕ A) → (lines : List (List (List ℕ))) → Type 0
+AppendsLines old new lines = new.items ≡ old.items ++ flat_map line lines
 
 -- ---- the lines, each as its words
 

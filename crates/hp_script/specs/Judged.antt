@@ -41,9 +41,18 @@ pub data IsRefused : (hooks : ℕ) (bytes : List ℕ) (number : ℕ) (kind : Scr
   at_end : (hooks : ℕ) (bytes : List ℕ) (number : ℕ) (kind : ScriptKind)
       → length bytes ≤ MAX_SCRIPT_BYTES → IsBadEnd hooks (lines bytes) number kind → IsRefused hooks bytes number kind
 
+-- at most one line of the bytes is refused, and for one kind
+abbrev pub IsRefusedOnce : (hooks : ℕ) (bytes : List ℕ) → Type 0
+IsRefusedOnce hooks bytes =
+    (n m : ℕ) (k j : ScriptKind) → IsRefused hooks bytes n k → IsRefused hooks bytes m j → (n ≡ m) × (k ≡ j)
+
+-- no line of the bytes is refused, nor their end
+abbrev pub IsUnrefused : (hooks : ℕ) (bytes : List ℕ) → Type 0
+IsUnrefused hooks bytes = (number : ℕ) (kind : ScriptKind) → IsRefused hooks bytes number kind → ⊥
+
 -- no refusal holds of the bytes, and the script is the one that their lines say
 pub record IsRead (hooks : ℕ) (bytes : List ℕ) (script : Contents) : Type 0 where
-  pub unrefused : (number : ℕ) (kind : ScriptKind) → IsRefused hooks bytes number kind → ⊥
+  pub unrefused : IsUnrefused hooks bytes
   pub says : script ≡ script_in (statements (lines bytes))
 
 -- want of memory says nothing of the bytes

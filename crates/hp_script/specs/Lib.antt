@@ -14,3 +14,4 @@ pub mod LineAnswers
 pub mod Judged
 pub mod Texts
 pub mod Generated
+pub mod GeneratedJudged

@@ -1,5 +1,6 @@
 -- What a reader of the code answers, beside what reading gives. This project's own.
 use Rattle.std.specs.Prelude.{◌≡◌, ℕ, Bool, false, not, ◌&&◌, List, [], ◌∷◌, Option, Some, None, Result, Ok, Err}
+use Rattle.hp_event.specs.declared.op.Op.{Op}
 use Rattle.hp_script.specs.declared.error.ScriptKind.{ScriptKind}
 use Rattle.hp_script.specs.declared.error.ScriptKind.TheVariants.{NoCpus, BadWord, BadOrder, StillLocked, NoSub, TooMany}
 use Rattle.hp_script.specs.declared.error.ParseError.{ParseError}
@@ -11,6 +12,7 @@ use Rattle.hp_script.specs.declared.stop.Stop.{Stop}
 use Rattle.hp_script.specs.declared.stop.Stop.TheVariants.{Bad, NoMemory}
 use Rattle.hp_script.specs.Refusals.{is_first, is_cpus, is_unknown, stands, is_actor, first_of, names_no_sub, is_too_many, refusal_of_words, refusal}
 use Rattle.hp_script.specs.Statements.{statement_in}
+use Rattle.hp_script.specs.Ranges.{by_range, is_op, is_in_range}
 use Rattle.hp_script.specs.Before.{statement_of, after_line}
 use Rattle.hp_script.specs.declared.draft.Draft.{Draft}
 use Rattle.hp_script.specs.Drafts.{contents_of, contents_maybe, Fits}
@@ -20,6 +22,14 @@ abbrev pub Gives : {A : Type 0} → Result A Stop → Result A ScriptKind → Ty
 Gives (Ok a) read = read ≡ Ok a
 Gives (Err (Bad kind)) read = read ≡ Err kind
 Gives (Err NoMemory) read = Unit {0}
+
+-- the answer is the operation that is said, where its numbers are in their ranges
+abbrev pub GivesOp : Result Op ScriptKind → (said : Option Op) → Type 0
+GivesOp answer said = answer ≡ by_range is_op said
+
+-- the answer is the statement that is said, where its numbers are in their ranges, unless memory was wanting
+abbrev pub GivesStatement : (possible : ℕ) → Result Statement Stop → (said : Option Statement) → Type 0
+GivesStatement possible answer said = Gives answer (by_range (is_in_range possible) said)
 
 -- what is wrong with a first word here: the first four conditions of words
 abbrev pub wrongs_of_place : Before → Option Verb → List (Bool × ScriptKind)

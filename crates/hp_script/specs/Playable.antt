@@ -7,6 +7,7 @@ use Rattle.hp_event.specs.Ops.{is_setup}
 use Rattle.hp_model.specs.Scripts.{IsScript}
 use Rattle.hp_script.specs.Ranges.{is_op, is_schedule}
 use Rattle.hp_script.specs.Script.{Contents}
+use Rattle.hp_script.specs.Judged.{IsRead}
 
 -- the hooks that some operations take
 abbrev pub setups_in : List Op → ℕ
@@ -19,3 +20,7 @@ pub record IsPlayable (hooks : ℕ) (script : Contents) : Type 0 where
   pub ops_are : All (All (λ op. is_op op ≡ true)) script.actors
   pub schedule_is : is_schedule script.schedule ≡ true
   pub hooks_for_all : sum_by setups_in script.actors ≤ hooks
+
+-- what is read of the bytes can be played
+abbrev pub PlaysIfRead : (hooks : ℕ) (bytes : List ℕ) → Type 0
+PlaysIfRead hooks bytes = (script : Contents) → IsRead hooks bytes script → IsPlayable hooks script

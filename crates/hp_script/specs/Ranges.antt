@@ -1,12 +1,15 @@
 -- The ranges of the numbers that a line says. This project's own.
-use Rattle.std.specs.Prelude.{ℕ, ◌+◌, ◌-◌, Bool, true, not, ◌&&◌, Result, Ok, Err, Option, Some, None, List, [], ◌∷◌, if◌then◌else◌}
+use Rattle.std.specs.Prelude.{ℕ, ℤ, ◌+◌, ◌-◌, Bool, true, not, ◌&&◌, Result, Ok, Err, Option, Some, None, List, [], ◌∷◌, if◌then◌else◌}
 use Rattle.std.specs.List.{list_all}
 use Rattle.hp_states.specs.declared.limits.TheConstants.{MAX_CPUS, MAX_CPU_SET, MAX_SUBS, MAX_RULE_CPU, MAX_INSTANCE, MAX_EVENTS, MAX_CODE, MAX_SEATS}
 use Rattle.hp_states.specs.declared.plan.Rule.{Rule}
+use Rattle.hp_states.specs.declared.cpu_set.CpuSet.{CpuSet}
+use Rattle.hp_event.specs.declared.op.Form.{Form}
 use Rattle.hp_event.specs.declared.op.Op.{Op}
 use Rattle.hp_event.specs.declared.op.Op.TheVariants as op
 use Rattle.hp_model.specs.Lists.{is_empty}
 use Rattle.hp_model.specs.Listed.{listed}
+use Rattle.hp_model.specs.SetOf.{set_of}
 use Rattle.hp_script.specs.declared.error.ScriptKind.{ScriptKind}
 use Rattle.hp_script.specs.declared.error.ScriptKind.TheVariants.{BadForm, BadNumber}
 use Rattle.hp_script.specs.declared.limits.TheConstants.{MAX_NAMED_CPU, MAX_NAMED_STATE, MAX_MIXED, MAX_SEED, MAX_I32, MIN_I32}
@@ -82,7 +85,23 @@ is_in_range possible (says.Schedule schedule) = is_schedule schedule
 is_in_range possible says.Actor = true
 is_in_range possible (says.Operation op) = is_op op
 
+-- a number up to high, and a signed number from -least to most
+abbrev pub is_pair_within : (high least most : ℕ) → ℕ × ℤ → Bool
+is_pair_within high least most = λ x. is_within 0 high x.0 && is_signed_within least most x.1
+
+-- a number up to top, a number from low to high, and flags
+abbrev pub is_place_within : (top low high : ℕ) → ℕ × ℕ × Form → Bool
+is_place_within top low high = λ x. is_within 0 top x.0 && is_within low high x.1
+
+-- this, where its numbers are in their ranges
+abbrev pub if_fits : {A : Type 0} (fits : A → Bool) → A → Result A ScriptKind
+if_fits fits a = if fits a then Ok a else Err BadNumber
+
+-- the set of these processors, where they are in their range
+abbrev pub set_if_fits : (cpus : List ℕ) → Result CpuSet ScriptKind
+set_if_fits cpus = if are_cpus cpus then Ok (set_of cpus) else Err BadNumber
+
 -- what is said, where its numbers are in their ranges
 abbrev pub by_range : {A : Type 0} (fits : A → Bool) → Option A → Result A ScriptKind
 by_range fits None = Err BadForm
-by_range fits (Some a) = if fits a then Ok a else Err BadNumber
+by_range fits (Some a) = if_fits fits a

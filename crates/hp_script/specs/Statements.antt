@@ -217,6 +217,10 @@ place_of words = do
 unfoldable pub set_named : (cpus : List ℕ) → CpuSet
 set_named cpus = if are_cpus cpus then set_of cpus else set_of []
 
+-- an upmany of the processors that are named
+abbrev pub upmany_of : (words : List (List ℕ)) → Option Op
+upmany_of words = option_map (λ cpus. op.UpMany (set_named cpus)) (numbers_of words)
+
 -- ---- the table
 
 unfoldable pub op_of : Verb → (words : List (List ℕ)) → Option Op
@@ -243,7 +247,11 @@ op_of verb.Enable words = none_of op.Enable words
 op_of verb.Freeze words = option_map (λ n. op.Freeze n) (signed_of words)
 op_of verb.Thaw words = none_of op.Thaw words
 op_of verb.Wakeup words = none_of op.Wakeup words
-op_of verb.UpMany words = option_map (λ cpus. op.UpMany (set_named cpus)) (numbers_of words)
+op_of verb.UpMany words = upmany_of words
+
+-- an operation of this first word, as a statement
+abbrev pub operation_by : Verb → (words : List (List ℕ)) → Option Statement
+operation_by verb words = option_map (λ o. says.Operation o) (op_of verb words)
 
 -- what a line of this first word says
 abbrev pub statement_by : Verb → (words : List (List ℕ)) → Option Statement
@@ -253,7 +261,7 @@ statement_by verb.Sub words = option_map (λ s. says.Sub s) (sub_of words)
 statement_by verb.Rule words = option_map (λ r. says.Rule r) (rule_of words)
 statement_by verb.Schedule words = option_map (λ s. says.Schedule s) (schedule_of words)
 statement_by verb.Actor words = option_map (λ _. says.Actor) (actor_of words)
-statement_by other words = option_map (λ o. says.Operation o) (op_of other words)
+statement_by other words = operation_by other words
 
 -- what the words of a line say
 abbrev pub statement_in : (words : List (List ℕ)) → Option Statement

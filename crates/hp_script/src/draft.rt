@@ -1,10 +1,10 @@
 //! A script as it grows.
 
-ghost use Rattle.std.specs.Prelude.{◌≡◌, ◌<◌, ◌≤◌, [], map, vec_items, vec_len, OnOk};
+ghost use Rattle.std.specs.Prelude.{◌≡◌, ◌<◌, ◌≤◌, [], vec_len, OnOk};
 ghost use Rattle.hp_states.specs.declared.limits.TheConstants.{MAX_RULES, MAX_ACTORS};
 ghost use Rattle.hp_script.specs.declared.statement.Statement.TheVariants as says;
 ghost use Rattle.hp_script.specs.Script.{script_in};
-ghost use Rattle.hp_script.specs.Drafts.{contents_of, contents_and, with_last, one_rule_more, one_op_more, last_rules, HasPlace, subs_and, actors_and};
+ghost use Rattle.hp_script.specs.Drafts.{contents_of, contents_and, with_last, one_rule_more, one_op_more, last_rules, HasPlace, subs_and, actors_and, ops_of};
 
 use crate::schedule::Schedule;
 use crate::script::Script;
@@ -54,16 +54,14 @@ fn add_rule(subs: &mut Vec<Sub>, rule: Rule)
 }
 
 fn add_actor(alloc: Global, actors: &mut Vec<Vec<Op>>) -> Result<(), NoMemory>
-    ensures { OnOk result (map vec_items actors.new.items
-        ≡ actors_and (map vec_items actors.old.items) says.Actor) }
+    ensures { OnOk result (ops_of actors.new ≡ actors_and (ops_of actors.old) says.Actor) }
 {
     actors.push(Vec::new(alloc))?;
     Ok(())
 }
 
 fn add_op(actors: &mut Vec<Vec<Op>>, op: Op) -> Result<(), NoMemory>
-    ensures { OnOk result (map vec_items actors.new.items
-        ≡ with_last (one_op_more op) (map vec_items actors.old.items)) }
+    ensures { OnOk result (ops_of actors.new ≡ with_last (one_op_more op) (ops_of actors.old)) }
 {
     if let Some(ops) = actors.last_mut() {
         ops.push(op)?;

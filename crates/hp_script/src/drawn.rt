@@ -1,7 +1,7 @@
 //! What is drawn for an actor of a generated script.
 
-ghost use Rattle.std.specs.Prelude.{◌≡◌, ◌+◌};
-ghost use Rattle.hp_script.specs.Generated.{first_draw, second_draw, instanced_state, one_drawn, state_behind_one, drawn_by, state_behind, draws_behind};
+ghost use Rattle.std.specs.Prelude.{◌≡◌};
+ghost use Rattle.hp_script.specs.Generated.{instanced_state, one_drawn, state_behind_one, drawn_by, state_behind, draws_behind, instance_drawn};
 
 use crate::draws::Draws;
 
@@ -30,8 +30,7 @@ fn instanced_state(place: u32) -> u32
 /// A state with instances, and an instance.
 fn draw_instance(draws: &mut Draws) -> (u32, u32)
     ensures state { draws.new.state ≡ state_behind 2 draws.old.state }
-    ensures drawn { result
-        ≡ (instanced_state (first_draw 3 draws.old.state), 1 + second_draw 4 draws.old.state) }
+    ensures drawn { result ≡ instance_drawn draws.old.state }
 {
     let state = instanced_state(draws.draw(3));
     let inst = 1 + draws.draw(4);

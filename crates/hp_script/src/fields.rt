@@ -3,12 +3,11 @@
 //! Each answers what the words say, `BadForm` where they are not of the form, and else `BadNumber`
 //! where a number is out of its range.
 
-ghost use Rattle.std.specs.Prelude.{◌≡◌, ◌≤◌, ◌<◌, ◌&&◌, ◌^◌, true, if◌then◌else◌, Ok, Err};
+ghost use Rattle.std.specs.Prelude.{◌≡◌, ◌≤◌, ◌<◌, ◌^◌, true};
 ghost use Rattle.hp_script.specs.Words.{words};
 ghost use Rattle.hp_script.specs.Numbers.{is_within, is_signed_within};
 ghost use Rattle.hp_script.specs.Statements.{dir_of, calls_of, kind_of, flag_of, both_flags, some_flags, flags_of, is_any, any_value, number_of, pair_of, signed_of, flagged_of, place_of, form, none_of};
-ghost use Rattle.hp_script.specs.declared.error.ScriptKind.TheVariants.{BadNumber};
-ghost use Rattle.hp_script.specs.Ranges.{by_range, is_any_within};
+ghost use Rattle.hp_script.specs.Ranges.{by_range, is_any_within, if_fits, is_pair_within, is_place_within};
 
 use crate::error::ScriptKind;
 use crate::numbers::{is_number, is_signed, is_star, signed_within, small_within};
@@ -123,9 +122,7 @@ pub fn is_any(word: &[u8]) -> bool
 
 /// A number in this range, or none for the star.
 pub fn any_within(low: u32, high: u32, word: &[u8]) -> Result<Option<u32>, ScriptKind>
-    ensures { result
-        ≡ (if is_any_within low high (any_value word.now)
-        then Ok (any_value word.now) else Err BadNumber) }
+    ensures { result ≡ if_fits (is_any_within low high) (any_value word.now) }
 {
     if is_star(word) {
         return Ok(None);
@@ -181,9 +178,7 @@ pub fn signed(least: u32, most: u32, bytes: &[u8]) -> Result<i32, ScriptKind>
 pub fn pair(high: u32, least: u32, most: u32, bytes: &[u8]) -> Result<(u32, i32), ScriptKind>
     requires least { least ≤ 2 ^ 31 }
     requires most { most < 2 ^ 31 }
-    ensures { result
-        ≡ by_range (λ x. is_within 0 high x.0 && is_signed_within least most x.1)
-        (pair_of (words bytes.now)) }
+    ensures { result ≡ by_range (is_pair_within high least most) (pair_of (words bytes.now)) }
 {
     let Some((first, second)) = two_of(bytes) else {
         return Err(ScriptKind::BadForm);
@@ -217,9 +212,7 @@ pub fn flagged(high: u32, bytes: &[u8]) -> Result<(u32, Form), ScriptKind>
 /// A number up to `top`, a number from `low` to `high`, and flags.
 #[tactic(auto, unfolding(crate::specs::Statements::place_of))]
 pub fn place(top: u32, low: u32, high: u32, bytes: &[u8]) -> Result<(u32, u32, Form), ScriptKind>
-    ensures { result
-        ≡ by_range (λ x. is_within 0 top x.0 && is_within low high x.1)
-        (place_of (words bytes.now)) }
+    ensures { result ≡ by_range (is_place_within top low high) (place_of (words bytes.now)) }
 {
     let Some((first, rest)) = next_word(bytes) else {
         return Err(ScriptKind::BadForm);

@@ -1,14 +1,11 @@
 //! The script that is generated of a seed and a size.
 
-ghost use Rattle.std.specs.Prelude.{ℕ, ◌^◌, ◌≡◌, ◌+◌, ◌≤◌, ◌<◌, ◌++◌, ◌∷◌, [], OnOk, IfOk, codes, decimal, map};
-ghost use Rattle.std.specs.List.{flat_map};
+ghost use Rattle.std.specs.Prelude.{ℕ, ◌≡◌, ◌≤◌, ◌<◌, ◌++◌, OnOk, IfOk, decimal, map};
 ghost use Rattle.hp_model.specs.Words.{line, kind_word};
 ghost use Rattle.hp_model.specs.EventLine.{op_words};
 ghost use Rattle.hp_states.specs.declared.limits.TheConstants.{MAX_GENERATED_SIZE};
-ghost use Rattle.hp_script.specs.Generated.{rule_words, setup_lines, state_behind, state_behind_all, ops_drawn, sub_words, three_subs, heading, schedule_words, actor_words, setup_words, drawn_lines, actors, generated};
-ghost use Rattle.hp_script.specs.Judged.{IsRefused};
-ghost use Rattle.hp_script.specs.declared.error.ScriptKind.{ScriptKind};
-ghost use Rattle.hp_script.specs.declared.error.ScriptKind.TheVariants.{TooMany};
+ghost use Rattle.hp_script.specs.Generated.{rule_words, setup_lines, state_behind, state_behind_all, ops_drawn, sub_words, three_subs, heading, schedule_words, actor_words, setup_words, drawn_lines, actors, generated, numbered_line, instance_line, AppendsLines};
+ghost use Rattle.hp_script.specs.GeneratedJudged.{TakesGenerated, LacksHooks};
 
 use crate::drawn::{Drawn, draw_one};
 use crate::draws::Draws;
@@ -27,8 +24,7 @@ fn append_number(out: &mut Vec<u8>, front: &[u8], number: u64) -> Result<(), All
 
 /// Appends a line of which the last word ends with a number.
 fn append_line(out: &mut Vec<u8>, front: &[u8], number: u32) -> Result<(), AllocError>
-    ensures { OnOk result (out.new.items
-        ≡ out.old.items ++ (front.now ++ (decimal number ++ 10 ∷ []))) }
+    ensures { OnOk result (out.new.items ≡ out.old.items ++ numbered_line front.now number) }
 {
     append_number(out, front, number as u64)?;
     out.extend_from_slice(b"\n")
@@ -36,8 +32,7 @@ fn append_line(out: &mut Vec<u8>, front: &[u8], number: u32) -> Result<(), Alloc
 
 /// Appends a line of a word, a state and an instance.
 fn append_instance(out: &mut Vec<u8>, front: &[u8], state: u32, inst: u32) -> Result<(), AllocError>
-    ensures { OnOk result (out.new.items
-        ≡ out.old.items ++ (front.now ++ (decimal state ++ 32 ∷ (decimal inst ++ 10 ∷ [])))) }
+    ensures { OnOk result (out.new.items ≡ out.old.items ++ instance_line front.now state inst) }
 {
     append_number(out, front, state as u64)?;
     append_line(out, b" ", inst)
@@ -45,8 +40,7 @@ fn append_instance(out: &mut Vec<u8>, front: &[u8], state: u32, inst: u32) -> Re
 
 /// Appends the lines of what is drawn.
 fn append_drawn(out: &mut Vec<u8>, drawn: Drawn) -> Result<(), AllocError>
-    ensures { OnOk result (out.new.items
-        ≡ out.old.items ++ flat_map line (map op_words (ops_drawn drawn))) }
+    ensures { OnOk result (AppendsLines out.old out.new (map op_words (ops_drawn drawn))) }
 {
     match drawn {
         Drawn::Up(cpu) => append_line(out, b"up ", cpu),
@@ -60,8 +54,7 @@ fn append_drawn(out: &mut Vec<u8>, drawn: Drawn) -> Result<(), AllocError>
 
 /// Appends what is drawn of this size.
 fn append_all_drawn(out: &mut Vec<u8>, draws: &mut Draws, size: u32) -> Result<(), AllocError>
-    ensures text { OnOk result (out.new.items
-        ≡ out.old.items ++ flat_map line (drawn_lines size draws.old.state)) }
+    ensures text { OnOk result (AppendsLines out.old out.new (drawn_lines size draws.old.state)) }
     ensures state { OnOk result (draws.new.state ≡ state_behind_all size draws.old.state) }
 {
     for _ in 0..size {
@@ -101,8 +94,7 @@ fn append_rule(out: &mut Vec<u8>, nth: u32) -> Result<(), AllocError>
 #[tactic(auto, unfolding(crate::specs::Generated::three_subs))]
 fn append_three_subs(out: &mut Vec<u8>, draws: &mut Draws, number: u32) -> Result<(), AllocError>
     requires { number < 11 }
-    ensures text { OnOk result (out.new.items
-        ≡ out.old.items ++ flat_map line (three_subs number draws.old.state)) }
+    ensures text { OnOk result (AppendsLines out.old out.new (three_subs number draws.old.state)) }
     ensures state { OnOk result (draws.new.state ≡ state_behind 1 draws.old.state) }
 {
     append_sub(out, number)?;
@@ -125,7 +117,7 @@ fn append_schedule(out: &mut Vec<u8>, seed: u64) -> Result<(), AllocError>
 #[tactic(auto, unfolding(crate::specs::Generated::heading))]
 fn append_heading(out: &mut Vec<u8>, draws: &mut Draws, seed: u64) -> Result<(), AllocError>
     requires { draws.old.state ≡ seed }
-    ensures text { OnOk result (out.new.items ≡ out.old.items ++ flat_map line (heading seed)) }
+    ensures text { OnOk result (AppendsLines out.old out.new (heading seed)) }
     ensures state { OnOk result (draws.new.state ≡ state_behind 4 seed) }
 {
     out.extend_from_slice(b"cpus 8\n")?;
@@ -155,7 +147,7 @@ fn append_setup(out: &mut Vec<u8>, state: u32, sub: u32) -> Result<(), AllocErro
 /// Appends the setups that the first actor begins with.
 #[tactic(auto, unfolding(crate::specs::Generated::setup_lines))]
 fn append_setups(out: &mut Vec<u8>) -> Result<(), AllocError>
-    ensures { OnOk result (out.new.items ≡ out.old.items ++ flat_map line setup_lines) }
+    ensures { OnOk result (AppendsLines out.old out.new setup_lines) }
 {
     append_setup(out, 10, 1)?;
     append_setup(out, 30, 2)?;
@@ -174,8 +166,7 @@ fn append_setups(out: &mut Vec<u8>) -> Result<(), AllocError>
 /// Appends six actors.
 #[tactic(auto, unfolding(crate::specs::Generated::actors))]
 fn append_actors(out: &mut Vec<u8>, draws: &mut Draws, size: u32) -> Result<(), AllocError>
-    ensures { OnOk result (out.new.items
-        ≡ out.old.items ++ flat_map line (actors size draws.old.state)) }
+    ensures { OnOk result (AppendsLines out.old out.new (actors size draws.old.state)) }
 {
     append_actor(out, 1)?;
     append_setups(out)?;
@@ -212,9 +203,7 @@ pub fn generate(alloc: Global, seed: u64, size: u32) -> Result<Vec<u8>, NoMemory
 /// It holds of any seed and each size of at most `MAX_GENERATED_SIZE`. The function does nothing,
 /// and takes no memory.
 pub fn generated_scripts_read()
-    ensures { (hooks seed size : ℕ) → 12 ≤ hooks → seed < 2 ^ 64 → size ≤ MAX_GENERATED_SIZE
-        → (number : ℕ) (kind : ScriptKind)
-        → IsRefused hooks (generated seed size) number kind → ⊥ }
+    ensures { (hooks seed size : ℕ) → 12 ≤ hooks → TakesGenerated hooks seed size }
 {}
 
 /// The law that with fewer than twelve hooks a generated script is refused: at the line of the first
@@ -223,6 +212,5 @@ pub fn generated_scripts_read()
 /// It holds of any seed and each size of at most `MAX_GENERATED_SIZE`. The function does nothing,
 /// and takes no memory.
 pub fn generated_scripts_want_hooks()
-    ensures { (hooks seed size : ℕ) → hooks < 12 → seed < 2 ^ 64 → size ≤ MAX_GENERATED_SIZE
-        → IsRefused hooks (generated seed size) (20 + hooks) TooMany }
+    ensures { (hooks seed size : ℕ) → hooks < 12 → LacksHooks hooks seed size }
 {}

@@ -13,7 +13,8 @@
 //! [`generate`] writes the script of a seed and a size: its lines are in `Generated`, drawn by
 //! [`Draws`], which a mixed schedule draws its seats by too. [`generated_scripts_read`] is the law
 //! that none of its lines is refused where there are twelve hooks, and
-//! [`generated_scripts_want_hooks`] says at which line it is refused where there are fewer.
+//! [`generated_scripts_want_hooks`] says at which line it is refused where there are fewer; both are
+//! stated in `GeneratedJudged`.
 //!
 //! The code goes the same way: `words` and `numbers`, `fields`, the lines of each kind in `heading`
 //! and `operation`, `statement` for any line, `before` for what may stand, `line` for one line,

@@ -1,12 +1,11 @@
 //! Lists of numbers in one line.
 
-ghost use Rattle.std.specs.Prelude.{◌≡◌, ◌<◌, ◌^◌, ◌-◌, ◌&&◌, not, map, if◌then◌else◌, Ok, Err};
+ghost use Rattle.std.specs.Prelude.{◌≡◌, ◌<◌, ◌^◌, ◌-◌, ◌&&◌, not, map};
 ghost use Rattle.std.specs.List.{list_all};
-ghost use Rattle.hp_script.specs.declared.error.ScriptKind.TheVariants.{BadNumber};
 ghost use Rattle.hp_script.specs.Words.{words, is_empty};
 ghost use Rattle.hp_script.specs.Numbers.{is_number, value, is_within};
 ghost use Rattle.hp_script.specs.Statements.{numbers_of};
-ghost use Rattle.hp_script.specs.Ranges.{are_rising, by_range};
+ghost use Rattle.hp_script.specs.Ranges.{are_rising, by_range, if_fits};
 ghost use Rattle.hp_script.specs.LineAnswers.{Gives};
 
 use crate::error::ScriptKind;
@@ -39,9 +38,7 @@ pub fn are_numbers(bytes: &[u8]) -> bool
 /// The numbers that the words say, where they rise from 1 on and are at most `high`.
 fn rising_values(alloc: Global, high: u32, bytes: &[u8]) -> Result<Numbers, Stop>
     requires { high < 2 ^ 32 - 1 }
-    ensures { Gives result
-        (if are_rising 1 high (map value (words bytes.now))
-        then Ok (map value (words bytes.now)) else Err BadNumber) }
+    ensures { Gives result (if_fits (are_rising 1 high) (map value (words bytes.now))) }
 {
     let mut numbers = Numbers::new(alloc);
     let mut low = 1;
@@ -57,9 +54,7 @@ fn rising_values(alloc: Global, high: u32, bytes: &[u8]) -> Result<Numbers, Stop
 
 /// The numbers that the words say, where they are at most `high`.
 fn values_within(alloc: Global, high: u32, bytes: &[u8]) -> Result<Numbers, Stop>
-    ensures { Gives result
-        (if list_all (is_within 0 high) (map value (words bytes.now))
-        then Ok (map value (words bytes.now)) else Err BadNumber) }
+    ensures { Gives result (if_fits (list_all (is_within 0 high)) (map value (words bytes.now))) }
 {
     let mut numbers = Numbers::new(alloc);
     let mut rest = bytes;

@@ -1,10 +1,10 @@
 //! Numbers and names.
 
-ghost use Rattle.std.specs.Prelude.{◌≡◌, ◌<◌, ◌≤◌, ◌^◌, length, if◌then◌else◌, Some, None, Ok, Err, IsTrue, nat_lt, nat_le};
+ghost use Rattle.std.specs.Prelude.{◌≡◌, ◌<◌, ◌≤◌, ◌^◌, if◌then◌else◌, Some, None, nat_lt};
 ghost use Rattle.std.specs.List.{list_all};
-ghost use Rattle.hp_script.specs.Numbers.{is_digit, is_number, value, value_on, is_byte, is_signed, signed_value, minus, is_within, is_signed_within, is_name_word, name_spelled};
+ghost use Rattle.hp_script.specs.Numbers.{is_digit, is_number, value, is_byte, is_signed, signed_value, minus, is_within, is_signed_within, is_name_word, name_spelled};
 ghost use Rattle.hp_states.specs.Names.{is_name_byte};
-ghost use Rattle.hp_script.specs.declared.error.ScriptKind.TheVariants.{BadNumber};
+ghost use Rattle.hp_script.specs.Ranges.{if_fits};
 
 use crate::error::ScriptKind;
 use hp_states::{MAX_NAME_LEN, is_name_byte};
@@ -76,8 +76,7 @@ fn is_within(low: u64, high: u64, n: u64) -> bool
 
 /// The number in this range that a word says.
 pub fn number_within(low: u64, high: u64, word: &[u8]) -> Result<u64, ScriptKind>
-    ensures { result
-        ≡ (if is_within low high (value word.now) then Ok (value word.now) else Err BadNumber) }
+    ensures { result ≡ if_fits (is_within low high) (value word.now) }
 {
     match value_of(word) {
         Some(n) if is_within(low, high, n) => Ok(n),
@@ -87,8 +86,7 @@ pub fn number_within(low: u64, high: u64, word: &[u8]) -> Result<u64, ScriptKind
 
 /// The number in this range, of 32 bits, that a word says.
 pub fn small_within(low: u32, high: u32, word: &[u8]) -> Result<u32, ScriptKind>
-    ensures { result
-        ≡ (if is_within low high (value word.now) then Ok (value word.now) else Err BadNumber) }
+    ensures { result ≡ if_fits (is_within low high) (value word.now) }
 {
     let n = number_within(low as u64, high as u64, word)?;
     Ok(n as u32)
@@ -106,9 +104,7 @@ fn minus(n: u32) -> i32
 pub fn signed_within(least: u32, most: u32, word: &[u8]) -> Result<i32, ScriptKind>
     requires least { least ≤ 2 ^ 31 }
     requires most { most < 2 ^ 31 }
-    ensures { result
-        ≡ (if is_signed_within least most (signed_value word.now)
-        then Ok (signed_value word.now) else Err BadNumber) }
+    ensures { result ≡ if_fits (is_signed_within least most) (signed_value word.now) }
 {
     match word {
         [b'-', digits @ ..] => {

@@ -1,14 +1,13 @@
 //! The lines of operations.
 
-ghost use Rattle.std.specs.Prelude.{◌≡◌, true, option_map, map, if◌then◌else◌, Ok, Err};
+ghost use Rattle.std.specs.Prelude.{◌≡◌, true, option_map, map};
 ghost use Rattle.hp_event.specs.declared.op.Op.TheVariants as op;
 ghost use Rattle.hp_script.specs.Words.{words};
-ghost use Rattle.hp_model.specs.SetOf.{set_of};
-ghost use Rattle.hp_script.specs.declared.error.ScriptKind.TheVariants.{BadNumber};
-ghost use Rattle.hp_script.specs.Statements.{op_of, none_of, number_of, numbers_of, set_named, pair_of, signed_of, flagged_of, place_of, show_of_file, show_of};
-ghost use Rattle.hp_script.specs.Ranges.{by_range, is_op, are_cpus};
+ghost use Rattle.hp_script.specs.Statements.{op_of, none_of, number_of, pair_of, signed_of, flagged_of, place_of, show_of_file, show_of, upmany_of};
+ghost use Rattle.hp_script.specs.Ranges.{by_range, is_op, set_if_fits};
 ghost use Rattle.hp_script.specs.Numbers.{is_within, value};
 ghost use Rattle.hp_script.specs.declared.limits.TheConstants.{MAX_NAMED_CPU};
+ghost use Rattle.hp_script.specs.LineAnswers.{GivesOp};
 
 use crate::error::ScriptKind;
 use crate::fields::{flagged, nothing, number, pair, place, signed};
@@ -31,7 +30,7 @@ fn cpu(bytes: &[u8]) -> Result<u32, ScriptKind>
 /// What is shown, by the name of the file.
 #[tactic(auto, unfolding(crate::specs::Statements::show_of_file, crate::specs::Statements::none_of))]
 fn show_of_file(name: &[u8], bytes: &[u8]) -> Result<Op, ScriptKind>
-    ensures { result ≡ by_range is_op (show_of_file name.now (words bytes.now)) }
+    ensures { GivesOp result (show_of_file name.now (words bytes.now)) }
 {
     if is_word(name, b"states") {
         nothing(bytes)?;
@@ -51,7 +50,7 @@ fn show_of_file(name: &[u8], bytes: &[u8]) -> Result<Op, ScriptKind>
 
 #[tactic(auto, unfolding(crate::specs::Statements::show_of))]
 fn show(bytes: &[u8]) -> Result<Op, ScriptKind>
-    ensures { result ≡ by_range is_op (show_of (words bytes.now)) }
+    ensures { GivesOp result (show_of (words bytes.now)) }
 {
     let Some((name, rest)) = next_word(bytes) else {
         return Err(ScriptKind::BadForm);
@@ -63,7 +62,7 @@ fn show(bytes: &[u8]) -> Result<Op, ScriptKind>
 #[tactic(auto, unfolding(crate::specs::Statements::none_of))]
 fn plain(op: Op, bytes: &[u8]) -> Result<Op, ScriptKind>
     requires { is_op op ≡ true }
-    ensures { result ≡ by_range is_op (none_of op (words bytes.now)) }
+    ensures { GivesOp result (none_of op (words bytes.now)) }
 {
     nothing(bytes)?;
     Ok(op)
@@ -71,8 +70,7 @@ fn plain(op: Op, bytes: &[u8]) -> Result<Op, ScriptKind>
 
 /// The line `up C`.
 fn up(bytes: &[u8]) -> Result<Op, ScriptKind>
-    ensures { result
-        ≡ by_range is_op (option_map (λ cpu. op.Up cpu) (number_of (words bytes.now))) }
+    ensures { GivesOp result (option_map (λ cpu. op.Up cpu) (number_of (words bytes.now))) }
 {
     let cpu = cpu(bytes)?;
     Ok(Op::Up(cpu))
@@ -80,8 +78,7 @@ fn up(bytes: &[u8]) -> Result<Op, ScriptKind>
 
 /// The line `down C`.
 fn down(bytes: &[u8]) -> Result<Op, ScriptKind>
-    ensures { result
-        ≡ by_range is_op (option_map (λ cpu. op.Down cpu) (number_of (words bytes.now))) }
+    ensures { GivesOp result (option_map (λ cpu. op.Down cpu) (number_of (words bytes.now))) }
 {
     let cpu = cpu(bytes)?;
     Ok(Op::Down(cpu))
@@ -89,8 +86,7 @@ fn down(bytes: &[u8]) -> Result<Op, ScriptKind>
 
 /// The line `boot N`.
 fn boot(bytes: &[u8]) -> Result<Op, ScriptKind>
-    ensures { result
-        ≡ by_range is_op (option_map (λ most. op.Boot most) (number_of (words bytes.now))) }
+    ensures { GivesOp result (option_map (λ most. op.Boot most) (number_of (words bytes.now))) }
 {
     let most = cpu(bytes)?;
     Ok(Op::Boot(most))
@@ -98,8 +94,7 @@ fn boot(bytes: &[u8]) -> Result<Op, ScriptKind>
 
 /// The line `target C V`.
 fn target(bytes: &[u8]) -> Result<Op, ScriptKind>
-    ensures { result
-        ≡ by_range is_op (option_map (λ x. op.Target x.0 x.1) (pair_of (words bytes.now))) }
+    ensures { GivesOp result (option_map (λ x. op.Target x.0 x.1) (pair_of (words bytes.now))) }
 {
     let (cpu, value) = pair(MAX_NAMED_CPU, MIN_I32, MAX_I32, bytes)?;
     Ok(Op::Target(cpu, value))
@@ -107,8 +102,7 @@ fn target(bytes: &[u8]) -> Result<Op, ScriptKind>
 
 /// The line `fail C V`.
 fn fail(bytes: &[u8]) -> Result<Op, ScriptKind>
-    ensures { result
-        ≡ by_range is_op (option_map (λ x. op.Arm x.0 x.1) (pair_of (words bytes.now))) }
+    ensures { GivesOp result (option_map (λ x. op.Arm x.0 x.1) (pair_of (words bytes.now))) }
 {
     let (cpu, value) = pair(MAX_NAMED_CPU, MIN_I32, MAX_I32, bytes)?;
     Ok(Op::Arm(cpu, value))
@@ -116,8 +110,7 @@ fn fail(bytes: &[u8]) -> Result<Op, ScriptKind>
 
 /// The line `setup S SUB FLAGS`.
 fn setup(bytes: &[u8]) -> Result<Op, ScriptKind>
-    ensures { result
-        ≡ by_range is_op (option_map (λ x. op.Setup x.0 x.1 x.2) (place_of (words bytes.now))) }
+    ensures { GivesOp result (option_map (λ x. op.Setup x.0 x.1 x.2) (place_of (words bytes.now))) }
 {
     let (state, sub, form) = place(MAX_NAMED_STATE, 1, MAX_SUBS, bytes)?;
     Ok(Op::Setup { state, sub, form })
@@ -125,8 +118,7 @@ fn setup(bytes: &[u8]) -> Result<Op, ScriptKind>
 
 /// The line `remove S FLAGS`.
 fn remove(bytes: &[u8]) -> Result<Op, ScriptKind>
-    ensures { result
-        ≡ by_range is_op (option_map (λ x. op.Remove x.0 x.1) (flagged_of (words bytes.now))) }
+    ensures { GivesOp result (option_map (λ x. op.Remove x.0 x.1) (flagged_of (words bytes.now))) }
 {
     let (state, form) = flagged(MAX_NAMED_STATE, bytes)?;
     Ok(Op::Remove { state, form })
@@ -134,8 +126,7 @@ fn remove(bytes: &[u8]) -> Result<Op, ScriptKind>
 
 /// The line `add S I FLAGS`.
 fn add(bytes: &[u8]) -> Result<Op, ScriptKind>
-    ensures { result
-        ≡ by_range is_op (option_map (λ x. op.Add x.0 x.1 x.2) (place_of (words bytes.now))) }
+    ensures { GivesOp result (option_map (λ x. op.Add x.0 x.1 x.2) (place_of (words bytes.now))) }
 {
     let (state, inst, form) = place(MAX_NAMED_STATE, 0, MAX_INSTANCE, bytes)?;
     Ok(Op::Add { state, inst, form })
@@ -143,8 +134,7 @@ fn add(bytes: &[u8]) -> Result<Op, ScriptKind>
 
 /// The line `del S I FLAGS`.
 fn del(bytes: &[u8]) -> Result<Op, ScriptKind>
-    ensures { result
-        ≡ by_range is_op (option_map (λ x. op.Del x.0 x.1 x.2) (place_of (words bytes.now))) }
+    ensures { GivesOp result (option_map (λ x. op.Del x.0 x.1 x.2) (place_of (words bytes.now))) }
 {
     let (state, inst, form) = place(MAX_NAMED_STATE, 0, MAX_INSTANCE, bytes)?;
     Ok(Op::Del { state, inst, form })
@@ -152,8 +142,7 @@ fn del(bytes: &[u8]) -> Result<Op, ScriptKind>
 
 /// The line `freeze P`.
 fn freeze(bytes: &[u8]) -> Result<Op, ScriptKind>
-    ensures { result
-        ≡ by_range is_op (option_map (λ n. op.Freeze n) (signed_of (words bytes.now))) }
+    ensures { GivesOp result (option_map (λ n. op.Freeze n) (signed_of (words bytes.now))) }
 {
     let primary = signed(1, MAX_NAMED_CPU, bytes)?;
     Ok(Op::Freeze(primary))
@@ -161,9 +150,7 @@ fn freeze(bytes: &[u8]) -> Result<Op, ScriptKind>
 
 /// The set of the processors that the words name, where they rise and are at most 255.
 fn cpu_set(bytes: &[u8]) -> Result<CpuSet, ScriptKind>
-    ensures { result
-        ≡ (if are_cpus (map value (words bytes.now))
-        then Ok (set_of (map value (words bytes.now))) else Err BadNumber) }
+    ensures { result ≡ set_if_fits (map value (words bytes.now)) }
 {
     let mut set = CpuSet::none();
     let mut low = 0;
@@ -180,8 +167,7 @@ fn cpu_set(bytes: &[u8]) -> Result<CpuSet, ScriptKind>
 /// The line `upmany C C ..`.
 #[tactic(auto, unfolding(crate::specs::Statements::numbers_of))]
 fn upmany(bytes: &[u8]) -> Result<Op, ScriptKind>
-    ensures { result
-        ≡ by_range is_op (option_map (λ cpus. op.UpMany (set_named cpus)) (numbers_of (words bytes.now))) }
+    ensures { GivesOp result (upmany_of (words bytes.now)) }
 {
     if !are_numbers(bytes) {
         return Err(ScriptKind::BadForm);
@@ -193,7 +179,7 @@ fn upmany(bytes: &[u8]) -> Result<Op, ScriptKind>
 /// The operation that a line of this first word says.
 #[tactic(auto, unfolding(crate::specs::Statements::op_of))]
 pub fn operation(verb: Verb, bytes: &[u8]) -> Result<Op, ScriptKind>
-    ensures { result ≡ by_range is_op (op_of verb (words bytes.now)) }
+    ensures { GivesOp result (op_of verb (words bytes.now)) }
 {
     match verb {
         Verb::Up => up(bytes),

@@ -1,12 +1,10 @@
 //! All lines, from the first to the last.
 
-ghost use Rattle.std.specs.Prelude.{ℕ, List, IfOk, IfErr, ◌≤◌, ◌≡◌};
+ghost use Rattle.std.specs.Prelude.{ℕ, List, IfOk, IfErr, ◌≡◌};
 ghost use Rattle.hp_script.specs.Drafts.{contents_of, Fits};
 ghost use Rattle.hp_script.specs.LineAnswers.{AnswersStep, error_at};
-ghost use Rattle.hp_script.specs.Script.{Contents};
-ghost use Rattle.hp_script.specs.Playable.{IsPlayable};
-ghost use Rattle.hp_script.specs.Judged.{IsRead, IsRefused, RefusesOrWants};
-ghost use Rattle.hp_script.specs.declared.error.ScriptKind.{ScriptKind};
+ghost use Rattle.hp_script.specs.Playable.{PlaysIfRead};
+ghost use Rattle.hp_script.specs.Judged.{IsRead, RefusesOrWants, IsRefusedOnce};
 
 use crate::before::Before;
 use crate::draft::Draft;
@@ -96,8 +94,7 @@ pub fn parse(alloc: Global, bytes: &[u8], hooks: u32) -> Result<Script, ParseErr
 /// The function does nothing, and takes no memory.
 #[tactic(auto, using(crate::proofs::OneRefusal::one_refusal))]
 pub fn one_refusal()
-    ensures { (hooks : ℕ) (bytes : List ℕ) (n m : ℕ) (k j : ScriptKind) → IsRefused hooks bytes n k
-        → IsRefused hooks bytes m j → (n ≡ m) × (k ≡ j) }
+    ensures { (hooks : ℕ) (bytes : List ℕ) → IsRefusedOnce hooks bytes }
 {}
 
 /// The law that each script that is read can be played: a machine can be started with its head and
@@ -107,6 +104,5 @@ pub fn one_refusal()
 /// It holds of all bytes and any hooks. The function does nothing, and takes no memory. The ranges
 /// are this project's own.
 pub fn read_scripts_play()
-    ensures { (hooks : ℕ) (bytes : List ℕ) (script : Contents) → IsRead hooks bytes script
-        → IsPlayable hooks script }
+    ensures { (hooks : ℕ) (bytes : List ℕ) → PlaysIfRead hooks bytes }
 {}

@@ -1,12 +1,9 @@
 //! What one line says.
 
-ghost use Rattle.std.specs.Prelude.{option_map};
 ghost use Rattle.hp_script.specs.declared.verb.Verb.TheVariants as verb;
-ghost use Rattle.hp_script.specs.declared.statement.Statement.TheVariants as says;
 ghost use Rattle.hp_script.specs.Words.{words};
-ghost use Rattle.hp_script.specs.Statements.{statement_by, op_of};
-ghost use Rattle.hp_script.specs.Ranges.{by_range, is_in_range};
-ghost use Rattle.hp_script.specs.LineAnswers.{Gives};
+ghost use Rattle.hp_script.specs.Statements.{statement_by, operation_by};
+ghost use Rattle.hp_script.specs.LineAnswers.{GivesStatement};
 
 use crate::fields::number;
 use crate::heading::{actor, rule, schedule, sub};
@@ -39,52 +36,49 @@ pub enum Statement {
 }
 
 fn cpus_line(bytes: &[u8]) -> Result<Statement, Stop>
-    ensures { Gives result (by_range (is_in_range 0) (statement_by verb.Cpus (words bytes.now))) }
+    ensures { GivesStatement 0 result (statement_by verb.Cpus (words bytes.now)) }
 {
     let n = number(1, MAX_CPUS, bytes)?;
     Ok(Statement::Cpus(n))
 }
 
 fn absent_line(alloc: Global, possible: u32, bytes: &[u8]) -> Result<Statement, Stop>
-    ensures { Gives result
-        (by_range (is_in_range possible) (statement_by verb.Absent (words bytes.now))) }
+    ensures { GivesStatement possible result (statement_by verb.Absent (words bytes.now)) }
 {
     let absent = rising(alloc, possible.saturating_sub(1), bytes)?;
     Ok(Statement::Absent(absent))
 }
 
 fn sub_line(alloc: Global, bytes: &[u8]) -> Result<Statement, Stop>
-    ensures { Gives result (by_range (is_in_range 0) (statement_by verb.Sub (words bytes.now))) }
+    ensures { GivesStatement 0 result (statement_by verb.Sub (words bytes.now)) }
 {
     let sub = sub(alloc, bytes)?;
     Ok(Statement::Sub(sub))
 }
 
 fn rule_line(bytes: &[u8]) -> Result<Statement, Stop>
-    ensures { Gives result (by_range (is_in_range 0) (statement_by verb.Rule (words bytes.now))) }
+    ensures { GivesStatement 0 result (statement_by verb.Rule (words bytes.now)) }
 {
     let rule = rule(bytes)?;
     Ok(Statement::Rule(rule))
 }
 
 fn schedule_line(alloc: Global, bytes: &[u8]) -> Result<Statement, Stop>
-    ensures { Gives result
-        (by_range (is_in_range 0) (statement_by verb.Schedule (words bytes.now))) }
+    ensures { GivesStatement 0 result (statement_by verb.Schedule (words bytes.now)) }
 {
     let schedule = schedule(alloc, bytes)?;
     Ok(Statement::Schedule(schedule))
 }
 
 fn actor_line(bytes: &[u8]) -> Result<Statement, Stop>
-    ensures { Gives result (by_range (is_in_range 0) (statement_by verb.Actor (words bytes.now))) }
+    ensures { GivesStatement 0 result (statement_by verb.Actor (words bytes.now)) }
 {
     actor(bytes)?;
     Ok(Statement::Actor)
 }
 
 fn operation_line(verb: Verb, bytes: &[u8]) -> Result<Statement, Stop>
-    ensures { Gives result
-        (by_range (is_in_range 0) (option_map (λ o. says.Operation o) (op_of verb (words bytes.now)))) }
+    ensures { GivesStatement 0 result (operation_by verb (words bytes.now)) }
 {
     let op = operation(verb, bytes)?;
     Ok(Statement::Operation(op))
@@ -97,7 +91,7 @@ pub fn read_statement(
     verb: Verb,
     bytes: &[u8],
 ) -> Result<Statement, Stop>
-    ensures { Gives result (by_range (is_in_range possible) (statement_by verb (words bytes.now))) }
+    ensures { GivesStatement possible result (statement_by verb (words bytes.now)) }
 {
     match verb {
         Verb::Cpus => cpus_line(bytes),

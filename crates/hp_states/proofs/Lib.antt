@@ -1,3 +1,4 @@
+pub mod Basics
 mod Looking
 pub mod Padded
 pub mod RuleCounts

@@ -1,5 +1,5 @@
 -- Rules: what a plan answers to a call, by the calls before it. This project's own.
-use Rattle.std.specs.Prelude.{ℕ, ◌+◌, Bool, true, false, ◌&&◌, ◌==◌, if◌then◌else◌, Option, Some, None, List, [], ◌∷◌, ◌++◌, count_by, map}
+use Rattle.std.specs.Prelude.{◌≡◌, ℕ, ◌+◌, Bool, true, false, ◌&&◌, ◌==◌, if◌then◌else◌, Option, Some, None, List, [], ◌∷◌, ◌++◌, count_by, map}
 use Rattle.hp_states.specs.declared.dir.Dir.{Dir}
 use Rattle.hp_states.specs.declared.dir.Dir.TheVariants.{Up, Down}
 use Rattle.hp_states.specs.declared.plan.Rule.{Rule}
@@ -53,3 +53,14 @@ counted_answer [] counts site = 0
 counted_answer (rule ∷ rules) [] site = 0
 counted_answer (rule ∷ rules) (n ∷ ns) site =
     if matches rule site && allows rule.nth n then rule.code else counted_answer rules ns site
+
+-- the counts of the sites of all calls before, raised at a site, are those with this site
+abbrev pub CountsGoOn : (plan : List Rule) → Type 0
+CountsGoOn plan =
+    (earlier : List Site) (site : Site) → raised plan (counts_of plan earlier) site ≡ counts_of plan (earlier ++ site ∷ [])
+
+-- and what they answer is what the sites themselves determine
+abbrev pub CountsAnswer : (plan : List Rule) → Type 0
+CountsAnswer plan =
+    (earlier : List Site) (site : Site) →
+    counted_answer plan (raised plan (counts_of plan earlier) site) site ≡ answer_of plan earlier site

@@ -1,7 +1,7 @@
 //! The plan of a callback: the rules by which it answers.
 
 ghost use Rattle.std.specs.Prelude.{◌≡◌, ◌<◌, ◌≤◌, ◌++◌, ◌∷◌, [], length, IsTrue, ◌↔◌, if◌then◌else◌, List};
-ghost use Rattle.hp_states.specs.Rules.{Site, site_at, matches as matches_of, answer_of, counted_answer, counts_of, raised};
+ghost use Rattle.hp_states.specs.Rules.{site_at, matches as matches_of, CountsGoOn, CountsAnswer};
 
 use crate::dir::Dir;
 use crate::limits::MAX_RULES;
@@ -133,9 +133,6 @@ impl HookPlan {
 /// project's own.
 #[tactic(auto, using(crate::proofs::RuleCounts::raised_counts, crate::proofs::RuleCounts::answer_of_raised))]
 pub fn answer_by_counts(plan: &[Rule])
-    ensures counts { (earlier : List Site) (site : Site) →
-        raised plan.now (counts_of plan.now earlier) site ≡ counts_of plan.now (earlier ++ site ∷ []) }
-    ensures answer { (earlier : List Site) (site : Site) →
-        counted_answer plan.now (raised plan.now (counts_of plan.now earlier) site) site
-        ≡ answer_of plan.now earlier site }
+    ensures counts { CountsGoOn plan.now }
+    ensures answer { CountsAnswer plan.now }
 {}

@@ -1,6 +1,7 @@
 -- What is asked for by the lists of the moment is what comes next of the journal.
 use Rattle.std.proofs.Common.{◌≡◌, ℕ, zero, suc, Bool, true, false, cond, not, ◌&&◌, eqb, ltb, leb, Option, Some, None, List, [], ◌∷◌, length, drop, get_or, refl, ap, sym, ◌∙◌}
 use Rattle.std.specs.Prelude.{ℤ, pos, filter, slice_get}
+use Rattle.hp_model.proofs.ListLemmas.{filter_agree}
 use Rattle.hp_event.specs.declared.op.Op.TheVariants.{Boot, Freeze, Thaw}
 use Rattle.hp_event.specs.declared.answer.Answer.{Answer}
 use Rattle.hp_event.specs.declared.answer.Answer.TheVariants.{Ok}
@@ -22,7 +23,7 @@ use Rattle.hp_suspend.specs.Booting.{IsBooting}
 use Rattle.hp_suspend.specs.declared.thaw.Thaw.{Thaw as AThaw}
 use Rattle.hp_suspend.specs.declared.boot.Boot.{Boot as ABoot}
 use Rattle.hp_suspend.specs.ByLists.{online_but, frozen_below, present_offline, online_count, freeze_by, next_of_freeze, next_of_thaw, next_of_boot}
-use Rattle.hp_suspend.proofs.Places.{said_at, agree_below, tested_places, count_places}
+use Rattle.hp_suspend.proofs.Places.{said_at, tested_places, count_places}
 use Rattle.hp_suspend.proofs.NextIs.{between, freeze_says, freeze_next_is, rising_says, thaw_next_is, boot_next_is}
 
 -- the lowest online processor but the primary
@@ -79,7 +80,7 @@ thaw_asks t fs ss said is head events o l held asked rests k frozen_are settled_
     let row : filter (λ c. get_or fs c false && ltb (get_or ss c 0) 200) (numbers (length fs))
     ≡ filter (λ c. among c (frozen events) && ltb (settled c events) 200) (numbers head.possible) =
     rw frozen_are.length_is
-    (agree_below (λ c. get_or fs c false && ltb (get_or ss c 0) 200)
+    (filter_agree (λ c. get_or fs c false && ltb (get_or ss c 0) 200)
     (λ c. among c (frozen events) && ltb (settled c events) 200) head.possible
     (λ c b.
     rw (
@@ -118,7 +119,7 @@ boot_asks b ps on said is head events o max l held asked rests k present_are onl
     let row : filter (λ c. get_or ps c false && not (get_or on c false)) (numbers (length ps))
     ≡ filter (λ c. is_present head c && not (is_online c events)) (numbers head.possible) =
     rw present_are.length_is
-    (agree_below (λ c. get_or ps c false && not (get_or on c false))
+    (filter_agree (λ c. get_or ps c false && not (get_or on c false))
     (λ c. is_present head c && not (is_online c events)) head.possible
     (λ c b.
     rw (

@@ -4,6 +4,8 @@ use Rattle.std.specs.Prelude.{filter, slice_get, IfSome, IfNone}
 use Rattle.std.proofs.lemmas.Bool.{true≢false, false≢true, ltb-true, ltb-false, lt-ltb, eqb-true, eqb-false}
 use Rattle.std.proofs.lemmas.Bool.Decides.{nat_tests}
 use Rattle.std.proofs.lemmas.List.Elements.{filter-append}
+use Rattle.hp_model.proofs.QueueMoves.{among_filter}
+use Rattle.hp_states.proofs.Basics.{none_some, same_some}
 use Rattle.hp_states.specs.declared.cpu_set.CpuSet.{CpuSet}
 use Rattle.hp_states.specs.CpuSets.{has, IsLowestFrom, HasNoneFrom}
 use Rattle.hp_event.specs.declared.answer.Answer.{Answer}
@@ -19,7 +21,7 @@ use Rattle.hp_model.specs.Settled.{settled}
 use Rattle.hp_model.specs.Suspend.{is_ok}
 use Rattle.hp_model.proofs.Laws.{begun_push, answers_push}
 use Rattle.hp_model.proofs.Counts.{occurs-append}
-use Rattle.hp_model.proofs.ListLemmas.{occurs-filter, filter_both}
+use Rattle.hp_model.proofs.ListLemmas.{filter_both}
 use Rattle.hp_suspend.specs.Batching.{IsBatching}
 use Rattle.hp_suspend.specs.Tables.{AreSettled}
 use Rattle.hp_suspend.specs.declared.batch.Batch.{Batch}
@@ -41,12 +43,6 @@ pub record IsFirst (p : ℕ → Bool) (c : ℕ) : Type 0 where
   pub passes : p c ≡ true
   pub none_below : (d : ℕ) → d < c → p d ≡ false
 
-some_same : (c d : ℕ) → Some c ≡ Some d → c ≡ d
-some_same c d h = cc
-
-none_some : (c : ℕ) → None ≡ Some c → ⊥
-none_some c h = cc
-
 pub first_is : (p : ℕ → Bool) (n c : ℕ) → slice_get (filter p (numbers n)) 0 ≡ Some c → IsFirst p c × (c < n)
 first_is p zero c h = absurd (none_some c h)
 first_is p (suc n) c h =
@@ -54,7 +50,7 @@ first_is p (suc n) c h =
     (first_is p n c)
   where
     one : (b : Bool) → p n ≡ b → slice_get (cond b (n ∷ []) []) 0 ≡ Some c → (p n ≡ true) × (n ≡ c)
-    one true e k = (e, some_same n c k)
+    one true e k = (e, same_some n c k)
     one false e k = absurd (none_some c k)
 
     empty : filter p (numbers n) ≡ [] → (d : ℕ) → d < n → p d ≡ false
@@ -126,13 +122,6 @@ next_left b found head events o set held asked h some none =
     let both = filter_both (λ c. not (among c (begun events))) (is_of set (λ d. settled d o.before)) (numbers head.possible) in
     same_first p head.possible b.left found (λ c. h.left_is c ∙ ap (among c) both) some none
     ∙ rw (held, asked) (ap (λ xs. slice_get xs 0) (sym both))
-
-among_filter : (p : ℕ → Bool) (c : ℕ) (xs : List ℕ) → among c (filter p xs) ≡ (p c && among c xs)
-among_filter p c xs = ap (ltb 0) (occurs-filter p c xs) ∙ go (p c)
-  where
-    go : (b : Bool) → ltb 0 (cond b (occurs c xs) 0) ≡ (b && among c xs)
-    go true = refl
-    go false = refl
 
 -- all of it is left at the Enter
 pub batch_begins : (b : Batch) (set : CpuSet) (states : List ℕ) (head : Head) (before : List Event) (seat : ℕ) →

@@ -11,7 +11,7 @@ use Rattle.std.proofs.Math.Seq.{take-length}
 use Rattle.hp_event.specs.declared.head.Head.{Head}
 use Rattle.hp_model.specs.Lists.{among, numbers}
 use Rattle.hp_model.specs.Sequence.{first_of}
-use Rattle.hp_model.proofs.ListLemmas.{occurs-filter, occurs-numbers}
+use Rattle.hp_model.proofs.ListLemmas.{occurs-filter, occurs-numbers, filter_agree}
 use Rattle.hp_suspend.specs.Tables.{AreAll}
 
 -- how many numbers below one pass a test
@@ -60,14 +60,6 @@ place_at p (suc n) c b h = rw (filter-append p (numbers n) (n ∷ [])) (go (ltb 
 pub place_past : (p : ℕ → Bool) (n k : ℕ) → passing p n ≤ k → slice_get (filter p (numbers n)) k ≡ None
 place_past p n k h = slice_get_past (filter p (numbers n)) k h
 
--- tests that agree on the numbers below one
-pub agree_below : (p q : ℕ → Bool) (n : ℕ) → ((c : ℕ) → c < n → p c ≡ q c) → filter p (numbers n) ≡ filter q (numbers n)
-agree_below p q zero h = refl
-agree_below p q (suc n) h =
-    filter-append p (numbers n) (n ∷ [])
-    ∙ (rw (agree_below p q n (λ c b. h c (omega arith)), h n (omega arith)) refl
-    ∙ sym (filter-append q (numbers n) (n ∷ [])))
-
 -- what stands in the place of a processor
 pub said_at : {X : Type 0} (head : Head) (said : ℕ → X) (places : List X) (c : ℕ) (d : X) → AreAll head said places →
     c < head.possible → get_or places c d ≡ said c
@@ -78,7 +70,7 @@ pub tested_places : {X : Type 0} (head : Head) (said : ℕ → X) (places : List
     filter (λ c. test c (get_or places c d)) (numbers (length places)) ≡ filter (λ c. test c (said c)) (numbers head.possible)
 tested_places head said places d test h =
     rw h.length_is
-    (agree_below (λ c. test c (get_or places c d)) (λ c. test c (said c)) head.possible
+    (filter_agree (λ c. test c (get_or places c d)) (λ c. test c (said c)) head.possible
     (λ c b. ap (test c) (said_at head said places c d h b)))
 
 -- whether a number is one of those that pass

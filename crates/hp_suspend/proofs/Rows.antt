@@ -4,10 +4,10 @@ use Rattle.std.specs.Prelude.{filter}
 use Rattle.std.specs.List.{AllZip}
 use Rattle.std.proofs.lemmas.List.{append-nil}
 use Rattle.std.proofs.lemmas.List.Elements.{filter-append, filter_agree}
-use Rattle.std.proofs.lemmas.Bool.{ltb-true, lt-ltb}
+use Rattle.std.proofs.lemmas.Bool.{ltb-true}
 use Rattle.hp_model.specs.Lists.{occurs, among, numbers}
 use Rattle.hp_model.proofs.Counts.{occurs-append}
-use Rattle.hp_model.proofs.ListLemmas.{occurs-filter, occurs-numbers, filter_both}
+use Rattle.hp_model.proofs.ListLemmas.{occurs-filter, occurs-numbers, filter_both, is_among}
 use Rattle.hp_model.proofs.Operations.{once_in, in_filter}
 
 abbrev pub Once : List ℕ → Type 0
@@ -44,9 +44,6 @@ all_pass p (x ∷ xs) h = rw (h x (once_in x xs), all_pass p xs (λ c k. h c (om
 pub none_pass : (p : ℕ → Bool) (xs : List ℕ) → ((c : ℕ) → 0 < occurs c xs → p c ≡ false) → filter p xs ≡ []
 none_pass p [] h = refl
 none_pass p (x ∷ xs) h = rw (h x (once_in x xs)) (none_pass p xs (λ c k. h c (omega arith)))
-
-pub is_among : (c : ℕ) (xs : List ℕ) → 0 < occurs c xs → among c xs ≡ true
-is_among c xs h = lt-ltb 0 (occurs c xs) h
 
 pub not_among : (c : ℕ) (xs : List ℕ) → occurs c xs ≡ 0 → among c xs ≡ false
 not_among c xs h = ap (ltb 0) h

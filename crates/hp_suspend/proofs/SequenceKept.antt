@@ -1,8 +1,9 @@
 -- Every lawful journal keeps what a sequence in flight has done and has still to do, and its record is in rising number.
-use Rattle.std.proofs.Common.{◌≡◌, ℕ, Bool, true, false, cond, not, ◌&&◌, eqb, is_some, Option, Some, None, List, [], ◌∷◌, ◌++◌, refl, ap, sym, ◌∙◌, subst, append_assoc}
+use Rattle.std.proofs.Common.{◌≡◌, ℕ, Bool, true, false, cond, not, ◌&&◌, eqb, Option, Some, None, List, [], ◌∷◌, ◌++◌, refl, ap, sym, ◌∙◌, subst, append_assoc}
 use Rattle.std.specs.Prelude.{filter}
 use Rattle.std.proofs.lemmas.List.{append-nil}
-use Rattle.std.proofs.lemmas.Bool.{true≢false, false≢true}
+use Rattle.std.proofs.lemmas.Bool.{false≢true}
+use Rattle.hp_states.proofs.Basics.{none_some, same_some}
 use Rattle.hp_event.specs.declared.op.Op.{Op}
 use Rattle.hp_event.specs.declared.op.Op.TheVariants.{Freeze}
 use Rattle.hp_event.specs.declared.head.Head.{Head}
@@ -19,14 +20,13 @@ use Rattle.hp_model.specs.Suspend.{is_ok, is_freeze, is_thaw, held_by, frozen}
 use Rattle.hp_model.specs.Sequence.{primary_of}
 use Rattle.hp_model.specs.Lawful.{Comes, Stands, IsLawful}
 use Rattle.hp_model.proofs.Laws.{operation_push, walking_push, begun_push, answers_push, frozen_push, settled_push, walk_push}
-use Rattle.hp_model.proofs.InFlight.{empty_of, walking_is}
+use Rattle.hp_model.proofs.InFlight.{empty_of, none_walking}
 use Rattle.hp_model.proofs.Induction.{kept}
 use Rattle.hp_model.proofs.HeadlineProof.{lawful_more}
 use Rattle.hp_model.proofs.OneNext.{owners}
-use Rattle.hp_model.proofs.Operations.{once_in}
-use Rattle.hp_model.proofs.Owners.{Owners, map_free, alone_at, over_at_rest, same_some, none_some}
+use Rattle.hp_model.proofs.Owners.{Owners, map_free, alone_at, over_at_rest}
 use Rattle.hp_model.proofs.ListLemmas.{filter_both}
-use Rattle.hp_suspend.proofs.Rows.{is_among, listed_front, listed_none}
+use Rattle.hp_suspend.proofs.Rows.{listed_front, listed_none}
 use Rattle.hp_suspend.proofs.Stuck.{faults_come}
 use Rattle.hp_suspend.proofs.Sequenced.{walks_many, task, Recording, InSequence, IsSingle, Sequenced}
 use Rattle.hp_suspend.proofs.Todo.{once_of}
@@ -53,16 +53,6 @@ idle_walk xs o free c = go (walk c xs) refl
     go None e = refl
     go (Some w) e = let r = o.walk_op c w e in absurd (none_some r.0 (sym free ∙ r.1))
 
-still_walking : (xs : List Event) → ((c : ℕ) → walk c xs ≡ None) → walking xs ≡ []
-still_walking xs none = go (walking xs) refl
-  where
-    go : (ws : List ℕ) → walking xs ≡ ws → ws ≡ []
-    go [] e = refl
-    go (c ∷ cs) e =
-        absurd
-        (true≢false
-        (sym (is_among c (c ∷ cs) (once_in c cs)) ∙ (ap (among c) (sym e) ∙ (walking_is c xs ∙ ap is_some (none c)))))
-
 -- an event that changes nothing of it
 calm_step : (head : Head) (xs ys : List Event) → Calm xs ys → operation ys ≡ operation xs → Sequenced head xs → Sequenced head ys
 calm_step head xs ys m same k = record {
@@ -86,7 +76,7 @@ sequenced_step : (head : Head) (xs : List Event) (e : Event) → IsLawful head x
 sequenced_step head xs (Enter seat op) l h k =
     let free : operation xs ≡ None = map_free xs op h.takes_map h.passes.not_waiting in
     let still = idle_walk xs (owners head xs l) free in
-    let rests : walking xs ≡ [] = still_walking xs still in
+    let rests : walking xs ≡ [] = none_walking xs still in
     record {
       listed = emptied head (is_freeze op) (frozen xs) (frozen (xs ++ Enter seat op ∷ [])) (frozen_push xs (Enter seat op)) k.listed;
       single = λ n. rw (walking_push xs (Enter seat op), rests) tt;

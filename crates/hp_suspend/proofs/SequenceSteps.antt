@@ -4,6 +4,7 @@ use Rattle.std.specs.Prelude.{pos}
 use Rattle.std.proofs.lemmas.List.{append-nil}
 use Rattle.std.proofs.lemmas.List.Elements.{filter-append}
 use Rattle.std.proofs.lemmas.Bool.{false≢true, eqb-true, eq-eqb, lt-ltb, ltb-true, ltb-false}
+use Rattle.hp_states.proofs.Basics.{none_some, same_some}
 use Rattle.hp_event.specs.Leaves.{leaves_at}
 use Rattle.hp_event.specs.declared.op.Op.{Op}
 use Rattle.hp_event.specs.declared.op.Op.TheVariants.{Boot, Freeze, Thaw}
@@ -28,7 +29,7 @@ use Rattle.hp_model.proofs.Laws.{walking_push, begun_push, answers_push, frozen_
 use Rattle.hp_model.proofs.InFlight.{empty_of, walking_is}
 use Rattle.hp_model.proofs.Kept.{WalkKept, Kept}
 use Rattle.hp_model.proofs.Operations.{once_in, in_filter}
-use Rattle.hp_model.proofs.Owners.{alone_at, same_some, none_some}
+use Rattle.hp_model.proofs.Owners.{alone_at}
 use Rattle.hp_suspend.proofs.Rows.{Once, zip_push, zip_in, apart}
 use Rattle.hp_suspend.proofs.Stuck.{FaultsCome, stuck_between}
 use Rattle.hp_suspend.proofs.Sequenced.{walks_many, walks_from, aim, concerned, task, Left, Recording, InSequence, IsSingle}

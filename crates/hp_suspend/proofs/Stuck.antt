@@ -3,6 +3,7 @@ use Rattle.std.proofs.Common.{◌≡◌, ℕ, zero, suc, ◌-◌, ◌<◌, ◌�
 use Rattle.std.specs.Prelude.{reverse}
 use Rattle.std.proofs.lemmas.List.{append-nil}
 use Rattle.std.proofs.lemmas.Bool.{false≢true, eqb-true, ltb-false, lt-ltb, leb-false}
+use Rattle.hp_states.proofs.Basics.{none_some}
 use Rattle.hp_states.specs.declared.section.Section.{Section}
 use Rattle.hp_states.specs.declared.section.Section.TheVariants.{Prepare, Starting, Online}
 use Rattle.hp_states.specs.declared.dir.Dir.{Dir}
@@ -28,8 +29,7 @@ use Rattle.hp_model.proofs.Kept.{RegistrationKept, Kept}
 use Rattle.hp_model.proofs.Induction.{Held, held_none, held_step}
 use Rattle.hp_model.proofs.HowLemmas.{walk_fails}
 use Rattle.hp_model.proofs.Members.{Has, has_left, has_right, has_either}
-use Rattle.hp_model.proofs.Owners.{none_some}
-use Rattle.hp_model.proofs.PlanBounds.{Most, plan_most}
+use Rattle.hp_model.proofs.PlanBounds.{Most, plan_most, most_at}
 
 -- an entry that isn't done is one that may fail in a walk
 abbrev pub CanCome : Event → Type 0
@@ -144,10 +144,6 @@ climbs_keyed keys a (s ∷ ss) h = go (not (is_empty (keys s))) (climbs_keyed ke
 climbs_after : (a : ℕ) (xs : List ℕ) (y : ℕ) (ys : List ℕ) → Climbs a (xs ++ y ∷ ys) → (a < y) × Climbs y ys
 climbs_after a [] y ys h = h
 climbs_after a (x ∷ xs) y ys h = let r = climbs_after x xs y ys h.1 in (omega (arith, h.0, r.0), r.1)
-
-most_at : (n : ℕ) (xs : List ℕ) (y : ℕ) (ys : List ℕ) → Most n (xs ++ y ∷ ys) → y ≤ n
-most_at n [] y ys h = h.0
-most_at n (x ∷ xs) y ys h = most_at n xs y ys h.1
 
 -- it goes back from a fault higher up
 pub stuck_below : (keys : ℕ → List ℕ) (from to : ℕ) (before : List ℕ) (t : ℕ) (between : List ℕ) (s : ℕ) (after : List ℕ) →

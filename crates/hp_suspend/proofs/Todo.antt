@@ -168,7 +168,7 @@ pub record Gives (op : Op) (rest : List ℕ) (events : List Event) (cpu to : ℕ
   pub to_is : to ≡ aim op
   pub no_failure : is_freeze op ≡ true → failures (answers events) ≡ []
 
-same_to : (c to c' to' : ℕ) → walks c to ≡ walks c' to' → to ≡ to'
+pub same_to : (c to c' to' : ℕ) → walks c to ≡ walks c' to' → to ≡ to'
 same_to c to c' to' h = cc
 
 first_gives : (to : ℕ) (todo : List ℕ) (answer : Answer) (cpu to' : ℕ) → first_next to todo answer ≡ walks cpu to' →

@@ -13,6 +13,10 @@ use Rattle.hp_suspend.specs.declared.thaw.Thaw.{Thaw}
 use Rattle.hp_suspend.specs.declared.boot.Boot.{Boot}
 use Rattle.hp_suspend.specs.Booting.{is_fault}
 
+-- the processors that are online, in rising number
+abbrev pub all_online : (online : List Bool) → List ℕ
+all_online online = filter (λ c. slice_index_or online c false) (numbers (length online))
+
 -- the processors that are online but for the one that is left so, in rising number
 abbrev pub online_but : (primary : ℕ) → (online : List Bool) → List ℕ
 online_but primary online = filter (λ c. slice_index_or online c false && not (c == primary)) (numbers (length online))

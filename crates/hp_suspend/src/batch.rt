@@ -1,15 +1,11 @@
 //! The walks of an upmany.
 
-ghost use Rattle.std.specs.Prelude.{◌≡◌, ℕ, ◌+◌, ◌<◌, ◌≤◌, List, [], ◌∷◌, ◌++◌, length, true, not, ◌==◌, ◌&&◌};
+ghost use Rattle.std.specs.Prelude.{◌≡◌, ℕ, ◌+◌, ◌<◌, ◌≤◌, length, true, not, ◌==◌, ◌&&◌};
 ghost use Rattle.hp_states.specs.declared.limits.TheConstants.{MAX_CPUS as MAX_CPUS_OF, MAX_CPU_SET, MAX_EVENTS};
 ghost use Rattle.hp_states.specs.CpuSets.{has};
 ghost use Rattle.hp_event.specs.declared.op.Op.TheVariants as op;
-ghost use Rattle.hp_event.specs.declared.head.Head.{Head};
-ghost use Rattle.hp_event.specs.declared.event.Event.{Event};
-ghost use Rattle.hp_event.specs.declared.event.Event.TheVariants.{Enter};
-ghost use Rattle.hp_suspend.specs.Batching.{IsBatching, BatchBegan, BatchTook};
+ghost use Rattle.hp_suspend.specs.Batching.{BatchEnters, BatchBegan, BatchTook};
 ghost use Rattle.hp_suspend.specs.ByJournal.{IsNextOfBatch};
-ghost use Rattle.hp_suspend.specs.Tables.{AreSettled};
 
 use hp_event::Answer;
 use hp_states::{CpuSet, ONLINE};
@@ -34,8 +30,7 @@ impl Batch {
     /// the list.
     pub fn begin(set: &CpuSet, settled: &[u32]) -> Batch
         requires few { length settled.now ≤ MAX_CPUS_OF }
-        ensures { (head : Head) (before : List Event) (seat : ℕ) → AreSettled head before settled.now →
-            IsBatching head before (before ++ Enter seat (op.UpMany set.now) ∷ []) set.now result }
+        ensures { BatchEnters set.now settled.now result }
     {
         let mut left = CpuSet::none();
         for cpu in 0..settled.len() as u32 {

@@ -1,11 +1,9 @@
 //! The walks of a boot.
 
-ghost use Rattle.std.specs.Prelude.{◌≡◌, ℕ, ◌+◌, ◌<◌, ◌≤◌, Some, List, [], ◌∷◌, ◌++◌, length, slice_get};
+ghost use Rattle.std.specs.Prelude.{◌≡◌, ◌<◌, ◌≤◌, length, slice_get};
 ghost use Rattle.hp_event.specs.declared.op.Op.TheVariants as op;
-ghost use Rattle.hp_event.specs.declared.event.Event.{Event};
-ghost use Rattle.hp_event.specs.declared.event.Event.TheVariants.{Enter, WalkEnd};
 ghost use Rattle.hp_suspend.specs.Asked.{meaning};
-ghost use Rattle.hp_suspend.specs.Booting.{IsBooting};
+ghost use Rattle.hp_suspend.specs.Booting.{BootEnters, BootTook};
 ghost use Rattle.hp_suspend.specs.ByLists.{next_of_boot, boot_after, online_count, present_offline};
 ghost use Rattle.hp_suspend.specs.ByJournal.{IsNextOfBoot};
 
@@ -30,7 +28,7 @@ impl Boot {
     ///
     /// Takes no memory. After `bringup_nonboot_cpus` of `kernel/cpu.c`.
     pub fn begin(max: u32) -> Boot
-        ensures booting { (before : List Event) (seat : ℕ) → IsBooting max (before ++ Enter seat (op.Boot max) ∷ []) result }
+        ensures booting { BootEnters max result }
         ensures none_failed { (result.failed ≡ 0) × (result.turned_back ≡ 0) }
     {
         Boot {
@@ -79,8 +77,7 @@ impl Boot {
     pub fn took(&mut self, answer: Answer)
         requires failed { self.old.failed < MAX_EVENTS }
         requires turned_back { self.old.turned_back < MAX_EVENTS }
-        ensures booting { (max : ℕ) (events : List Event) (seat cpu : ℕ) → IsBooting max events self.old →
-            IsBooting max (events ++ WalkEnd seat cpu answer ∷ []) self.new }
+        ensures booting { BootTook self.old answer self.new }
         ensures counted { self.new ≡ boot_after self.old answer }
     {
         if !answer.is_ok() {

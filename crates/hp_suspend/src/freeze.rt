@@ -1,16 +1,12 @@
 //! The walks of a freeze.
 
-ghost use Rattle.std.specs.Prelude.{◌≡◌, ℕ, List, [], ◌∷◌, ◌++◌, ◌≤◌, length, filter, slice_get, slice_index_or, false, Some};
+ghost use Rattle.std.specs.Prelude.{◌≡◌, ◌≤◌, length, slice_get};
 ghost use Rattle.hp_event.specs.declared.op.Op.TheVariants as op;
-ghost use Rattle.hp_event.specs.declared.head.Head.{Head};
-ghost use Rattle.hp_event.specs.declared.event.Event.{Event};
-ghost use Rattle.hp_event.specs.declared.event.Event.TheVariants.{Enter};
-ghost use Rattle.hp_model.specs.Lists.{among, numbers};
+ghost use Rattle.hp_model.specs.Lists.{among};
 ghost use Rattle.hp_model.specs.Sequence.{first_of, primary_of};
 ghost use Rattle.hp_suspend.specs.Asked.{meaning};
-ghost use Rattle.hp_suspend.specs.Tables.{AreOnline};
-ghost use Rattle.hp_suspend.specs.Freezing.{IsFreezing, FreezeTook};
-ghost use Rattle.hp_suspend.specs.ByLists.{next_of_freeze, freeze_after, online_but};
+ghost use Rattle.hp_suspend.specs.Freezing.{FreezeEnters, FreezeTook};
+ghost use Rattle.hp_suspend.specs.ByLists.{next_of_freeze, freeze_after, all_online, online_but};
 ghost use Rattle.hp_suspend.specs.ByJournal.{IsNextOfFreeze};
 
 use crate::asked::{Asked, WalkAsk};
@@ -36,8 +32,7 @@ impl Freeze {
     /// and a time linear in the list. After `freeze_secondary_cpus` of `kernel/cpu.c`.
     pub fn begin(primary: i32, online: &[bool]) -> Freeze
         requires { length online.now ≤ MAX_CPUS }
-        ensures { (head : Head) (before : List Event) (seat : ℕ) → AreOnline head before online.now →
-            IsFreezing head before (before ++ Enter seat (op.Freeze primary) ∷ []) primary result }
+        ensures { FreezeEnters primary online.now result }
     {
         Freeze {
             primary: left_online(primary, online),
@@ -89,7 +84,7 @@ impl Freeze {
 /// The processor that a freeze leaves online.
 fn left_online(primary: i32, online: &[bool]) -> u32
     requires { length online.now ≤ MAX_CPUS }
-    ensures { result ≡ primary_of primary (filter (λ c. slice_index_or online.now c false) (numbers (length online.now))) }
+    ensures { result ≡ primary_of primary (all_online online.now) }
 {
     if primary >= 0 && is_online(online, primary as u32) {
         primary as u32
@@ -100,7 +95,7 @@ fn left_online(primary: i32, online: &[bool]) -> u32
 
 /// Whether a processor is possible and online.
 fn is_online(online: &[bool], cpu: u32) -> bool
-    ensures { result ≡ among cpu (filter (λ c. slice_index_or online.now c false) (numbers (length online.now))) }
+    ensures { result ≡ among cpu (all_online online.now) }
 {
     (cpu as usize) < online.len() && online[cpu as usize]
 }
@@ -108,7 +103,7 @@ fn is_online(online: &[bool], cpu: u32) -> bool
 /// The lowest processor that is online, or 0 where none is.
 fn lowest(online: &[bool]) -> u32
     requires { length online.now ≤ MAX_CPUS }
-    ensures { result ≡ first_of (filter (λ c. slice_index_or online.now c false) (numbers (length online.now))) }
+    ensures { result ≡ first_of (all_online online.now) }
 {
     for cpu in 0..online.len() as u32 {
         if online[cpu as usize] {

@@ -1,11 +1,9 @@
 //! The walks of a thaw.
 
-ghost use Rattle.std.specs.Prelude.{◌≡◌, ℕ, ◌+◌, ◌<◌, ◌≤◌, Some, List, [], ◌∷◌, ◌++◌, length, slice_get};
+ghost use Rattle.std.specs.Prelude.{◌≡◌, ◌<◌, ◌≤◌, length, slice_get};
 ghost use Rattle.hp_event.specs.declared.op.Op.TheVariants as op;
-ghost use Rattle.hp_event.specs.declared.event.Event.{Event};
-ghost use Rattle.hp_event.specs.declared.event.Event.TheVariants.{Enter, WalkEnd};
 ghost use Rattle.hp_suspend.specs.Asked.{meaning};
-ghost use Rattle.hp_suspend.specs.Thawing.{IsThawing};
+ghost use Rattle.hp_suspend.specs.Thawing.{ThawEnters, ThawTook};
 ghost use Rattle.hp_suspend.specs.ByLists.{next_of_thaw, thaw_after, frozen_below};
 ghost use Rattle.hp_suspend.specs.ByJournal.{IsNextOfThaw};
 
@@ -26,7 +24,7 @@ impl Thaw {
     ///
     /// Takes no memory. After `thaw_secondary_cpus` of `kernel/cpu.c`.
     pub fn begin() -> Thaw
-        ensures thawing { (before : List Event) (seat : ℕ) → IsThawing (before ++ Enter seat op.Thaw ∷ []) result }
+        ensures thawing { ThawEnters result }
         ensures none_failed { result.failed ≡ 0 }
     {
         Thaw { failed: 0 }
@@ -65,8 +63,7 @@ impl Thaw {
     /// own.
     pub fn took(&mut self, answer: Answer)
         requires { self.old.failed < MAX_EVENTS }
-        ensures thawing { (events : List Event) (seat cpu : ℕ) → IsThawing events self.old →
-            IsThawing (events ++ WalkEnd seat cpu answer ∷ []) self.new }
+        ensures thawing { ThawTook self.old answer self.new }
         ensures counted { self.new ≡ thaw_after self.old answer }
     {
         if !answer.is_ok() {

@@ -1,6 +1,6 @@
 -- The instances of a state, and of the whole table. After the instance list of a `struct cpuhp_step` and its
 -- `multi_instance` of `kernel/cpu.c`; how many there may be is this project's own.
-use Rattle.std.specs.Prelude.{◌≡◌, ℕ, Bool, true, false, not, ◌&&◌, ◌||◌, ◌==◌, nat_le, Option, Some, None, List, [], ◌∷◌, length, filter, sum_by}
+use Rattle.std.specs.Prelude.{◌≡◌, ℕ, Bool, true, false, not, ◌&&◌, ◌||◌, ◌==◌, nat_le, IsTrue, Option, Some, None, List, [], ◌∷◌, length, filter, sum_by}
 use Rattle.std.specs.List.{list_any}
 use Rattle.hp_states.specs.declared.limits.TheConstants.{MAX_INSTANCES, MAX_TABLE_INSTANCES}
 use Rattle.hp_table.specs.Step.{Step, step_at}
@@ -56,3 +56,16 @@ pub record CanAdd (places : List (Option Step)) (state inst : ℕ) : Type 0 wher
   pub taken : takes places state inst ≡ true
   pub new : has_instance places state inst ≡ false
   pub room : has_no_room places state ≡ false
+
+-- one that the state may have, and has
+abbrev pub HasAlready : List (Option Step) → (state inst : ℕ) → Type 0
+HasAlready places s inst = IsTrue (takes places s inst) × IsTrue (has_instance places s inst)
+
+-- one that the state may have and hasn't, and has no room for
+abbrev pub LacksRoomFor : List (Option Step) → (state inst : ℕ) → Type 0
+LacksRoomFor places s inst =
+    IsTrue (takes places s inst) × (has_instance places s inst ≡ false) × IsTrue (has_no_room places s)
+
+-- whether an instance can be taken out: the state has an instance list, and it is there
+abbrev pub can_remove : List (Option Step) → (state inst : ℕ) → Bool
+can_remove places s inst = is_multi_at places s && has_instance places s inst

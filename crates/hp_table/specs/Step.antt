@@ -1,10 +1,10 @@
 -- What contracts see of the table: a place for each state, from the lowest on, with what is registered there. After
 -- `cpuhp_hp_states` of `kernel/cpu.c`, an array of `struct cpuhp_step`.
-use Rattle.std.specs.Prelude.{◌≡◌, ℕ, Bool, true, Option, Some, None, IfSome, List, [], slice_get, slice_set}
+use Rattle.std.specs.Prelude.{◌≡◌, ℕ, Bool, true, Option, Some, None, IfSome, IsSome, List, [], slice_get, slice_set}
 use Rattle.hp_states.specs.Rules.{Site}
 use Rattle.hp_states.specs.declared.plan.Rule.{Rule}
 use Rattle.hp_hook.specs.Counted.{Counts}
-use Rattle.hp_table.specs.Kept.{Kept, called, loaded, lent, with_hook}
+use Rattle.hp_table.specs.Kept.{Kept, answer_at, called, loaded, lent, with_hook}
 
 -- what is registered at a state: the record, and the instances, newest first
 pub record Step : Type 0 where
@@ -57,6 +57,10 @@ step_with counts step = record { kept = with_hook counts step.kept; insts = step
 abbrev pub HasCounted : Counts → Option Step → Type 0
 HasCounted counts place = IfSome place (λ step. counts ≡ step.kept.counts)
 
+-- the hook of what is registered answers this to a call
+abbrev pub Answers : Option Step → Site → (answer : ℕ) → Type 0
+Answers place site answer = IfSome place (λ step. answer ≡ answer_at step.kept site)
+
 -- whether the hook of what is registered is there; where nothing is there is none to miss
 abbrev pub is_home : Option Step → Bool
 is_home None = true
@@ -65,3 +69,7 @@ is_home (Some step) = step.kept.home
 -- every hook is there
 abbrev pub AllHome : List (Option Step) → Type 0
 AllHome places = (s : ℕ) → is_home (step_at places s) ≡ true
+
+-- something is registered, and its hook is there
+abbrev pub HasHook : Option Step → Type 0
+HasHook place = IsSome place × (is_home place ≡ true)

@@ -1,11 +1,10 @@
 //! The table of states.
 
-ghost use Rattle.std.specs.Prelude.{◌≡◌, ◌≢◌, ◌+◌, ◌<◌, ◌≤◌, ◌↔◌, ◌⊎◌, ◌&&◌, Some, None, true, false, IfOk, IfErr, IfSome, IsOk, IsErrOf, IsSome, IsTrue, OnOk, OnErr, [], slice_set, replicate};
+ghost use Rattle.std.specs.Prelude.{◌≡◌, ◌≢◌, ◌+◌, ◌<◌, ◌≤◌, ◌↔◌, ◌⊎◌, Some, None, true, false, IfOk, IfErr, IfSome, IsOk, IsErrOf, IsSome, OnOk, OnErr, [], slice_set, replicate};
 ghost use Rattle.std.specs.Option.{option_copied};
 ghost use Rattle.hp_states.specs.Rules.{site_at};
-ghost use Rattle.hp_table.specs.Kept.{answer_at};
-ghost use Rattle.hp_table.specs.Step.{step_at, bare, changed_at, kept_of, called_step, loaded_step, lent_step, step_with, is_home, HasCounted};
-ghost use Rattle.hp_table.specs.Named.{is_named};
+ghost use Rattle.hp_table.specs.Step.{step_at, bare, changed_at, kept_of, called_step, loaded_step, lent_step, step_with, is_home, HasCounted, Answers, HasHook};
+ghost use Rattle.hp_table.specs.Named.{is_named, IsAtAnEnd, IsFree, IsTaken};
 ghost use Rattle.hp_table.specs.Slots.{IsLowestFree, IsFull};
 ghost use Rattle.hp_table.specs.Instances.{instances_at};
 ghost use Rattle.hp_table.specs.Sound.{IsSound};
@@ -130,11 +129,10 @@ impl<H: Hook> Table<H> {
     /// and `cpuhp_cb_check` for the first refusal.
     pub fn install(&mut self, state: u32, rec: Record<H>) -> Result<(), (TableError, Record<H>)>
         requires { rec.home ≡ true }
-        ensures ok { IsOk result ↔ ((OFFLINE < state) × (state < ONLINE) × (is_named self.old state ≡ false)) }
+        ensures ok { IsOk result ↔ IsFree self.old state }
         ensures installed { OnOk result (self.new ≡ slice_set self.old state (Some (bare rec))) }
-        ensures invalid { IsErrOf result (TableError.Invalid, rec) ↔ ((state ≡ OFFLINE) ⊎ (ONLINE ≤ state)) }
-        ensures busy { IsErrOf result (TableError.Busy, rec)
-            ↔ ((OFFLINE < state) × (state < ONLINE) × IsTrue (is_named self.old state)) }
+        ensures invalid { IsErrOf result (TableError.Invalid, rec) ↔ IsAtAnEnd state }
+        ensures busy { IsErrOf result (TableError.Busy, rec) ↔ IsTaken self.old state }
         ensures err { OnErr result (self.new ≡ self.old) }
     {
         if state == OFFLINE || state >= ONLINE {
@@ -213,8 +211,7 @@ impl<H: Hook> Table<H> {
         requires registered { IsSome (step_at self.old state) }
         requires home { is_home (step_at self.old state) ≡ true }
         requires few { IfSome (step_at self.old state) (λ step. step.kept.counts.made < MAX_EVENTS) }
-        ensures answer { IfSome (step_at self.old state) (λ step.
-            result ≡ answer_at step.kept (site_at cpu inst dir)) }
+        ensures answer { Answers (step_at self.old state) (site_at cpu inst dir) result }
         ensures called { self.new ≡ changed_at self.old state (called_step (site_at cpu inst dir)) }
     {
         let place = state as usize;
@@ -257,8 +254,7 @@ impl<H: Hook> Table<H> {
     /// None exactly where nothing is registered at the state, or its hook is lent; then nothing has
     /// changed. Takes no memory. That hooks are lent is this project's own.
     pub fn lend(&mut self, state: u32) -> Option<H>
-        ensures some { IsSome result
-            ↔ (IsSome (step_at self.old state) × (is_home (step_at self.old state) ≡ true)) }
+        ensures some { IsSome result ↔ HasHook (step_at self.old state) }
         ensures hook { IfSome result (λ h. HasCounted (H.counts h) (step_at self.old state)) }
         ensures lent { self.new ≡ changed_at self.old state lent_step }
     {

@@ -1,6 +1,7 @@
 -- The count step keeps the rule: what a section added is told, and no other view is wronged.
 use Rattle.std.proofs.Common.{◌≡◌, ◌≢◌, inr, ℕ, ◌+◌, ◌-◌, ◌%◌, ◌^◌, ◌≤◌, true, false, All, List, [], ◌∷◌, ◌++◌, length, get_or, sym, refl, ap, ◌∙◌, subst, ⊎_elim, arith, length-set, get_or-set_other, get_or-set_same, mod-eq_of_lt, Option, Some, None}
 use Rattle.std.proofs.lemmas.List.Elements.{All-nil, All-cons, All-weaker}
+use Rattle.hp_states.proofs.Basics.{cases_bool, none_some}
 use mathlib.Core.Option.{some}
 use lib.ListN.{get_elem?}
 use Rattle.atomic_table.specs.Table.{State, Me, keeps, Allows}
@@ -20,7 +21,7 @@ use Rattle.hp_turn.specs.Views.{held_of, after_count}
 use Rattle.hp_turn.specs.Turn.{Fits, HasSeat, HasRight, Free, Taken, Kept, counted}
 use Rattle.hp_turn.proofs.Prefixes.{prefix_trans, prefix_length}
 use Rattle.hp_turn.proofs.Stories.{has_before, has_not, has_last, knows_self, knows_more, knows_prefix, keeps_seat, gets_seat}
-use Rattle.hp_turn.proofs.Tables.{none_some, bool_cases, set_there, each_set, alone_set, alone_same}
+use Rattle.hp_turn.proofs.Tables.{set_there, each_set, alone_set, alone_same}
 use Rattle.hp_turn.proofs.Holders.{is_holder}
 
 module _ {V : Type 0} (head : V → Head) (story : V → List Event) (aside : V → List (ℕ × Aside)) where
@@ -113,7 +114,7 @@ module _ {V : Type 0} (head : V → Head) (story : V → List Event) (aside : V 
             nobody j x at_j awake (has ∙ ap Some (sym is_n))));
         seats = λ k is j x ne at_j has. let e : Some n ≡ Some k = sym same ∙ is in let is_n : n ≡ k = cc e in
             ⊎_elim (λ gone. none_some k (sym (r.spent_idle j x at_j gone) ∙ has))
-            (λ awake. nobody j x at_j awake (has ∙ ap Some (sym is_n))) (bool_cases x.spent);
+            (λ awake. nobody j x at_j awake (has ∙ ap Some (sym is_n))) (cases_bool x.spent);
       }
 
   counted_views : (s : St) (r : Rule s) (id : ℕ) (v : View) (t : Held) (added u : List Event) (qs : List (ℕ × Aside)) →

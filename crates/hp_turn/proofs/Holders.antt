@@ -1,5 +1,6 @@
 -- Who holds the lock, and what stays where a seat that does not hold it changes its view.
 use Rattle.std.proofs.Common.{◌≡◌, ◌≢◌, ◌⊎◌, inl, inr, ℕ, true, false, List, get_or, set, sym, ap, ◌∙◌, subst, ⊎_elim, Option, Some, None}
+use Rattle.hp_states.proofs.Basics.{none_some}
 use mathlib.Core.Logic.{dite}
 use mathlib.Core.Option.{some, some-injective}
 use native.Mathlib.Decide.{ℕ_discrete}
@@ -14,7 +15,7 @@ use Rattle.hp_turn.specs.declared.view.Held.{Held}
 use Rattle.hp_turn.specs.declared.view.View.{View}
 use Rattle.hp_turn.specs.Views.{view, held_of}
 use Rattle.hp_turn.specs.Turn.{Fits, HasSeat, HasRight, Free, Taken, Kept}
-use Rattle.hp_turn.proofs.Tables.{none_some, each_set, alone_set, alone_same}
+use Rattle.hp_turn.proofs.Tables.{each_set, alone_set, alone_same}
 
 -- the same facts hold of a view that says the same
 pub fits_like : (h : Head) (told : List Event) (ps : List (ℕ × Aside)) (v : View) (misses : ℕ) (held : Option Held) → Fits h told ps v →

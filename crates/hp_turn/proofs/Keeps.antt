@@ -1,5 +1,6 @@
 -- The lock is made, taken and released by the rule.
 use Rattle.std.proofs.Common.{◌≡◌, ◌≢◌, inl, inr, ℕ, ◌<◌, ◌≤◌, eqb, true, false, List, [], ◌∷◌, length, get_or, sym, refl, ap, ◌∙◌, subst, ⊎_elim, arith, length-set, get_or-set_other, get_or-set_same, Option, Some, None}
+use Rattle.hp_states.proofs.Basics.{none_some}
 use mathlib.Core.Option.{some, some-ne-none}
 use prog.Atomic.{either}
 use Rattle.atomic_table.specs.Table.{State, Me, Act, keeps, takes, gives, stepped, Valid, carried_after, Allows, opening}
@@ -15,7 +16,7 @@ use Rattle.hp_turn.specs.Story.{Knows}
 use Rattle.hp_turn.specs.Views.{fresh, held_of, holding, missed, freed}
 use Rattle.hp_turn.specs.Turn.{Fits, HasSeat, HasRight, Free, Taken, Kept, locked, released}
 use Rattle.hp_turn.proofs.Stories.{knows_self}
-use Rattle.hp_turn.proofs.Tables.{none_some, set_there, each_set, each_end, alone_same, alone_end}
+use Rattle.hp_turn.proofs.Tables.{set_there, each_set, each_end, alone_same, alone_end}
 use Rattle.hp_turn.proofs.Holders.{is_holder, loaded, fits_like}
 
 module _ {V : Type 0} (head : V → Head) (story : V → List Event) (aside : V → List (ℕ × Aside)) where

@@ -1,5 +1,6 @@
 -- Passes are split and joined by the rule, and what the load after a join tells.
 use Rattle.std.proofs.Common.{◌≡◌, ◌≢◌, ◌||◌, inl, inr, ℕ, true, false, List, [], ◌∷◌, set, sym, refl, ap, ◌∙◌, subst, ⊎_elim, Option, Some, None}
+use Rattle.hp_states.proofs.Basics.{none_some}
 use mathlib.Core.Option.{some}
 use mathlib.Core.List.{IsPrefix}
 use lib.ListN.{get_elem?}
@@ -14,7 +15,7 @@ use Rattle.hp_turn.specs.Story.{Knows, longer}
 use Rattle.hp_turn.specs.Views.{spent, settled, split_left, split_right, joined}
 use Rattle.hp_turn.specs.Turn.{WereHeard, Fits, HasSeat, HasRight, Free, Taken, Kept, learned}
 use Rattle.hp_turn.proofs.Stories.{has_before, knows_until, knows_new, knows_without, knows_prefix, knows_both, longest, or_left, or_cases}
-use Rattle.hp_turn.proofs.Tables.{none_some, set_swap, each_set, each_end, alone_set, alone_same, alone_end}
+use Rattle.hp_turn.proofs.Tables.{set_swap, each_set, each_end, alone_set, alone_same, alone_end}
 use Rattle.hp_turn.proofs.Holders.{not_holder, moved, loaded}
 
 module _ {V : Type 0} (head : V → Head) (story : V → List Event) (aside : V → List (ℕ × Aside)) where

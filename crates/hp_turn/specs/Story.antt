@@ -1,5 +1,6 @@
 -- Stories: what a pass knows of one, and what a section may add to it. This project's own.
-use Rattle.std.specs.Prelude.{◌≡◌, ◌≢◌, ◌⊎◌, ℕ, Bool, true, false, List, [], ◌∷◌, length, drop, cond, ltb, Option, Some, None, All}
+use Rattle.std.specs.Prelude.{◌≡◌, ◌≢◌, ◌⊎◌, ℕ, ◌≤◌, Bool, true, false, List, [], ◌∷◌, ◌++◌, length, drop, cond, ltb, Option, Some, None, All}
+use Rattle.hp_states.specs.declared.limits.TheConstants.{MAX_EVENTS}
 use Rattle.hp_event.specs.declared.event.Role.{Role}
 use Rattle.hp_event.specs.declared.event.Event.{Event}
 use Rattle.hp_event.specs.declared.event.Event.TheVariants.{Admit}
@@ -28,6 +29,14 @@ pub record Knows (seat : Option ℕ) (admits : Bool) (front story : List Event) 
 -- an event of the seat that admits nobody
 abbrev pub IsOwn : (seat : Option ℕ) → Event → Type 0
 IsOwn seat e = (seat ≡ Some (seat_of e)) × IsNoAdmit e
+
+-- events of the seat that admit nobody were added
+abbrev pub AddsOwn : (seat : ℕ) → (old new : List Event) → Type 0
+AddsOwn k old new = (added : List Event) × (old ++ added ≡ new) × All (IsOwn (Some k)) added
+
+-- no event was added that a journal has no room for
+abbrev pub KeepsLimit : (old new : List Event) → Type 0
+KeepsLimit old new = length old ≤ MAX_EVENTS → length new ≤ MAX_EVENTS
 
 -- one Admit, of a seat that isn't in the story, by who has the right to admit and no seat
 pub record AdmitsOne (seat : Option ℕ) (admits : Bool) (story added : List Event) : Type 0 where

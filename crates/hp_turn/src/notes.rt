@@ -1,13 +1,11 @@
 //! A value for the tests: a head and the events so far.
 
-ghost use Rattle.std.specs.Prelude.{◌≡◌, ◌≤◌, ◌++◌, ◌∷◌, ◌==◌, not, true, false, Some, List, [], All, length};
+ghost use Rattle.std.specs.Prelude.{◌≡◌, ◌++◌, ◌∷◌, ◌==◌, not, true, false, []};
 ghost use Rattle.std.specs.List.{list_all};
-ghost use Rattle.hp_states.specs.declared.limits.TheConstants.{MAX_EVENTS as THE_MAX_EVENTS};
 ghost use Rattle.hp_event.specs.declared.event.Role.TheVariants.{Client as AClient};
-ghost use Rattle.hp_event.specs.declared.event.Event.{Event as AnEvent};
 ghost use Rattle.hp_event.specs.declared.event.Event.TheVariants.{Admit as AnAdmit};
 ghost use Rattle.hp_model.specs.Events.{seat_of};
-ghost use Rattle.hp_turn.specs.Story.{IsOwn};
+ghost use Rattle.hp_turn.specs.Story.{AddsOwn, KeepsLimit};
 
 use crate::Grown;
 use hp_event::{Event, Head, Role};
@@ -42,10 +40,8 @@ impl Notes {
     /// Notes one more act of a seat, a number; false where there is no room or no memory.
     pub fn act(&mut self, seat: u32, value: i32) -> bool
         ensures head { self.new.head ≡ self.old.head }
-        ensures story { (added : List AnEvent) ×
-            (self.old.events.items ++ added ≡ self.new.events.items) × All (IsOwn (Some seat)) added }
-        ensures room { length self.old.events.items ≤ THE_MAX_EVENTS →
-            length self.new.events.items ≤ THE_MAX_EVENTS }
+        ensures story { AddsOwn seat self.old.events.items self.new.events.items }
+        ensures room { KeepsLimit self.old.events.items self.new.events.items }
     {
         if self.events.len() as u64 >= u64::from(MAX_EVENTS) {
             return false;
@@ -63,8 +59,7 @@ impl Notes {
     /// room or no memory.
     pub fn admit(&mut self, seat: u32) -> bool
         ensures head { self.new.head ≡ self.old.head }
-        ensures room { length self.old.events.items ≤ THE_MAX_EVENTS →
-            length self.new.events.items ≤ THE_MAX_EVENTS }
+        ensures room { KeepsLimit self.old.events.items self.new.events.items }
         ensures no { result ≡ false → self.new.events.items ≡ self.old.events.items }
         ensures yes { result ≡ true →
             self.new.events.items ≡ self.old.events.items ++ AnAdmit seat AClient ∷ [] }

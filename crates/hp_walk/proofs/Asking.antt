@@ -2,6 +2,7 @@
 use Rattle.std.proofs.Common.{◌≡◌, ℕ, ◌+◌, Bool, true, false, cond, eqb, Some, List, [], ◌∷◌, take, drop, refl}
 use Rattle.std.specs.Prelude.{slice_index}
 use Rattle.std.proofs.lemmas.Bool.{false≢true}
+use Rattle.hp_states.proofs.Basics.{none_some, same_some}
 use Rattle.hp_states.specs.declared.dir.Dir.{Dir}
 use Rattle.hp_states.specs.declared.place.Place.{Place}
 use Rattle.hp_states.specs.declared.place.Place.TheVariants as placed
@@ -17,7 +18,6 @@ use Rattle.hp_model.specs.WalkShape.{IsWholeWalk}
 use Rattle.hp_model.proofs.NextSlot.{Tree, stop, dead, step, walk_tree}
 use Rattle.hp_model.proofs.Cursor.{IsLive, sound_below, sound_walk, sound_back, sound_part, next_of}
 use Rattle.hp_model.proofs.WalkEnd.{whole_walk}
-use Rattle.hp_model.proofs.Owners.{same_some, none_some}
 use Rattle.hp_walk.specs.declared.position.Position.{Position}
 use Rattle.hp_walk.specs.declared.position.Position.TheVariants.{Forward, UndoingPart, Back, RedoingPart, Ended}
 use Rattle.hp_walk.specs.declared.walk.Walk.{Walk}

@@ -11,7 +11,7 @@ use Rattle.hp_event.specs.declared.key.Key.{Key}
 use Rattle.hp_states.specs.Crossings.{state_before, state_after}
 use Rattle.hp_model.specs.Faults.{Faulty, faults, walk_answer}
 use Rattle.hp_model.specs.Plan.{direction, plan}
-use Rattle.hp_model.specs.Shown.{shown_after}
+use Rattle.hp_model.specs.Shown.{shown_after, heading}
 use Rattle.hp_model.specs.StandsCalls.{IsNextInWalk}
 use Rattle.hp_model.specs.WalkShape.{IsWholeWalk}
 use Rattle.hp_model.specs.Trees.{Tree, stop, visit_tree, part_tree, back_tree, walk_tree}
@@ -95,3 +95,11 @@ abbrev pub Asks : (keys : ℕ → List ℕ) → (entries : List Event) → Walk 
 Asks keys entries w (ask.Call key d place first) = ComesNext keys entries w key d place first
 Asks keys entries w (ask.Ended answer) =
     IsWholeWalk w.cpu keys (direction w.from w.to) (plan keys w.from w.to) entries answer
+
+-- this goes on with whatever entries the walk stands after
+abbrev pub GoesOn : (keys : ℕ → List ℕ) → Walk → Step → Type 0
+GoesOn keys w next = (entries : List Event) → IsAfter keys entries w → Asks keys entries w next
+
+-- whatever entries it stands after, this is where the walk goes by them: to its target, or back to where it began
+abbrev pub HeadsTo : Walk → (state : ℕ) → Type 0
+HeadsTo w s = (keys : ℕ → List ℕ) (entries : List Event) → IsAfter keys entries w → s ≡ heading w.from w.to entries

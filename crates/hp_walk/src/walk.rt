@@ -1,14 +1,12 @@
 //! The walk.
 
-ghost use Rattle.std.specs.Prelude.{◌≡◌, ◌≢◌, ℕ, ◌*◌, ◌<◌, ◌≤◌, true, List, [], length};
+ghost use Rattle.std.specs.Prelude.{◌≡◌, ◌≢◌, ◌*◌, ◌<◌, ◌≤◌, true, [], length};
 ghost use Rattle.hp_event.specs.declared.answer.Answer.{Answer as AnAnswer};
-ghost use Rattle.hp_event.specs.declared.event.Event.{Event};
 ghost use Rattle.hp_model.specs.Entries.{is_done};
-ghost use Rattle.hp_model.specs.Shown.{heading};
 ghost use Rattle.hp_states.specs.Crossings.{state_after};
 ghost use Rattle.hp_walk.specs.Keys.{keys_by};
 ghost use Rattle.hp_walk.specs.Asked.{asked, call_at, FitsStep};
-ghost use Rattle.hp_walk.specs.After.{IsWithin, IsAfter, Asks, entries_left};
+ghost use Rattle.hp_walk.specs.After.{IsWithin, IsAfter, GoesOn, HeadsTo, entries_left};
 ghost use Rattle.hp_model.specs.Plan.{keys_on};
 ghost use Rattle.hp_walk.specs.Took.{Took, IsNextOnTheWay, IsNextInRollback};
 
@@ -95,8 +93,7 @@ impl Walk {
     pub fn next<H: Hook>(&self, table: &Table<H>) -> Step
         requires { IsWithin (keys_by table.now) self.now }
         ensures asked { result ≡ asked (keys_by table.now) self.now }
-        ensures means { (entries : List Event) → IsAfter (keys_by table.now) entries self.now →
-            Asks (keys_by table.now) entries self.now result }
+        ensures means { GoesOn (keys_by table.now) self.now result }
     {
         let dir = Dir::between(self.from, self.to);
         match self.position {
@@ -160,8 +157,7 @@ impl Walk {
     /// first fault on where it began. Takes no memory. What the file shows in flight is this
     /// project's own.
     pub fn target(&self) -> u32
-        ensures { (keys : ℕ → List ℕ) (entries : List Event) → IsAfter keys entries self.now →
-            result ≡ heading self.now.from self.now.to entries }
+        ensures { HeadsTo self.now result }
     {
         if self.position.is_faultless() {
             self.to

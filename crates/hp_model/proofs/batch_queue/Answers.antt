@@ -11,9 +11,9 @@ returns-clause-turn c = λ seat none is. queue_turn c.args.head.now c.args.event
 
 pub returns-clause-moves : goal.returns-clause-moves
 returns-clause-moves c =
-    λ o lawful comes held many then is.
+    λ lawful o comes held many then is.
     queue_moves c.args.head.now c.args.events.now c.args.event.now o c.args.queue.now
     (owners c.args.head.now c.args.events.now lawful) comes held many then is
 
 pub returns-clause-fits : goal.returns-clause-fits
-returns-clause-fits c = λ seat lawful is. queue_fits c.args.head.now c.args.events.now seat c.args.queue.now lawful is
+returns-clause-fits c = λ lawful seat is. queue_fits c.args.head.now c.args.events.now seat c.args.queue.now lawful is

@@ -1,8 +1,8 @@
 //! The instances of the table's states, and its keys.
 
-ghost use Rattle.std.specs.Prelude.{◌≡◌, ◌≢◌, ◌+◌, ◌<◌, ◌≤◌, ◌↔◌, ◌&&◌, true, false, AllPairs, IfErr, IsErrOf, IsSome, IsTrue, OnOk, OnErr, length, slice_index};
+ghost use Rattle.std.specs.Prelude.{◌≡◌, ◌≢◌, ◌+◌, ◌<◌, ◌≤◌, ◌↔◌, false, AllPairs, IfErr, IsErrOf, IsSome, IsTrue, OnOk, OnErr, length, slice_index};
 ghost use Rattle.hp_table.specs.Step.{step_at, bare, changed_at};
-ghost use Rattle.hp_table.specs.Instances.{instances_at, is_multi_at, has_instance, has_no_room, takes, CanAdd, with_instance, without_instance};
+ghost use Rattle.hp_table.specs.Instances.{instances_at, is_multi_at, has_instance, has_no_room, takes, CanAdd, with_instance, without_instance, HasAlready, LacksRoomFor, can_remove};
 ghost use Rattle.hp_table.specs.Keys.{keys_by, keys_of, keys_between};
 ghost use Rattle.hp_table.specs.Sound.{IsSound};
 
@@ -111,11 +111,8 @@ impl<H: Hook> Table<H> {
         ensures added { OnOk result (self.new ≡ changed_at self.old state (with_instance inst)) }
         ensures ok { OnOk result (CanAdd self.old state inst) }
         ensures invalid { IsErrOf result TableError.Invalid ↔ (takes self.old state inst ≡ false) }
-        ensures busy { IsErrOf result TableError.Busy
-            ↔ (IsTrue (takes self.old state inst) × IsTrue (has_instance self.old state inst)) }
-        ensures too_many { IsErrOf result TableError.TooMany
-            ↔ (IsTrue (takes self.old state inst) × (has_instance self.old state inst ≡ false)
-            × IsTrue (has_no_room self.old state)) }
+        ensures busy { IsErrOf result TableError.Busy ↔ HasAlready self.old state inst }
+        ensures too_many { IsErrOf result TableError.TooMany ↔ LacksRoomFor self.old state inst }
         ensures no_memory { IsErrOf result TableError.NoMemory → CanAdd self.old state inst }
         ensures no_other { IfErr result (λ error. error ≢ TableError.NoSpace) }
         ensures err { OnErr result (self.new ≡ self.old) }
@@ -194,8 +191,7 @@ impl<H: Hook> Table<H> {
     /// a state that isn't multi; that an absent instance is refused is this project's own.
     pub fn remove_instance(&mut self, state: u32, inst: u32) -> Result<(), TableError>
         ensures removed { OnOk result (self.new ≡ changed_at self.old state (without_instance inst)) }
-        ensures invalid { IsErrOf result TableError.Invalid
-            ↔ ((is_multi_at self.old state && has_instance self.old state inst) ≡ false) }
+        ensures invalid { IsErrOf result TableError.Invalid ↔ (can_remove self.old state inst ≡ false) }
         ensures no_other { IfErr result (λ error. error ≡ TableError.Invalid) }
         ensures err { OnErr result (self.new ≡ self.old) }
     {

@@ -7,15 +7,15 @@ use Rattle.hp_board.specs.HookCount.{hook_count}
 use Rattle.hp_board.proofs.Homes.{idle_home, turn_home}
 use Rattle.hp_model.specs.Seats.{is_busy}
 use Rattle.hp_actors.specs.Actors.{noted, with_ask}
-use Rattle.hp_actors.specs.Asking.{HasHook}
+use Rattle.hp_actors.specs.RunInvariant.{HasHook}
 use Rattle.hp_actors.specs.Positions.{ops_of}
 use Rattle.hp_actors.specs.Racks.{hooks_with}
-use Rattle.hp_actors.specs.Turned.{asked, event_for}
-use Rattle.hp_actors.specs.Waiting.{waited}
+use Rattle.hp_actors.specs.ActorTurns.{asked, event_for}
+use Rattle.hp_actors.specs.PassedOver.{waited}
 use Rattle.hp_actors.specs.declared.actor.Actor.{Actor}
-use Rattle.hp_actors.proofs.Asked.{asked_turned, same_ask}
+use Rattle.hp_actors.proofs.TurnsAsked.{asked_turned, same_ask}
 use Rattle.hp_actors.proofs.HooksTurned.{own_turned}
-use Rattle.hp_actors.proofs.Knowing.{ends_known, turn_notes}
+use Rattle.hp_actors.proofs.PassedOverStay.{ends_known, turn_notes}
 use Rattle.hp_actors.proofs.step.step.Given as given
 use Rattle.hp_actors.proofs.step.step.Goals as goal
 use Rattle.hp_actors.proofs.step.step.Goals.{In_err-turn}

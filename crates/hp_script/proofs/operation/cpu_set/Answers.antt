@@ -1,12 +1,13 @@
 use Rattle.std.proofs.Common.{◌≡◌, [], ◌∷◌, false, map, ap, sym, ◌∙◌, subst, arith}
 use Rattle.std.proofs.lemmas.Grind.{common_steps}
+use Rattle.hp_script.proofs.ReadLoop.{no_next}
 use Rattle.hp_model.specs.SetOf.{IsSet}
 use Rattle.hp_script.specs.Words.{words}
 use Rattle.hp_script.specs.Numbers.{value, is_within}
 use Rattle.hp_script.specs.declared.error.ScriptKind.TheVariants.{BadNumber}
 use Rattle.hp_script.specs.Ranges.{are_cpus}
 use Rattle.hp_script.proofs.Ranging.{passes, refuses}
-use Rattle.hp_script.proofs.CpuSetLoop.{SoFar, first_word, no_word, at_start, one_more, out_of_range, at_last}
+use Rattle.hp_script.proofs.CpuSetLoop.{SoFar, first_word, at_start, one_more, out_of_range, at_last}
 use Rattle.hp_script.proofs.operation.cpu_set.Goals as goal
 
 pub loop-word-init : goal.loop-word-init
@@ -41,6 +42,6 @@ loop-word-preserved c =
 
 pub returns : goal.returns
 returns c =
-    let left : words c.loop-word.rest.now ≡ [] = no_word (words c.loop-word.rest.now) c.in_default.ensures.word in
+    let left : words c.loop-word.rest.now ≡ [] = no_next (words c.loop-word.rest.now) c.in_default.ensures.word in
     at_last c.loop-word.set c.loop-word.low (map value (words c.args.bytes.now))
     (subst (λ ws. SoFar c.loop-word.set c.loop-word.low (map value ws) (map value (words c.args.bytes.now))) left c.loop-word.invariant)

@@ -6,8 +6,8 @@ use Rattle.hp_suspend.specs.Turns.{Queue}
 use Rattle.hp_walk.specs.Keys.{keys_by}
 use Rattle.hp_account.specs.declared.account.Account.{Account}
 use Rattle.hp_account.specs.After.{holders_after}
-use Rattle.hp_account.specs.Appending.{Appended, Flew, room_of_walk}
-use Rattle.hp_account.specs.BatchTurns.{is_batch, CanTurn, Turned, Awaited}
+use Rattle.hp_account.specs.Appending.{Appended, WalksChanged, room_of_walk}
+use Rattle.hp_account.specs.BatchTurns.{is_batch, CanTurn, TurnTaken, Awaited}
 use Rattle.hp_account.specs.Operations.{IsHeldBy}
 use Rattle.hp_account.proofs.OperationMore.{held_stays}
 use Rattle.hp_account.proofs.account.Account.take.Goals as goal
@@ -21,9 +21,9 @@ take_turn-requires-clause-turn g c =
     let keys = keys_by c.args.table.now in
     let batch = is_batch old.operation in
     let e : Event = Call x.seat x.cpu x.state x.inst x.dir x.how in
-    let called : Flew keys (room_of_walk keys batch c.args.need e) 0 e old.flights entered.flights = (t.flights, refl) in
-    let flew : Flew keys (room_of_walk keys batch c.args.need c.args.event.now) 0 c.args.event.now old.flights entered.flights =
-    subst (λ (a : Event). Flew keys (room_of_walk keys batch c.args.need a) 0 a old.flights entered.flights) (sym x.is) called in
+    let called : WalksChanged keys (room_of_walk keys batch c.args.need e) 0 e old.flights entered.flights = (t.flights, refl) in
+    let flew : WalksChanged keys (room_of_walk keys batch c.args.need c.args.event.now) 0 c.args.event.now old.flights entered.flights =
+    subst (λ (a : Event). WalksChanged keys (room_of_walk keys batch c.args.need a) 0 a old.flights entered.flights) (sym x.is) called in
     let can = c.requires.turns 0 entered.flights flew in
     let by_queue : CanTurn keys batch c.args.event.now entered.flights entered.turns =
     subst (λ (q : Queue). CanTurn keys batch c.args.event.now entered.flights q) (sym t.turns) can in
@@ -40,10 +40,10 @@ returns-in-Call g c =
     let x = c.in-Call in
     let keys = keys_by c.args.table.now in
     let e : Event = Call x.seat x.cpu x.state x.inst x.dir x.how in
-    let batched : Turned keys (is_batch old.operation) c.args.event.now new.flights entered.turns after =
-    subst (λ (b : Bool). Turned keys b c.args.event.now new.flights entered.turns after) c.is_batch-batch.ensures c.take_turn.ensures.turn in
-    let called : Turned keys (is_batch old.operation) e new.flights entered.turns after =
-    subst (λ (a : Event). Turned keys (is_batch old.operation) a new.flights entered.turns after) x.is batched in
+    let batched : TurnTaken keys (is_batch old.operation) c.args.event.now new.flights entered.turns after =
+    subst (λ (b : Bool). TurnTaken keys b c.args.event.now new.flights entered.turns after) c.is_batch-batch.ensures c.take_turn.ensures.turn in
+    let called : TurnTaken keys (is_batch old.operation) e new.flights entered.turns after =
+    subst (λ (a : Event). TurnTaken keys (is_batch old.operation) a new.flights entered.turns after) x.is batched in
     let awaits : Awaited keys (is_batch old.operation) c.args.event.now new.flights entered.awaited now =
     subst (λ (b : Bool). Awaited keys b c.args.event.now new.flights entered.awaited now) c.is_batch-batch.ensures c.take_turn.ensures.awaited in
     let awaited : Awaited keys (is_batch old.operation) e new.flights entered.awaited now =
@@ -64,7 +64,7 @@ returns-in-Call g c =
       flights = (t.flights, refl);
       registration = (t.registration, refl);
       freed_is = refl;
-      turns = subst (λ (q : Queue). Turned keys (is_batch old.operation) e new.flights q after) t.turns called;
+      turns = subst (λ (q : Queue). TurnTaken keys (is_batch old.operation) e new.flights q after) t.turns called;
       awaited = subst (λ (s : CpuSet). Awaited keys (is_batch old.operation) e new.flights s now) t.awaited awaited;
     } in
     subst (λ (a : Event). Appended (keys_by c.args.table.now) c.args.need 0 a old new) (sym x.is) is
@@ -86,12 +86,12 @@ returns g c =
       freed_by_walk = c.fly-freed_by_walk.result;
       freed_by_registration = c.register-freed_by_registration.result;
       flights =
-          subst (λ (n : ℕ). Flew keys n c.fly-freed_by_walk.result e old.flights c.fly-freed_by_walk.new.flights)
+          subst (λ (n : ℕ). WalksChanged keys n c.fly-freed_by_walk.result e old.flights c.fly-freed_by_walk.new.flights)
           (c.room_of_walk-room.ensures ∙ ap (λ (b : Bool). room_of_walk keys b c.args.need e) batch) c.fly-freed_by_walk.ensures;
       registration = c.register-freed_by_registration.ensures;
       freed_is = refl;
       turns =
-          subst (λ (b : Bool). Turned keys b e c.fly-freed_by_walk.new.flights old.turns c.take_turn-2.new.turns) batch
+          subst (λ (b : Bool). TurnTaken keys b e c.fly-freed_by_walk.new.flights old.turns c.take_turn-2.new.turns) batch
           c.take_turn-2.ensures.turn;
       awaited =
           subst (λ (b : Bool). Awaited keys b e c.fly-freed_by_walk.new.flights old.awaited c.take_turn-2.new.awaited) batch

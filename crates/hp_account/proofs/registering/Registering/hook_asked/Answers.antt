@@ -15,8 +15,8 @@ returns-in-Call g c =
     λ on s i d how entry.
     c.hook_at.ensures
     ∙ registration_asks head c.args.journal.now.events places c.args.processors.now r c.requires.registering c.requires.table
-    c.requires.standing c.in-Call.cpu c.in-Call.key c.in-Call.dir c.in-Call.place c.means.result c.in-Call.ensures.on.2 asks
-    c.means.ensures on s i d how entry
+    c.requires.standing c.in-Call.cpu c.in-Call.key c.in-Call.dir c.in-Call.place c.made_by.result c.in-Call.ensures.on.2 asks
+    c.made_by.ensures on s i d how entry
 
 pub returns-in-Ended : goal.returns-in-Ended
 returns-in-Ended g c =

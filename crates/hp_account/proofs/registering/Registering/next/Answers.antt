@@ -26,11 +26,11 @@ returns-in-Call g c =
     let asks : regstep.Call c.in-Call.cpu c.in-Call.key c.in-Call.dir c.in-Call.place
     ≡ asked (key_at places r.reg) (cpus_at c.args.processors.now.settled head.absent r.reg) r.reg = search rules in
     let entry : c.map-entry.result
-    ≡ entry_by c.in-Call.cpu c.in-Call.key c.in-Call.dir c.in-Call.place c.means-means.result c.seat_of-seat.result = search rules in
+    ≡ entry_by c.in-Call.cpu c.in-Call.key c.in-Call.dir c.in-Call.place c.made_by-made_by.result c.seat_of-seat.result = search rules in
     let seat : c.seat_of-seat.result
     ≡ seat_by (is_nocalls r.reg.op) c.in-Call.key.state (at_place c.args.seats.now.threads c.in-Call.cpu) r.seat =
     c.seat_of-seat.ensures ∙ ap (λ t. seat_by (is_nocalls r.reg.op) c.in-Call.key.state t r.seat) c.thread.ensures in
     rw (entry, seat)
     (comes_by_entry head c.args.journal.now.events places c.args.processors.now c.args.seats.now r c.requires.lawful c.requires.registering
     c.requires.table c.requires.standing c.requires.roll c.in-Call.cpu c.in-Call.key c.in-Call.dir c.in-Call.place
-    c.means-means.result c.in-Call.ensures.on.2 asks c.means-means.ensures)
+    c.made_by-made_by.result c.in-Call.ensures.on.2 asks c.made_by-made_by.ensures)

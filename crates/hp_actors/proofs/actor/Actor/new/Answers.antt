@@ -3,13 +3,14 @@ use Rattle.std.proofs.Common.{◌≡◌, is_some, ap, sym, subst, length, ◌∙
 use Rattle.std.specs.Prelude.{slice_index_or}
 use Rattle.std.proofs.lemmas.List.{map-append}
 use Rattle.std.proofs.lemmas.List.Elements.{All-push}
+use Rattle.hp_states.proofs.Basics.{take_at}
 use Rattle.hp_event.specs.declared.op.Op.TheVariants.{Up}
 use Rattle.hp_account.specs.TableChanges.{is_setup}
 use Rattle.hp_actors.specs.Positions.{op_of}
 use Rattle.hp_actors.specs.Actors.{AreLoaded, IsAgenda, agenda, wait_at}
 use Rattle.hp_actors.proofs.Agendas.{later_behind, same_place}
 use Rattle.hp_actors.proofs.Loading.{dealt_more}
-use Rattle.hp_actors.proofs.Taking.{setups_left, take_at, rack_left, counted_one, counted_same}
+use Rattle.hp_actors.proofs.Taking.{setups_left, rack_left, counted_one, counted_same}
 use Rattle.hp_actors.proofs.actor.Actor.new.Goals as goal
 
 pub hook_for-hook-requires : goal.hook_for-hook-requires

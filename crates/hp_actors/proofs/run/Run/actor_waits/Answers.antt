@@ -7,7 +7,7 @@ use Rattle.hp_model.specs.MapLock.{Operation, operation, is_map_held}
 use Rattle.hp_model.specs.Processors.{present}
 use Rattle.hp_model.specs.ScriptTurns.{turn}
 use Rattle.hp_actors.specs.Positions.{Position, ops_of, progress_of}
-use Rattle.hp_actors.proofs.Knowing.{passed_over, passed_by, known_forever, known_held, known_until}
+use Rattle.hp_actors.proofs.PassedOverStay.{passed_over, passed_by, known_forever, known_held, known_until}
 use Rattle.hp_actors.proofs.run.Run.actor_waits.Given as given
 use Rattle.hp_actors.proofs.run.Run.actor_waits.Goals as goal
 use Rattle.hp_actors.proofs.run.Run.actor_waits.Goals.{In-Some}

@@ -5,7 +5,7 @@ use Rattle.std.proofs.lemmas.List.{length-map}
 use Rattle.std.proofs.lemmas.Option.{slice_get_read}
 use Rattle.hp_model.specs.ScriptTurns.{unanswered}
 use Rattle.hp_actors.specs.Positions.{op_of, ops_of, answered_of}
-use Rattle.hp_actors.specs.Turned.{asked}
+use Rattle.hp_actors.specs.ActorTurns.{asked}
 use Rattle.hp_actors.proofs.Playing.{asked_is}
 use Rattle.hp_actors.proofs.RoundLaws.{not_over, answered_more, pending}
 use Rattle.hp_actors.proofs.run.Run.is_over.Goals as goal

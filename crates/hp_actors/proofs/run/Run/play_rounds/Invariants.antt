@@ -5,7 +5,7 @@ use Rattle.hp_model.specs.Distance.{distance}
 use Rattle.hp_model.specs.Scripts.{IsScript}
 use Rattle.hp_model.specs.ScriptRun.{start}
 use Rattle.hp_model.specs.ScriptTurns.{after_turns}
-use Rattle.hp_actors.specs.Asking.{IsReached}
+use Rattle.hp_actors.specs.RunInvariant.{IsReached}
 use Rattle.hp_actors.specs.Hooks.{IsLater, KeepsHooks}
 use Rattle.hp_actors.proofs.RoundLaws.{HasRounds}
 use Rattle.hp_actors.proofs.run.Run.play_rounds.Given as goal

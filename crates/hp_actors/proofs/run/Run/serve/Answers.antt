@@ -2,7 +2,7 @@
 use Rattle.std.proofs.Common.{◌<◌, ap, length, arith}
 use Rattle.hp_model.specs.Processors.{present}
 use Rattle.hp_board.proofs.Homes.{idle_home, served_home}
-use Rattle.hp_actors.proofs.Knowing.{thread_knows}
+use Rattle.hp_actors.proofs.PassedOverStay.{thread_knows}
 use Rattle.hp_actors.proofs.Playing.{served, thread_playing}
 use Rattle.hp_actors.proofs.run.Run.serve.Goals as goal
 

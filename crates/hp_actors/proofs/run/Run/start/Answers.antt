@@ -4,7 +4,7 @@ use Rattle.hp_account.specs.TableChanges.{is_setup}
 use Rattle.hp_model.specs.Processors.{present}
 use Rattle.hp_model.specs.Admissions.{admissions}
 use Rattle.hp_board.proofs.Homes.{none_home}
-use Rattle.hp_actors.proofs.Knowing.{none_known}
+use Rattle.hp_actors.proofs.PassedOverStay.{none_known}
 use Rattle.hp_actors.proofs.Loading.{actors_loaded}
 use Rattle.hp_actors.proofs.Opening.{Opened, opened_position, opened_playing}
 use Rattle.hp_actors.proofs.run.Run.start.Goals as goal

@@ -4,11 +4,11 @@ use Rattle.std.specs.Prelude.{slice_get}
 use Rattle.std.proofs.lemmas.List.{length-map}
 use Rattle.std.proofs.lemmas.Option.{slice_get_read}
 use Rattle.hp_actors.proofs.HooksTurned.{none_stands, turn_keeps, turn_turned}
-use Rattle.hp_actors.proofs.Knowing.{turn_knows}
+use Rattle.hp_actors.proofs.PassedOverStay.{turn_knows}
 use Rattle.hp_actors.proofs.Playing.{lawful_of, allowed_of, turn_playing_at, turn_position_at, failed_position, no_seat}
 use Rattle.hp_model.specs.Pending.{IsAllowed}
 use Rattle.hp_model.specs.Processors.{present}
-use Rattle.hp_actors.specs.Asking.{HasHook}
+use Rattle.hp_actors.specs.RunInvariant.{HasHook}
 use Rattle.hp_actors.specs.Hooks.{KeepsHooks, turned}
 use Rattle.hp_actors.specs.Positions.{Position, position_of, ops_of}
 use Rattle.hp_actors.proofs.run.Run.turn.Goals as goal

@@ -1,19 +1,10 @@
-use Rattle.std.proofs.Common.{◌≡◌, ℕ, true, ap, Option, Some, None, IfNone, ◌∙◌, sym, subst}
+use Rattle.std.proofs.Common.{◌≡◌, ℕ, true, ap, Some, ◌∙◌, sym, subst}
+use Rattle.hp_states.proofs.Basics.{none_some, same_some, on_none}
 use Rattle.hp_model.specs.ApTurn.{IsApTurn}
 use Rattle.hp_table.specs.Step.{step_at, is_home}
 use Rattle.hp_account.specs.UnderWay.{hook_asked}
 use Rattle.hp_board.specs.Contents.{Contents}
 use Rattle.hp_board.proofs.board.Board.asked_away.Goals as goal
-
-same_some : (s t : ℕ) → Some s ≡ Some t → s ≡ t
-same_some s t e = cc
-
-none_some : (s : ℕ) → None ≡ Some s → ⊥
-none_some s e = cc
-
-on_none : {A : Type 0} (r : Option A) (P : Type 0) → P → IfNone r P
-on_none None P p = p
-on_none (Some x) P p = tt
 
 pub returns-in_err-state-clause-none : goal.returns-in_err-state-clause-none
 returns-in_err-state-clause-none g c =

@@ -1,21 +1,11 @@
-use Rattle.std.proofs.Common.{◌≡◌, true, false, ◌∙◌, is_some, Option, Some, None, refl, ap, sym}
-use Rattle.std.proofs.lemmas.Bool.{true≢false}
-use Rattle.hp_event.specs.declared.event.Role.{Role}
-use Rattle.hp_event.specs.declared.event.Role.TheVariants.{Client, Ap}
+use Rattle.std.proofs.Common.{◌≡◌, false, ◌∙◌, ap, sym}
+use Rattle.hp_model.proofs.NextStands.{client_is}
+use Rattle.hp_states.proofs.Basics.{none_of}
 use Rattle.hp_model.specs.FirstEvent.{is_client}
 use Rattle.hp_model.specs.Seats.{role_of}
 use Rattle.hp_model.specs.Subsystems.{names_sub}
 use Rattle.hp_board.specs.Contents.{Contents}
 use Rattle.hp_board.proofs.board.Board.can_ask.Goals as goal
-
-none_of : {X : Type 0} (o : Option X) → is_some o ≡ false → o ≡ None
-none_of None h = refl
-none_of (Some x) h = absurd (true≢false h)
-
-client_of : (r : Option Role) → is_client r ≡ true → r ≡ Some Client
-client_of None h = absurd (true≢false (sym h))
-client_of (Some Client) h = refl
-client_of (Some (Ap cpu)) h = absurd (true≢false (sym h))
 
 pub returns-clause-nothing : goal.returns-clause-nothing
 returns-clause-nothing g c = λ yes. none_of _ (sym c.has_lent.ensures ∙ c.if-has_lent.false)
@@ -26,7 +16,7 @@ returns-clause-allowed g c = λ yes.
     sym (c.head.ensures ∙ (c.journal.ensures.head ∙ ap (λ (b : Contents). b.head) c.self.view_is)) in
     record {
       client =
-          client_of (role_of c.args.by c.args.self.now.events)
+          client_is (role_of c.args.by c.args.self.now.events)
           (sym (ap (λ (b : Contents). is_client (role_of c.args.by b.events)) c.self.view_is) ∙ (sym c.is_client.ensures ∙ c.if-not-is_client.false));
       same = c.is_of.ensures.0 c.if-not-is_of.false;
       has_sub = ap (λ h. names_sub h c.args.ask.now.op) head ∙ (sym c.names_sub.ensures ∙ c.if-not-names_sub.false);

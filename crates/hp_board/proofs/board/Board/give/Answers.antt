@@ -38,7 +38,7 @@ make_answered-requires-clause-lent g c =
     let is = lent_it g (goal.at.make_answered-requires-clause-lent g c).In-Some in ap is_home is.there ∙ is.away
 
 pub make_answered-requires-clause-by_hook : goal.make_answered-requires-clause-by_hook
-make_answered-requires-clause-by_hook g c = (lent_it g (goal.at.make_answered-requires-clause-by_hook g c).In-Some).means
+make_answered-requires-clause-by_hook g c = (lent_it g (goal.at.make_answered-requires-clause-by_hook g c).In-Some).made_by
 
 pub make_answered-requires-clause-back : goal.make_answered-requires-clause-back
 make_answered-requires-clause-back g c =

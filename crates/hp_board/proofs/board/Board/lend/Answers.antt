@@ -1,5 +1,5 @@
-use Rattle.std.proofs.Common.{◌||◌, eqb, ◌≡◌, ◌<◌, true, ◌∙◌, Option, Some, None, IsSome, IfSome, refl, ap, sym, subst}
-use Rattle.std.proofs.lemmas.Bool.{false≢true}
+use Rattle.std.proofs.Common.{◌||◌, eqb, ◌≡◌, ◌<◌, true, ◌∙◌, Some, IsSome, IfSome, refl, ap, sym, subst}
+use Rattle.hp_states.proofs.Basics.{none_there}
 use Rattle.hp_states.specs.CpuSets.{has}
 use Rattle.hp_states.specs.declared.limits.TheConstants.{MAX_EVENTS}
 use Rattle.hp_model.specs.NextEvent.{due_entry}
@@ -10,7 +10,7 @@ use Rattle.hp_account.specs.Entries.{entry_event}
 use Rattle.hp_board.specs.Answered.{aside_of}
 use Rattle.hp_board.specs.Contents.{Contents}
 use Rattle.hp_board.specs.Loans.{AreOut, can_lend, loan}
-use Rattle.hp_machine.proofs.Entries.{by_hook}
+use Rattle.hp_machine.proofs.MadeEntries.{by_hook}
 use Rattle.hp_board.proofs.Loans.{hook_is}
 use Rattle.hp_board.proofs.LoansMade.{CanLend, can_lend_it, cannot_lend, lent_out, lent_aside, lent_others}
 use Rattle.hp_board.proofs.board.Board.lend.Given as given
@@ -22,18 +22,15 @@ lend-requires g c =
     let b = c.self.inside.machine in
     (due_stands b.head b.events c.args.by (entry_event b.head b.events c.in_ok-entry.entry) c.in_ok-entry.ensures).0
 
-no_hook : {A : Type 0} (r : Option A) → r ≡ None → IsSome r → ⊥
-no_hook r none some = false≢true (subst (λ o. IsSome o) none some)
-
 pub returns-in_err-hook-clause-some : goal.returns-in_err-hook-clause-some
 returns-in_err-hook-clause-some g c =
     let b = c.self.inside.machine in
     let x = c.in_ok-entry.entry in
-    let means = hook_is x.means (sym c.is_by_hook.ensures ∙ c.if-not-is_by_hook.false) in
+    let made_by = hook_is x.made_by (sym c.is_by_hook.ensures ∙ c.if-not-is_by_hook.false) in
     let never : IsSome (step_at b.places x.key.state) × (is_home (step_at b.places x.key.state) ≡ true) → ⊥ = λ h.
-    no_hook c.lend.result c.in_err-hook.was (c.lend.ensures.some.1 h) in
-    let cannot = cannot_lend b c.args.by x c.sound.ensures.lawful c.sound.ensures.table c.in_ok-entry.ensures means never in (
-      λ some. absurd (no_hook c.from_residual-in_err-hook.result c.from_residual-in_err-hook.ensures some),
+    none_there c.lend.result c.in_err-hook.was (c.lend.ensures.some.1 h) in
+    let cannot = cannot_lend b c.args.by x c.sound.ensures.lawful c.sound.ensures.table c.in_ok-entry.ensures made_by never in (
+      λ some. absurd (none_there c.from_residual-in_err-hook.result c.from_residual-in_err-hook.ensures some),
       λ can. absurd (cannot
           (subst (λ (b : Contents). can_lend (due_entry b.head b.events c.args.by) b.places ≡ true) (sym c.self.view_is) can)),
     )
@@ -42,17 +39,17 @@ found : (g : given.Over) (c : In_ok-hook g) → CanLend c.self.inside.machine c.
 found g c =
     let b = c.self.inside.machine in
     let x = c.in_ok-entry.entry in
-    let means = hook_is x.means (sym c.is_by_hook.ensures ∙ c.if-not-is_by_hook.false) in
-    can_lend_it b c.args.by x c.sound.ensures.lawful c.self.invariant c.sound.ensures.table c.in_ok-entry.ensures means
+    let made_by = hook_is x.made_by (sym c.is_by_hook.ensures ∙ c.if-not-is_by_hook.false) in
+    can_lend_it b c.args.by x c.sound.ensures.lawful c.self.invariant c.sound.ensures.table c.in_ok-entry.ensures made_by
     (c.in_ok-hook.ensures.some.0 refl).1
 
 pub invariant_of-result : goal.invariant_of-result
 invariant_of-result g c =
     let b = c.self.inside.machine in
     let x = c.in_ok-entry.entry in
-    let means = hook_is x.means (sym c.is_by_hook.ensures ∙ c.if-not-is_by_hook.false) in
+    let made_by = hook_is x.made_by (sym c.is_by_hook.ensures ∙ c.if-not-is_by_hook.false) in
     let stands = (due_stands b.head b.events c.args.by (entry_event b.head b.events x) c.in_ok-entry.ensures).0 in
-    let h = by_hook b.head b.events b.places x c.sound.ensures.lawful c.sound.ensures.table stands means in
+    let h = by_hook b.head b.events b.places x c.sound.ensures.lawful c.sound.ensures.table stands made_by in
     let hook = subst (λ o. IfSome o (λ (step : Step). g.H.Hook.counts c.in_ok-hook.hook ≡ step.kept.counts)) h.there c.in_ok-hook.ensures.hook in
     subst (λ n. n < MAX_EVENTS) (sym (ap (λ (x : Counts). x.made) hook)) h.few
 

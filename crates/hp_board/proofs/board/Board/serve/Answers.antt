@@ -4,7 +4,7 @@ use Rattle.hp_model.specs.NextEvent.{due_entry}
 use Rattle.hp_model.proofs.DueGives.{due_stands}
 use Rattle.hp_account.specs.Entries.{entry_event}
 use Rattle.hp_account.specs.declared.under_way.Entry.{Entry}
-use Rattle.hp_account.specs.declared.under_way.Means.TheVariants.{Hook}
+use Rattle.hp_account.specs.declared.under_way.MadeBy.TheVariants.{Hook}
 use Rattle.hp_table.specs.Step.{step_at, is_home}
 use Rattle.hp_board.specs.Contents.{Contents}
 use Rattle.hp_board.specs.Loans.{AreOut, CallsAway, loan}
@@ -43,7 +43,7 @@ make_entry-requires-clause-stands g c =
     (due_stands b.head b.events c.args.by (entry_event b.head b.events c.in-Some.entry) c.in-Some.ensures).0
 
 abbrev Home : Entry → Contents → Type 0
-Home x b = x.means ≡ Hook → is_home (step_at b.places x.key.state) ≡ true
+Home x b = x.made_by ≡ Hook → is_home (step_at b.places x.key.state) ≡ true
 
 pub invariant_of-self : goal.invariant_of-self
 invariant_of-self g c =

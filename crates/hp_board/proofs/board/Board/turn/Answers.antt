@@ -12,7 +12,7 @@ use Rattle.hp_board.specs.Hooks.{has_hook, has_hook_after, leaves_hook}
 use Rattle.hp_board.specs.Turns.{IsTurn, IsHookOut, IsNotYet, goes_on as turn_goes_on}
 use Rattle.hp_board.specs.declared.turn.Turn.{Turn}
 use Rattle.hp_board.specs.declared.turn.Turn.TheVariants.{Made, Answered, NotYet}
-use Rattle.hp_board.proofs.HookOuts.{one_wait, comes_unless, full_unless, waits_out, made_waits_not, kept_out_for}
+use Rattle.hp_board.proofs.HookOuts.{one_hook_out, comes_unless, full_unless, waits_out, made_waits_not, kept_out_for}
 use Rattle.hp_event.specs.declared.answer.Answer.{Answer}
 use Rattle.hp_event.specs.declared.answer.Answer.TheVariants.{LogFull}
 use Rattle.hp_machine.specs.Next.{IsKept}
@@ -244,7 +244,7 @@ returns-in-Some-clause-hook_out g c = λ s.
     let lawful = subst (λ (b : Contents). IsLawful b.head b.events) c.self.view_is c.sound.ensures.lawful in
     let next = subst (λ (b : Contents). next_event b.head b.events c.args.by c.args.ask.now.op ≡ Some c.in-Event.event) c.self.view_is c.in-Event.ensures.0 in
     let here = kept_out_for b c.in-Some.state c.args.by c.args.ask.now.op c.in-Event.event next c.in-Some.ensures.out in (
-      λ h. ap (λ t. Ok (NotYet (HookOut t))) (one_wait b c.in-Some.state s c.args.by c.args.ask.now.op lawful here h),
+      λ h. ap (λ t. Ok (NotYet (HookOut t))) (one_hook_out b c.in-Some.state s c.args.by c.args.ask.now.op lawful here h),
       λ is. subst (λ t. IsHookOut t c.args.by c.args.ask.now.op b) (same_state c.in-Some.state s is) here,
     )
 

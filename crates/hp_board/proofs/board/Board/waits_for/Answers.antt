@@ -1,5 +1,6 @@
 use Rattle.std.proofs.Common.{◌≡◌, ℕ, false, Some, ◌∙◌, inl, sym, subst}
 use Rattle.std.proofs.lemmas.Bool.{true≢false}
+use Rattle.hp_machine.proofs.ThreadsWaited.{one_wait}
 use Rattle.hp_event.specs.declared.op.Op.{Op}
 use Rattle.hp_model.specs.ApTurn.{IsApTurn}
 use Rattle.hp_model.specs.Lawful.{IsLawful}
@@ -9,7 +10,7 @@ use Rattle.hp_account.specs.UnderWay.{hook_asked}
 use Rattle.hp_locks.specs.declared.why.Why.TheVariants.{ApTurn}
 use Rattle.hp_board.specs.Contents.{Contents}
 use Rattle.hp_board.specs.Loans.{WaitsForThread}
-use Rattle.hp_board.proofs.OwnEntries.{one_thread, one_asked}
+use Rattle.hp_board.proofs.OwnEntries.{one_asked}
 use Rattle.hp_board.proofs.board.Board.waits_for.Goals as goal
 
 out_for : (b : Contents) (cpu s seat : ℕ) (op : Op) → is_home (step_at b.places s) ≡ false →
@@ -31,7 +32,7 @@ returns-in-None g c = λ seat op kept.
       here,
       λ s w.
           let a = w.kept.why_is in
-          let same = one_thread b.head b.events seat c.in-ApTurn.cpu w.cpu lawful here.why_is a in
+          let same = one_wait b.head b.events seat c.in-ApTurn.cpu w.cpu lawful here.why_is a in
           let asks = one_asked b.head b.events seat c.in-ApTurn.cpu w.cpu here.why_is a lawful same ∙ w.asks in
           true≢false (sym (c.in-None.ensures.none seat s here.why_is asks) ∙ w.away),
     )

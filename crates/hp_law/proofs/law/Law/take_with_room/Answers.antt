@@ -1,5 +1,6 @@
-use Rattle.std.proofs.Common.{◌≡◌, [], ◌∷◌, ◌++◌, Some, None, Result, Ok, Err, OnOk, OnErr, ◌∙◌, ap, sym, subst}
+use Rattle.std.proofs.Common.{◌≡◌, [], ◌∷◌, ◌++◌, Result, Ok, Err, OnOk, OnErr, ◌∙◌, ap, sym, subst}
 use Rattle.std.specs.Prelude.{List}
+use Rattle.hp_states.proofs.Basics.{none_some, same_some}
 use Rattle.hp_event.specs.declared.head.Head.{Head}
 use Rattle.hp_event.specs.declared.event.Event.{Event}
 use Rattle.hp_model.specs.Events.{is_call, seat_of}
@@ -22,12 +23,6 @@ still m new e home is = subst (λ (x : Contents). AllHome x.places) (sym is) (ho
 either : {T E : Type 0} (r : Result T E) (A B P : Type 0) → OnOk r A → OnErr r B → (A → P) → (B → P) → P
 either (Ok x) A B P a b f g = f a
 either (Err e) A B P a b f g = g b
-
-none_some : (e : Event) → None ≡ Some e → ⊥
-none_some e h = cc
-
-same : (a b : Event) → Some a ≡ Some b → a ≡ b
-same a b h = cc
 
 pub make_entry-requires-clause-stands : goal.make_entry-requires-clause-stands
 make_entry-requires-clause-stands c =
@@ -53,7 +48,7 @@ returns-in-Some-clause-ok c =
     let e = c.args.event.now in
     let stands = subst (λ (t : Taken). Stands t.head t.events e) (sym c.self.view_is) c.requires.stands in
     let due = due_gives m.head m.events c.in-Call.seat e c.sound.ensures.lawful stands (ap is_call c.in-Call.is) (ap seat_of c.in-Call.is) in
-    let is = same (entry_event m.head m.events c.in-Some.entry) e (sym c.in-Some.ensures ∙ due) in
+    let is = same_some (entry_event m.head m.events c.in-Some.entry) e (sym c.in-Some.ensures ∙ due) in
     let taken = ap (λ (x : Contents). seen_taken x.head x.events) c.make_entry.ensures
     ∙ ap (λ x. seen_taken m.head (m.events ++ x ∷ [])) is in
     subst (λ (t : Taken). seen_taken c.make_entry.new.self.head c.make_entry.new.self.events

@@ -1,9 +1,8 @@
 use Rattle.std.proofs.Common.{◌≡◌, ◌∙◌, sym, subst, None}
 use Rattle.std.specs.Prelude.{slice_get}
+use Rattle.hp_states.proofs.Basics.{none_of, none_some}
 use Rattle.hp_model.specs.ApTurn.{IsApTurn}
 use Rattle.hp_model.specs.Batch.{to_begin}
-use Rattle.hp_model.proofs.InFlight.{none_of}
-use Rattle.hp_model.proofs.Owners.{none_some}
 use Rattle.hp_model.proofs.SomeMoves.{some_of}
 use Rattle.hp_account.proofs.InBatch.{of_batch, not_batch, turn_first}
 use Rattle.hp_machine.proofs.BatchSaid.{no_wait_at_rest, no_wait_of_other, no_wait_before, no_wait_in_turn, waits_exactly}

@@ -1,5 +1,5 @@
 use Rattle.std.proofs.Common.{◌∙◌, sym}
-use Rattle.hp_model.proofs.Owners.{none_some}
+use Rattle.hp_states.proofs.Basics.{none_some}
 use Rattle.hp_account.proofs.InBatch.{of_batch, not_batch}
 use Rattle.hp_machine.proofs.BatchDue.{nobodys_due, threads_entry, holders_none, holders_entry, rests_due}
 use Rattle.hp_machine.proofs.machine.Machine.due_in_batch.Goals as goal

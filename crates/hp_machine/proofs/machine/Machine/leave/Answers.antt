@@ -4,15 +4,15 @@ use Rattle.hp_account.proofs.TableMore.{table_same}
 use Rattle.hp_machine.proofs.Made.{made_machine}
 use Rattle.hp_machine.proofs.machine.Machine.leave.Goals as goal
 
-pub append-self-inside-requires-clause-table : goal.append-self-inside-requires-clause-table
-append-self-inside-requires-clause-table g c =
+pub append-requires-clause-table : goal.append-requires-clause-table
+append-requires-clause-table g c =
     let j = c.self.inside.journal in
     table_same j.head j.events c.self.inside.table (Leave c.args.seat) tt c.self.invariant.table_is
 
 pub invariant_of-self : goal.invariant_of-self
 invariant_of-self g c =
     let j = c.self.inside.journal in
-    let a = c.append-self-inside.ensures in
-    made_machine j c.append-self-inside.new.journal c.append-self-inside.new.self c.append-self-inside.result (Leave c.args.seat)
+    let a = c.append.ensures in
+    made_machine j c.append.new.journal c.append.new.self c.append.new.coming (Leave c.args.seat)
     c.self.inside.table a.head a.events a.kept a.under_way
     (table_same j.head j.events c.self.inside.table (Leave c.args.seat) tt c.self.invariant.table_is)

@@ -1,11 +1,11 @@
-use Rattle.std.proofs.Common.{◌≡◌, ℕ, true, Option, None, List, IsSome, IfNone, ◌∙◌, ap, sym, subst}
-use Rattle.std.proofs.lemmas.Bool.{false≢true}
+use Rattle.std.proofs.Common.{◌≡◌, ℕ, true, Option, List, IsSome, ◌∙◌, ap, sym, subst}
+use Rattle.hp_states.proofs.Basics.{none_there, on_none}
 use Rattle.hp_event.specs.Story.{Story}
 use Rattle.hp_model.specs.Lawful.{Stands}
 use Rattle.hp_table.specs.Step.{Step, step_at, changed_at, lent_step, is_home}
 use Rattle.hp_account.specs.Entries.{entry_event}
 use Rattle.hp_account.specs.declared.account.Account.{Account}
-use Rattle.hp_account.specs.declared.under_way.Coming.{Coming}
+use Rattle.hp_account.specs.declared.under_way.NextStep.{NextStep}
 use Rattle.hp_machine.specs.Machine.{IsMachine}
 use Rattle.hp_account.specs.Table.{IsTableOf}
 use Rattle.hp_machine.specs.Contents.{Contents}
@@ -14,7 +14,7 @@ use Rattle.hp_machine.proofs.LentTable.{table_lent_or_not, lent_nothing}
 use Rattle.hp_machine.proofs.Made.{seen}
 use Rattle.hp_machine.proofs.machine.Machine.lend.Goals as goal
 
-lent_machine : (j : Story) (account : Account) (coming : Option Coming) (places new : List (Option Step)) (s : ℕ) →
+lent_machine : (j : Story) (account : Account) (coming : Option NextStep) (places new : List (Option Step)) (s : ℕ) →
     IsMachine j account coming places → new ≡ changed_at places s lent_step → IsMachine j account coming new
 lent_machine j account coming places new s m is =
     record {
@@ -33,19 +33,12 @@ invariant_of-self-2 g c =
     let m = c.self.inside in
     lent_machine m.journal m.account m.coming m.table c.lend.new.self c.args.entry.now.key.state c.self.invariant c.lend.ensures.lent
 
-no_hook : {A : Type 0} (r : Option A) → r ≡ None → IsSome r → ⊥
-no_hook r none some = false≢true (subst (λ o. IsSome o) none some)
-
-on_none : {A : Type 0} (r : Option A) (P : Type 0) → P → IfNone r P
-on_none None P p = p
-on_none (Option.Some x) P p = tt
-
 pub returns-in_err-hook-clause-none : goal.returns-in_err-hook-clause-none
 returns-in_err-hook-clause-none g c =
     let places = c.self.inside.table in
     let s = c.args.entry.now.key.state in
     let never : IsSome (step_at places s) × (is_home (step_at places s) ≡ true) → ⊥ = λ h.
-    no_hook c.lend.result c.in_err-hook.was (c.lend.ensures.some.1 h) in
+    none_there c.lend.result c.in_err-hook.was (c.lend.ensures.some.1 h) in
     let same = c.lend.ensures.lent ∙ lent_nothing places s never in
     on_none c.from_residual.result _
     (ap (λ p. seen c.self.inside.journal p c.self.inside.lent) same ∙ c.self.view_is)

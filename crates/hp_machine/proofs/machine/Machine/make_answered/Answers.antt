@@ -9,7 +9,7 @@ use Rattle.hp_account.specs.Table.{IsTableOf}
 use Rattle.hp_account.specs.TableChanges.{table_after}
 use Rattle.hp_machine.specs.Contents.{Contents, with_event}
 use Rattle.hp_machine.proofs.Below.{call_in_set}
-use Rattle.hp_machine.proofs.Entries.{by_hook}
+use Rattle.hp_machine.proofs.MadeEntries.{by_hook}
 use Rattle.hp_machine.proofs.LentTable.{restored}
 use Rattle.hp_machine.proofs.Made.{Makes, makes, made_machine, made_seen, seen}
 use Rattle.hp_machine.proofs.machine.Machine.make_answered.Given as given
@@ -37,18 +37,18 @@ home g c =
     makes j table c.restore.new.self e c.event-event.result stands same changed
     (subst (IsTableOf j.head (j.events ++ e ∷ [])) (sym changed) h.after)
 
-pub append-self-inside-requires-clause-stands : goal.append-self-inside-requires-clause-stands
-append-self-inside-requires-clause-stands g c =
-    (home g (goal.at.append-self-inside-requires-clause-stands g c).After-event-event).stands
+pub append-requires-clause-stands : goal.append-requires-clause-stands
+append-requires-clause-stands g c =
+    (home g (goal.at.append-requires-clause-stands g c).After-event-event).stands
 
-pub append-self-inside-requires-clause-table : goal.append-self-inside-requires-clause-table
-append-self-inside-requires-clause-table g c =
-    (home g (goal.at.append-self-inside-requires-clause-table g c).After-event-event).table
+pub append-requires-clause-table : goal.append-requires-clause-table
+append-requires-clause-table g c =
+    (home g (goal.at.append-requires-clause-table g c).After-event-event).table
 
 pub invariant_of-self : goal.invariant_of-self
 invariant_of-self g c =
-    let a = c.append-self-inside.ensures in
-    made_machine c.self.inside.journal c.append-self-inside.new.journal c.append-self-inside.new.self c.append-self-inside.result
+    let a = c.append.ensures in
+    made_machine c.self.inside.journal c.append.new.journal c.append.new.self c.append.new.coming
     c.event-event.result c.restore.new.self a.head a.events a.kept a.under_way
     (home g (goal.at.invariant_of-self g c).After-event-event).table
 
@@ -57,12 +57,12 @@ returns-clause-made g c =
     let x = c.args.entry.now in
     let lent = c.take.new.self in
     let j = c.self.inside.journal in
-    let a = c.append-self-inside.ensures in
+    let a = c.append.ensures in
     subst
     (λ (m : Contents).
-    seen c.append-self-inside.new.journal c.restore.new.self lent ≡ with_event (record m { lent = lent }) (entry_event m.head m.events x))
+    seen c.append.new.journal c.restore.new.self lent ≡ with_event (record m { lent = lent }) (entry_event m.head m.events x))
     c.self.view_is
-    (made_seen j c.append-self-inside.new.journal c.self.inside.table c.restore.new.self lent (entry_event j.head j.events x)
+    (made_seen j c.append.new.journal c.self.inside.table c.restore.new.self lent (entry_event j.head j.events x)
     c.event-event.result a.head a.events (home g (goal.at.returns-clause-made g c).After-event-event))
 
 pub take-requires : goal.take-requires

@@ -14,7 +14,7 @@ use Rattle.hp_account.specs.Entries.{entry_event, entry_made, how_by}
 use Rattle.hp_account.specs.Table.{IsTableOf}
 use Rattle.hp_account.specs.TableChanges.{table_after}
 use Rattle.hp_machine.specs.Contents.{Contents, with_event}
-use Rattle.hp_machine.proofs.Entries.{IsByHook, by_hook, without_hook}
+use Rattle.hp_machine.proofs.MadeEntries.{IsByHook, by_hook, without_hook}
 use Rattle.hp_machine.proofs.Made.{Makes, makes, made_machine, made_seen, seen}
 use Rattle.hp_machine.proofs.machine.Machine.make_entry.Given as given
 use Rattle.hp_machine.proofs.machine.Machine.make_entry.Goals as goal
@@ -64,22 +64,22 @@ uncalled g c =
     makes j c.self.inside.table c.self.inside.table (entry_event j.head j.events x) c.event-event-in_default.result stands same
     (sym w.changed_is) w.after
 
-pub append-self-inside-requires-clause-stands : goal.append-self-inside-requires-clause-stands
-append-self-inside-requires-clause-stands g c =
-    let at = goal.at.append-self-inside-requires-clause-stands g c in
+pub append-requires-clause-stands : goal.append-requires-clause-stands
+append-requires-clause-stands g c =
+    let at = goal.at.append-requires-clause-stands g c in
     (called g at.After-event-event (there g at.In-Hook)).stands
 
-pub append-self-inside-requires-clause-table : goal.append-self-inside-requires-clause-table
-append-self-inside-requires-clause-table g c =
-    let at = goal.at.append-self-inside-requires-clause-table g c in
+pub append-requires-clause-table : goal.append-requires-clause-table
+append-requires-clause-table g c =
+    let at = goal.at.append-requires-clause-table g c in
     (called g at.After-event-event (there g at.In-Hook)).table
 
 pub invariant_of-self : goal.invariant_of-self
 invariant_of-self g c =
     let at = goal.at.invariant_of-self g c in
     let m = called g at.After-event-event (there g at.In-Hook) in
-    let a = c.append-self-inside.ensures in
-    made_machine c.self.inside.journal c.append-self-inside.new.journal c.append-self-inside.new.self c.append-self-inside.result
+    let a = c.append.ensures in
+    made_machine c.self.inside.journal c.append.new.journal c.append.new.self c.append.new.coming
     c.event-event.result c.call-answer.new.self a.head a.events a.kept a.under_way m.table
 
 pub returns-in-Hook : goal.returns-in-Hook
@@ -88,19 +88,19 @@ returns-in-Hook g c =
     let x = c.args.entry.now in
     let lent = c.self.inside.lent in
     let j = c.self.inside.journal in
-    let a = c.append-self-inside.ensures in
-    subst (λ (m : Contents). seen c.append-self-inside.new.journal c.call-answer.new.self lent ≡ with_event m (entry_event m.head m.events x))
+    let a = c.append.ensures in
+    subst (λ (m : Contents). seen c.append.new.journal c.call-answer.new.self lent ≡ with_event m (entry_event m.head m.events x))
     c.self.view_is
-    (made_seen j c.append-self-inside.new.journal c.self.inside.table c.call-answer.new.self lent (entry_event j.head j.events x)
+    (made_seen j c.append.new.journal c.self.inside.table c.call-answer.new.self lent (entry_event j.head j.events x)
     c.event-event.result a.head a.events (called g at.After-event-event (there g at.In-Hook)))
 
 -- an entry isn't an admission, and takes no room
 entry_alone : (head : Head) (es : List Event) (x : Entry) (how : How) → NoAdmission (entry_made x how) × (0 ≡ taken (need head es (entry_made x how)))
 entry_alone head es x how = (λ seat role is. absurd (cc), refl)
 
-pub append-self-inside-requires-in_default : goal.append-self-inside-requires-in_default
-append-self-inside-requires-in_default g c =
-    let at = goal.at.append-self-inside-requires-in_default g c in
+pub append-requires-in_default : goal.append-requires-in_default
+append-requires-in_default g c =
+    let at = goal.at.append-requires-in_default g c in
     let j = c.self.inside.journal in
     let x = c.args.entry.now in
     let m = uncalled g at.After-event-event-in_default in
@@ -112,9 +112,9 @@ pub invariant_of-self-in_default : goal.invariant_of-self-in_default
 invariant_of-self-in_default g c =
     let at = goal.at.invariant_of-self-in_default g c in
     let m = uncalled g at.After-event-event-in_default in
-    let a = c.append-self-inside-in_default.ensures in
-    made_machine c.self.inside.journal c.append-self-inside-in_default.new.journal c.append-self-inside-in_default.new.self
-    c.append-self-inside-in_default.result c.event-event-in_default.result c.self.inside.table a.head a.events a.kept a.under_way m.table
+    let a = c.append-in_default.ensures in
+    made_machine c.self.inside.journal c.append-in_default.new.journal c.append-in_default.new.self
+    c.append-in_default.new.coming c.event-event-in_default.result c.self.inside.table a.head a.events a.kept a.under_way m.table
 
 pub returns-in_default : goal.returns-in_default
 returns-in_default g c =
@@ -122,10 +122,10 @@ returns-in_default g c =
     let x = c.args.entry.now in
     let lent = c.self.inside.lent in
     let j = c.self.inside.journal in
-    let a = c.append-self-inside-in_default.ensures in
+    let a = c.append-in_default.ensures in
     subst
     (λ (m : Contents).
-    seen c.append-self-inside-in_default.new.journal c.self.inside.table lent ≡ with_event m (entry_event m.head m.events x))
+    seen c.append-in_default.new.journal c.self.inside.table lent ≡ with_event m (entry_event m.head m.events x))
     c.self.view_is
-    (made_seen j c.append-self-inside-in_default.new.journal c.self.inside.table c.self.inside.table lent (entry_event j.head j.events x)
+    (made_seen j c.append-in_default.new.journal c.self.inside.table c.self.inside.table lent (entry_event j.head j.events x)
     c.event-event-in_default.result a.head a.events (uncalled g at.After-event-event-in_default))

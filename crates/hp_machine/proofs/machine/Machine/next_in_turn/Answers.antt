@@ -1,5 +1,5 @@
 use Rattle.std.proofs.Common.{◌∙◌, sym}
-use Rattle.hp_model.proofs.Owners.{same_some, none_some}
+use Rattle.hp_states.proofs.Basics.{none_some, same_some}
 use Rattle.hp_machine.proofs.BatchSaid.{gives_of}
 use Rattle.hp_machine.proofs.machine.Machine.next_in_turn.Goals as goal
 
