@@ -1,6 +1,3 @@
-pub mod Texts
-pub mod SetText
-pub mod Digits
 pub mod KeyOrder
 pub mod SuspendTallyStep
 pub mod ProcessorTallyStep

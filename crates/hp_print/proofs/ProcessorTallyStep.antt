@@ -19,7 +19,7 @@ use Rattle.hp_model.specs.Walks.{Walk, walk, walk_step}
 use Rattle.hp_model.specs.Settled.{settled, settled_step, left_at}
 use Rattle.hp_model.specs.Net.{is_before, with_key, entered, entered_step}
 use Rattle.hp_model.proofs.Laws.{walk_push, settled_push}
-use Rattle.hp_model.proofs.Counts.{done_entries_push, done_entries-none}
+use Rattle.hp_model.proofs.Counts.{done_entries_push}
 use Rattle.hp_print.specs.declared.processor_tally.ProcessorTally.{ProcessorTally}
 use Rattle.hp_print.specs.declared.keys.KeyCount.{KeyCount}
 use Rattle.hp_print.specs.Counts.{one_more, is_key, no_count, with_count, raised, raised_at, counted, AreInOrder}

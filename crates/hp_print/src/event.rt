@@ -7,10 +7,9 @@ ghost use Rattle.hp_model.specs.HasLine.{lists_one as lists_one_of, has_line as 
 ghost use Rattle.hp_model.specs.EventLine.{event_line as line_of, how_words, answer_words, walk_answer_words, role_words, file_words};
 ghost use Rattle.hp_print.specs.Appends.{Appends, AppendsWords};
 
-use crate::op::append_op;
-use crate::words::{append, append_dir, append_number, append_of, append_signed, end_line};
 use hp_event::{Answer, Event, File, How, Key, Op, Role};
 use hp_states::{Dir, NoMemory};
+use hp_text::{append, append_dir, append_number, append_of, append_op, append_signed, end_line};
 use std::alloc::{AllocError, Global};
 
 /// Appends how an entry was made.

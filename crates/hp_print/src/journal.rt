@@ -8,12 +8,12 @@ ghost use Rattle.hp_model.specs.JournalText.{rule_line, sub_lines, title_line, p
 ghost use Rattle.hp_print.specs.Appends.{Appends};
 
 use crate::event::append_event;
-use crate::words::{
+use hp_event::{Event, Head, Journal, Sub};
+use hp_states::{NoMemory, Rule};
+use hp_text::{
     append, append_any, append_count, append_dir, append_name, append_number, append_numbers,
     end_line,
 };
-use hp_event::{Event, Head, Journal, Sub};
-use hp_states::{NoMemory, Rule};
 use std::alloc::{AllocError, Global};
 
 /// Appends the line of a rule.

@@ -12,13 +12,11 @@ mod event;
 mod instance_list;
 mod journal;
 mod keys;
-mod op;
 mod processor_tally;
 mod state_tally;
 mod summary_lines;
 mod suspend_tally;
 mod tally;
-mod words;
 
 pub use event::{event_line, has_line};
 pub use journal::journal_text;

@@ -13,11 +13,11 @@ use crate::keys::KeyCount;
 use crate::processor_tally::ProcessorTally;
 use crate::state_tally::StateTally;
 use crate::tally::{Tally, tally_of};
-use crate::words::{
-    append, append_behind_dot, append_count, append_name, append_number, append_numbers, end_line,
-};
 use hp_event::{Head, Journal};
 use hp_states::{NoMemory, ONLINE};
+use hp_text::{
+    append, append_behind_dot, append_count, append_name, append_number, append_numbers, end_line,
+};
 use std::alloc::{AllocError, Global};
 
 /// Appends a word and a count, behind a space.

@@ -2,7 +2,8 @@
 use Rattle.std.proofs.Common.{◌≡◌, ℕ, ◌+◌, ◌-◌, ◌≤◌, ◌^◌, true, false, eqb, leb, ltb, List, [], ◌∷◌, length, get_or, drop, Some, refl, sym, ap, ◌∙◌, arith}
 use Rattle.std.specs.List.{slice_split}
 use Rattle.std.proofs.lemmas.Bool.{ne_eqb, eq-eqb, le-leb, lt-ltb}
-use Rattle.hp_replay.specs.Numbers.{number_below, number}
+use Rattle.hp_text.specs.Numbers.{number_below}
+use Rattle.hp_replay.specs.Numbers.{number}
 use Rattle.hp_replay.specs.WordsLeft.{first_says}
 use Rattle.hp_replay.proofs.CodeForms.{is_space}
 

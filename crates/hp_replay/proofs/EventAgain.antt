@@ -22,7 +22,7 @@ use Rattle.hp_replay.specs.Spelled.{IsWalkAnswer, IsSpelled}
 use Rattle.hp_replay.specs.EventAt.{direction, role, how, answer, walk_answer, event, event_at}
 use Rattle.hp_replay.proofs.NumberLaws.{integer_again}
 use Rattle.hp_replay.proofs.LineLaws.{is_free, all_free, signed_free, words_again}
-use Rattle.hp_replay.proofs.OpAgain.{number_again, number_free, op_again, op_free}
+use Rattle.hp_replay.proofs.OpWords.{number_again, number_free, op_again, op_free}
 
 pub direction_again : (d : Dir) → direction (dir_word d) ≡ Some d
 unfolding direction

@@ -20,7 +20,7 @@ use Rattle.hp_replay.specs.Fits.{IsU32, HowFits, AnswerFits, RoleFits, EventFits
 use Rattle.hp_replay.specs.Spelled.{IsWalkAnswer, IsSpelled}
 use Rattle.hp_replay.specs.EventAt.{direction, role_rows, role, how_rows, how, answer_rows, answer, walk_answer_rows, walk_answer, shown_rows, event_rows, event, event_at}
 use Rattle.hp_replay.proofs.ReaderLaws.{IsField, Spells, done_spells, bind_spells, mapped_spells, one_spells, same_word, line_takes}
-use Rattle.hp_replay.proofs.OpTakes.{number_field, integer_field, op_spells}
+use Rattle.hp_replay.proofs.OpWords.{number_field, integer_field, op_spells}
 
 -- ---- the parts of an event
 

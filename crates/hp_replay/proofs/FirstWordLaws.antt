@@ -2,20 +2,15 @@
 use Rattle.std.proofs.Common.{◌≡◌, ℕ, Bool, true, false, cond, List, [], ◌∷◌, map, Option, Some, None, refl, sym, ap, ◌∙◌}
 use Rattle.std.specs.Prelude.{find}
 use Rattle.std.specs.Str.{bytes_eq}
-use Rattle.hp_event.specs.declared.op.Op.{Op}
-use Rattle.hp_event.specs.declared.op.Op.TheVariants as op
 use Rattle.hp_event.specs.declared.event.Event.{Event}
 use Rattle.hp_event.specs.declared.event.Event.TheVariants as event
 use Rattle.hp_replay.specs.declared.first_word.EventWord.{EventWord}
 use Rattle.hp_replay.specs.declared.first_word.EventWord.TheVariants as event_word
-use Rattle.hp_replay.specs.declared.first_word.OpWord.{OpWord}
-use Rattle.hp_replay.specs.declared.first_word.OpWord.TheVariants as op_word
-use Rattle.hp_replay.specs.Readers.{Tail, Row, done, row, row_of}
-use Rattle.hp_replay.specs.Tails.{numbered, valued}
-use Rattle.hp_replay.specs.OpAt.{show_tail, setup_tail, remove_tail, add_tail, del_tail, freeze_tail, upmany_tail, op_rows, op as op_at}
+use Rattle.hp_replay.specs.Readers.{Tail, Row, row, row_of}
+use Rattle.hp_replay.specs.Tails.{numbered}
 use Rattle.hp_replay.specs.EventAt.{admit_tail, enter_tail, refused_tail, walk_tail, call_tail, walked_tail, done_tail, reg_tail, regged_tail, armed_tail, shown_tail, event_rows, event as event_at}
 use Rattle.hp_replay.specs.WordsLeft.{first_of, others_of}
-use Rattle.hp_replay.specs.FirstWords.{text_of_event, event_words, event_word_of, text_of_op, op_words, op_word_of}
+use Rattle.hp_replay.specs.FirstWords.{text_of_event, event_words, event_word_of}
 use Rattle.hp_replay.proofs.Rows.{by_row}
 
 -- ---- a table that is made of words
@@ -85,47 +80,3 @@ no_event (w ∷ ws) e = absurd cc
 pub other_event : (words : List (List ℕ)) (word : List ℕ) → Some word ≡ first_of words → None ≡ event_word_of word → None ≡ event_at words
 unfolding event_word_of event_at
 other_event words word first is = unknown text_of_event event_tail event_words word (others_of words) is ∙ by_row event_rows words word first
-
--- ---- operations
-
-abbrev pub op_tail : OpWord → Tail Op
-op_tail op_word.Up = numbered (λ cpu. op.Up cpu)
-op_tail op_word.Down = numbered (λ cpu. op.Down cpu)
-op_tail op_word.Target = valued (λ cpu value. op.Target cpu value)
-op_tail op_word.Fail = valued (λ cpu value. op.Arm cpu value)
-op_tail op_word.Show = show_tail
-op_tail op_word.Setup = setup_tail
-op_tail op_word.Remove = remove_tail
-op_tail op_word.Add = add_tail
-op_tail op_word.Del = del_tail
-op_tail op_word.Lock = done op.Lock
-op_tail op_word.Unlock = done op.Unlock
-op_tail op_word.Boot = numbered (λ most. op.Boot most)
-op_tail op_word.Disable = done op.Disable
-op_tail op_word.Enable = done op.Enable
-op_tail op_word.Freeze = freeze_tail
-op_tail op_word.Thaw = done op.Thaw
-op_tail op_word.Wakeup = done op.Wakeup
-op_tail op_word.UpMany = upmany_tail
-
-op_says : (v : OpWord) (words : List (List ℕ)) (word : List ℕ) → Some word ≡ first_of words → Some v ≡ op_word_of word → op_tail v (others_of words) ≡ op_at words
-unfolding op_word_of op_at
-op_says v words word first is = found text_of_op op_tail op_words word (others_of words) v is ∙ by_row op_rows words word first
-
--- what a row says of the words behind its first word is what the table says
-pub op_row : (v : OpWord) (words rest : List (List ℕ)) (word : List ℕ) (u : OpWord) (said : Option Op) →
-    Some word ≡ first_of words → rest ≡ others_of words → Some u ≡ op_word_of word → u ≡ v → said ≡ op_tail v rest → said ≡ op_at words
-op_row v words rest word u said first behind is same says =
-    let known : Some v ≡ op_word_of word = ap (λ x. Some x) (sym same) ∙ is in
-    says ∙ ap (op_tail v) behind ∙ op_says v words word first known
-
--- no word says nothing
-pub no_op : (words : List (List ℕ)) → None ≡ first_of words → None ≡ op_at words
-unfolding op_at
-no_op [] e = refl
-no_op (w ∷ ws) e = absurd cc
-
--- and neither does another first word
-pub other_op : (words : List (List ℕ)) (word : List ℕ) → Some word ≡ first_of words → None ≡ op_word_of word → None ≡ op_at words
-unfolding op_word_of op_at
-other_op words word first is = unknown text_of_op op_tail op_words word (others_of words) is ∙ by_row op_rows words word first

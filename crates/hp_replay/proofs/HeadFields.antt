@@ -1,7 +1,8 @@
 -- The words of the lines before the events: what is read is what is written, and what is written is read again.
 use Rattle.std.proofs.Common.{◌≡◌, ◌≢◌, ℕ, ◌+◌, ◌^◌, ◌<◌, ◌≤◌, Bool, true, false, cond, ◌&&◌, eqb, leb, List, [], ◌∷◌, length, Option, Some, None, refl, ap, subst, ◌∙◌, arith}
 use Rattle.std.specs.Prelude.{codes, decimal, IfSome}
-use Rattle.std.specs.Option.{option_map, option_and_then}
+use Rattle.std.specs.Option.{option_map}
+use Rattle.std.specs.Result.{result_ok}
 use Rattle.std.specs.List.{list_all}
 use Rattle.std.specs.Str.{bytes_eq}
 use Rattle.std.proofs.lemmas.Bool.{ne_eqb, and_parts, and_from, leb-true, le-leb}
@@ -12,9 +13,10 @@ use Rattle.hp_states.proofs.Basics.{map_some, passed, same_some}
 use Rattle.hp_states.specs.declared.limits.TheConstants.{MAX_NAME_LEN}
 use Rattle.hp_model.specs.Words.{name_word, any_word, calls_word, kind_word}
 use Rattle.hp_model.specs.Heads.{IsName, is_name_byte}
-use Rattle.hp_replay.specs.Numbers.{are_digits, number_below}
-use Rattle.hp_replay.specs.HeadWords.{at_least, from_below, within, any_within, is_name, name, calls, kind}
-use Rattle.hp_replay.proofs.NumberLaws.{decimal_written, below_takes, below_again}
+use Rattle.hp_text.specs.Numbers.{are_digits, number_from}
+use Rattle.hp_text.proofs.NumberLaws.{decimal_written, from_takes, from_again}
+use Rattle.hp_replay.specs.HeadWords.{from_below, within, any_within, is_name, name, calls, kind}
+use Rattle.hp_replay.proofs.NumberLaws.{ok_is}
 use Rattle.hp_replay.proofs.LineLaws.{is_free, decimal_free}
 use Rattle.hp_replay.proofs.ReaderLaws.{IsField, same_word}
 
@@ -23,23 +25,13 @@ use Rattle.hp_replay.proofs.ReaderLaws.{IsField, same_word}
 abbrev pub InRange : (low limit : ℕ) → ℕ → Type 0
 InRange low limit n = (low ≤ n) × (n < limit)
 
-range_takes : (low limit : ℕ) (w : List ℕ) (n : ℕ) (o : Option ℕ) → limit ≤ 2 ^ 64 → number_below limit w ≡ o → option_and_then (at_least low) o ≡ Some n → (w ≡ decimal n) × InRange low limit n
-range_takes low limit w n None le h e = absurd cc
-range_takes low limit w n (Some m) le h e =
-    let p = passed (leb low m) (Some m) n e in
-    let t = below_takes limit w m le h in
-    let is : m ≡ n = same_some m n p.1 in
-    subst (λ (k : ℕ). (w ≡ decimal k) × InRange low limit k) is (t.0, (leb-true low m p.0, t.1))
-
 pub from_below_takes : (low limit : ℕ) (w : List ℕ) (n : ℕ) → limit ≤ 2 ^ 64 → from_below low limit w ≡ Some n → (w ≡ decimal n) × InRange low limit n
 unfolding from_below
-from_below_takes low limit w n le e = range_takes low limit w n (number_below limit w) le refl e
+from_below_takes low limit w n le e = from_takes low limit w n le (ok_is (number_from low limit w) n e)
 
 pub from_below_again : (low limit n : ℕ) → limit ≤ 2 ^ 64 → InRange low limit n → from_below low limit (decimal n) ≡ Some n
 unfolding from_below
-from_below_again low limit n le h =
-    let least : leb low n ≡ true = le-leb low n h.0 in
-    rw (below_again limit n le h.1, least) refl
+from_below_again low limit n le h = ap (λ r. result_ok r) (from_again low limit n (decimal n) le h.0 h.1 refl)
 
 pub range_field : (low limit : ℕ) → limit ≤ 2 ^ 64 → IsField (from_below low limit) decimal (InRange low limit)
 range_field low limit le = record { takes = λ w n e. from_below_takes low limit w n le e }

@@ -11,13 +11,13 @@ use Rattle.hp_model.specs.Lists.{is_empty}
 use Rattle.hp_model.specs.Words.{line, dir_word, name_word, any_word, calls_word, kind_word, list_words}
 use Rattle.hp_model.specs.Heads.{IsName, IsRule}
 use Rattle.hp_model.proofs.Rising.{Rise}
-use Rattle.hp_replay.specs.Numbers.{is_number, value}
+use Rattle.hp_text.specs.Numbers.{is_number, value}
 use Rattle.hp_replay.specs.LineWords.{words_at}
 use Rattle.hp_replay.specs.Readers.{one_of}
 use Rattle.hp_replay.specs.Rising.{rising_from}
 use Rattle.hp_replay.specs.HeadLines.{HeadLine, a_sub, a_rule, the_events, cpus_rows, cpus_at, absent_tail, absent_rows, absent_at, head_rows, head_line_at}
 use Rattle.hp_replay.specs.EndAt.{any_number, end_tail, end_rows, end_at}
-use Rattle.hp_replay.proofs.NumberLaws.{number_is, decimal_written}
+use Rattle.hp_text.proofs.NumberLaws.{number_is, decimal_written}
 use Rattle.hp_replay.proofs.LineLaws.{all_free, decimal_free, words_take}
 use Rattle.hp_replay.proofs.ReaderLaws.{Spells, done_spells, bind_spells, one_spells, same_word, line_takes, line_again, single_row, single_field, and_then_was}
 use Rattle.hp_replay.proofs.EventTakes.{direction_field}

@@ -15,9 +15,12 @@ use Rattle.hp_model.specs.Settled.{settled}
 use Rattle.hp_model.specs.Registered.{registered}
 use Rattle.hp_model.specs.Suspend.{disabled, frozen}
 use Rattle.hp_replay.specs.declared.error.ReplayKind.TheVariants.{Header, Syntax, Unlawful, Count, Trailing, Missing}
-use Rattle.hp_replay.specs.Numbers.{number_below, integer}
+use Rattle.hp_text.specs.Numbers.{number_below, integer}
 use Rattle.hp_replay.specs.LineWords.{words_at}
-use Rattle.hp_replay.specs.OpAt.{flags, form, op}
+use Rattle.hp_text.specs.Flags.{flags, form}
+use Rattle.hp_text.specs.FirstWords.{op_word_of, file_of}
+use Rattle.hp_text.specs.Sets.{set}
+use Rattle.hp_text.specs.OpAt.{op_tail, op_at}
 use Rattle.hp_replay.specs.EventAt.{direction, role, how, answer, walk_answer, event, event_at}
 use Rattle.hp_replay.specs.EndAt.{any_number, end_at}
 use Rattle.hp_replay.specs.HeadWords.{from_below, any_within, name, calls, kind}
@@ -52,59 +55,59 @@ abbrev four : List Event
 four = Admit 0 (Ap 0) ∷ Admit 1 (Ap 1) ∷ Admit 2 Client ∷ RegBegin 2 120 (Setup 120 1 (flags false false)) ∷ []
 
 input_0 : judge always begins 1 (lines_of (codes "cpuhp journal 1" ++ (10 ∷ (codes "cpus 2" ++ (10 ∷ (codes "absent -" ++ (10 ∷ (codes "sub net:a both single" ++ (10 ∷ (codes "sub net:b both single" ++ (10 ∷ (codes "rule up 1 * * 5" ++ (10 ∷ (codes "events" ++ (10 ∷ (codes "admit 0 ap 0" ++ (10 ∷ (codes "admit 1 ap 1" ++ (10 ∷ (codes "admit 2 client" ++ (10 ∷ (codes "reg 2 120 setup 120 1" ++ (10 ∷ (codes "end 4" ++ (10 ∷ ([])))))))))))))))))))))))))) ≡ accepted the_head four
-unfolding step title_line lines_of event_at words_at event op form number_below integer direction role how answer walk_answer end_at any_number cpus_at absent_at head_line_at name calls kind any_within from_below
+unfolding step title_line lines_of event_at words_at event op_at op_tail op_word_of file_of set form number_below integer direction role how answer walk_answer end_at any_number cpus_at absent_at head_line_at name calls kind any_within from_below
 input_0 = refl
 
 input_1 : judge never begins 1 (lines_of (codes "cpuhp journal 1" ++ (10 ∷ (codes "cpus 2" ++ (10 ∷ (codes "absent -" ++ (10 ∷ (codes "sub net:a both single" ++ (10 ∷ (codes "sub net:b both single" ++ (10 ∷ (codes "rule up 1 * * 5" ++ (10 ∷ (codes "events" ++ (10 ∷ (codes "admit 0 ap 0" ++ (10 ∷ (codes "admit 1 ap 1" ++ (10 ∷ (codes "admit 2 client" ++ (10 ∷ (codes "reg 2 120 setup 120 1" ++ (10 ∷ (codes "end 4" ++ (10 ∷ ([])))))))))))))))))))))))))) ≡ refused 8 Unlawful
-unfolding step title_line lines_of event_at words_at event op form number_below integer direction role how answer walk_answer end_at any_number cpus_at absent_at head_line_at name calls kind any_within from_below
+unfolding step title_line lines_of event_at words_at event op_at op_tail op_word_of file_of set form number_below integer direction role how answer walk_answer end_at any_number cpus_at absent_at head_line_at name calls kind any_within from_below
 input_1 = refl
 
 input_2 : judge always begins 1 (lines_of (codes "cpuhp journal 1" ++ (10 ∷ (codes "cpus 2" ++ (10 ∷ (codes "absent -" ++ (10 ∷ (codes "sub net:a both single" ++ (10 ∷ (codes "sub net:b both single" ++ (10 ∷ (codes "rule up 1 * * 5" ++ (10 ∷ (codes "events" ++ (10 ∷ (codes "admit 0 ap 0" ++ (10 ∷ (codes "admit 1 ap 1" ++ (10 ∷ (codes "admit 2 client" ++ (10 ∷ (codes "reg 2 120 setup 120 1" ++ (10 ∷ (codes "end 4")))))))))))))))))))))))) ≡ refused 12 Syntax
-unfolding step title_line lines_of event_at words_at event op form number_below integer direction role how answer walk_answer end_at any_number cpus_at absent_at head_line_at name calls kind any_within from_below
+unfolding step title_line lines_of event_at words_at event op_at op_tail op_word_of file_of set form number_below integer direction role how answer walk_answer end_at any_number cpus_at absent_at head_line_at name calls kind any_within from_below
 input_2 = refl
 
 input_3 : judge always begins 1 (lines_of (codes "cpuhp journal 1" ++ (10 ∷ (codes "cpus 2" ++ (10 ∷ (codes "absent -" ++ (10 ∷ (codes "sub net:a both single" ++ (10 ∷ (codes "sub net:b both single" ++ (10 ∷ (codes "rule up 1 * * 5" ++ (10 ∷ (codes "events" ++ (10 ∷ (codes "admit 0 ap 0" ++ (10 ∷ (codes "admit 1 ap 1" ++ (10 ∷ (codes "admit 2 client" ++ (10 ∷ (codes "reg 2 120 setup 120 1" ++ (10 ∷ (codes "end 5" ++ (10 ∷ ([])))))))))))))))))))))))))) ≡ refused 12 Count
-unfolding step title_line lines_of event_at words_at event op form number_below integer direction role how answer walk_answer end_at any_number cpus_at absent_at head_line_at name calls kind any_within from_below
+unfolding step title_line lines_of event_at words_at event op_at op_tail op_word_of file_of set form number_below integer direction role how answer walk_answer end_at any_number cpus_at absent_at head_line_at name calls kind any_within from_below
 input_3 = refl
 
 input_4 : judge always begins 1 (lines_of (codes "cpuhp journal 1" ++ (10 ∷ (codes "cpus 2" ++ (10 ∷ (codes "absent -" ++ (10 ∷ (codes "sub net:a both single" ++ (10 ∷ (codes "sub net:b both single" ++ (10 ∷ (codes "rule up 1 * * 5" ++ (10 ∷ (codes "events" ++ (10 ∷ (codes "admit 0 ap 0" ++ (10 ∷ (codes "admit 1 ap 1" ++ (10 ∷ (codes "admit 2 client" ++ (10 ∷ (codes "reg 2 120 setup 120 1" ++ (10 ∷ ([])))))))))))))))))))))))) ≡ refused 12 Missing
-unfolding step title_line lines_of event_at words_at event op form number_below integer direction role how answer walk_answer end_at any_number cpus_at absent_at head_line_at name calls kind any_within from_below
+unfolding step title_line lines_of event_at words_at event op_at op_tail op_word_of file_of set form number_below integer direction role how answer walk_answer end_at any_number cpus_at absent_at head_line_at name calls kind any_within from_below
 input_4 = refl
 
 input_5 : judge always begins 1 (lines_of (codes "cpuhp journal 1" ++ (10 ∷ (codes "cpus 2" ++ (10 ∷ (codes "absent -" ++ (10 ∷ (codes "sub net:a both single" ++ (10 ∷ (codes "sub net:b both single" ++ (10 ∷ (codes "rule up 1 * * 5" ++ (10 ∷ (codes "events" ++ (10 ∷ (codes "admit 0 ap 0" ++ (10 ∷ (codes "admit 1 ap 1" ++ (10 ∷ (codes "admit 2 clients" ++ (10 ∷ (codes "reg 2 120 setup 120 1" ++ (10 ∷ (codes "end 4" ++ (10 ∷ ([])))))))))))))))))))))))))) ≡ refused 10 Syntax
-unfolding step title_line lines_of event_at words_at event op form number_below integer direction role how answer walk_answer end_at any_number cpus_at absent_at head_line_at name calls kind any_within from_below
+unfolding step title_line lines_of event_at words_at event op_at op_tail op_word_of file_of set form number_below integer direction role how answer walk_answer end_at any_number cpus_at absent_at head_line_at name calls kind any_within from_below
 input_5 = refl
 
 input_6 : judge always begins 1 (lines_of (codes "cpuhp journal 1" ++ (10 ∷ (codes "cpus 2" ++ (10 ∷ (codes "absent -" ++ (10 ∷ (codes "sub net:a both single" ++ (10 ∷ (codes "sub net:b both single" ++ (10 ∷ (codes "rule up 256 * * 5" ++ (10 ∷ (codes "events" ++ (10 ∷ (codes "admit 0 ap 0" ++ (10 ∷ (codes "admit 1 ap 1" ++ (10 ∷ (codes "admit 2 client" ++ (10 ∷ (codes "reg 2 120 setup 120 1" ++ (10 ∷ (codes "end 4" ++ (10 ∷ ([])))))))))))))))))))))))))) ≡ refused 6 Header
-unfolding step title_line lines_of event_at words_at event op form number_below integer direction role how answer walk_answer end_at any_number cpus_at absent_at head_line_at name calls kind any_within from_below
+unfolding step title_line lines_of event_at words_at event op_at op_tail op_word_of file_of set form number_below integer direction role how answer walk_answer end_at any_number cpus_at absent_at head_line_at name calls kind any_within from_below
 input_6 = refl
 
 input_7 : judge always begins 1 (lines_of (codes "cpuhp journal 1" ++ (10 ∷ (codes "cpus 2" ++ (10 ∷ (codes "absent -" ++ (10 ∷ (codes "sub net:a both single" ++ (10 ∷ (codes "sub net:b both single" ++ (10 ∷ (codes "rule up 1 * * 5" ++ (10 ∷ (codes "event" ++ (10 ∷ (codes "admit 0 ap 0" ++ (10 ∷ (codes "admit 1 ap 1" ++ (10 ∷ (codes "admit 2 client" ++ (10 ∷ (codes "reg 2 120 setup 120 1" ++ (10 ∷ (codes "end 4" ++ (10 ∷ ([])))))))))))))))))))))))))) ≡ refused 7 Header
-unfolding step title_line lines_of event_at words_at event op form number_below integer direction role how answer walk_answer end_at any_number cpus_at absent_at head_line_at name calls kind any_within from_below
+unfolding step title_line lines_of event_at words_at event op_at op_tail op_word_of file_of set form number_below integer direction role how answer walk_answer end_at any_number cpus_at absent_at head_line_at name calls kind any_within from_below
 input_7 = refl
 
 input_8 : judge always begins 1 (lines_of ([])) ≡ refused 1 Missing
-unfolding step title_line lines_of event_at words_at event op form number_below integer direction role how answer walk_answer end_at any_number cpus_at absent_at head_line_at name calls kind any_within from_below
+unfolding step title_line lines_of event_at words_at event op_at op_tail op_word_of file_of set form number_below integer direction role how answer walk_answer end_at any_number cpus_at absent_at head_line_at name calls kind any_within from_below
 input_8 = refl
 
 input_9 : judge always begins 1 (lines_of (codes "cpuhp journal 1")) ≡ refused 1 Header
-unfolding step title_line lines_of event_at words_at event op form number_below integer direction role how answer walk_answer end_at any_number cpus_at absent_at head_line_at name calls kind any_within from_below
+unfolding step title_line lines_of event_at words_at event op_at op_tail op_word_of file_of set form number_below integer direction role how answer walk_answer end_at any_number cpus_at absent_at head_line_at name calls kind any_within from_below
 input_9 = refl
 
 input_10 : judge always begins 1 (lines_of (codes "cpuhp journal 2" ++ (10 ∷ ([])))) ≡ refused 1 Header
-unfolding step title_line lines_of event_at words_at event op form number_below integer direction role how answer walk_answer end_at any_number cpus_at absent_at head_line_at name calls kind any_within from_below
+unfolding step title_line lines_of event_at words_at event op_at op_tail op_word_of file_of set form number_below integer direction role how answer walk_answer end_at any_number cpus_at absent_at head_line_at name calls kind any_within from_below
 input_10 = refl
 
 input_11 : judge always begins 1 (lines_of (codes "cpuhp journal 1" ++ (10 ∷ (codes "cpus 2" ++ (10 ∷ ([])))))) ≡ refused 3 Missing
-unfolding step title_line lines_of event_at words_at event op form number_below integer direction role how answer walk_answer end_at any_number cpus_at absent_at head_line_at name calls kind any_within from_below
+unfolding step title_line lines_of event_at words_at event op_at op_tail op_word_of file_of set form number_below integer direction role how answer walk_answer end_at any_number cpus_at absent_at head_line_at name calls kind any_within from_below
 input_11 = refl
 
 input_12 : judge always begins 1 (lines_of (codes "cpuhp journal 1" ++ (10 ∷ (codes "cpus 2" ++ (10 ∷ (codes "absent -" ++ (10 ∷ (codes "rule up * * * 5" ++ (10 ∷ ([])))))))))) ≡ refused 4 Header
-unfolding step title_line lines_of event_at words_at event op form number_below integer direction role how answer walk_answer end_at any_number cpus_at absent_at head_line_at name calls kind any_within from_below
+unfolding step title_line lines_of event_at words_at event op_at op_tail op_word_of file_of set form number_below integer direction role how answer walk_answer end_at any_number cpus_at absent_at head_line_at name calls kind any_within from_below
 input_12 = refl
 
 input_13 : judge always begins 1 (lines_of (codes "cpuhp journal 1" ++ (10 ∷ (codes "cpus 2" ++ (10 ∷ (codes "" ++ (10 ∷ (codes "absent -" ++ (10 ∷ ([])))))))))) ≡ refused 3 Header
-unfolding step title_line lines_of event_at words_at event op form number_below integer direction role how answer walk_answer end_at any_number cpus_at absent_at head_line_at name calls kind any_within from_below
+unfolding step title_line lines_of event_at words_at event op_at op_tail op_word_of file_of set form number_below integer direction role how answer walk_answer end_at any_number cpus_at absent_at head_line_at name calls kind any_within from_below
 input_13 = refl
 
 -- ---- the summary of a journal without events

@@ -1,8 +1,7 @@
 pub mod NumberLaws
 pub mod LineLaws
 pub mod ReaderLaws
-pub mod OpTakes
-pub mod OpAgain
+pub mod OpWords
 pub mod EventTakes
 pub mod EventAgain
 pub mod SpelledLaws
@@ -24,13 +23,11 @@ mod LineExamples
 mod InputExamples
 pub mod CodeForms
 mod WordForms
-mod DigitLoop
 mod DigitWord
 mod Rows
 mod FirstWordLaws
 mod LineForms
 mod RisingLoop
-mod CpuSetLoop
 mod ReadingLaws
 mod HeadReading
 mod EventReading

@@ -13,9 +13,12 @@ use Rattle.hp_event.specs.declared.event.File.TheVariants.{State, States}
 use Rattle.hp_event.specs.declared.event.Event.{Event}
 use Rattle.hp_event.specs.declared.event.Event.TheVariants.{Admit, Leave, Enter, Refused, Call, WalkEnd, OpEnd, RegBegin, RegEnd, Shown}
 use Rattle.hp_model.specs.SetOf.{bits_of, set_of}
-use Rattle.hp_replay.specs.Numbers.{number_below, integer}
+use Rattle.hp_text.specs.Numbers.{number_below, integer}
 use Rattle.hp_replay.specs.LineWords.{words_at}
-use Rattle.hp_replay.specs.OpAt.{flags, form, op}
+use Rattle.hp_text.specs.Flags.{flags, form}
+use Rattle.hp_text.specs.FirstWords.{op_word_of, file_of}
+use Rattle.hp_text.specs.Sets.{set}
+use Rattle.hp_text.specs.OpAt.{op_tail, op_at}
 use Rattle.hp_replay.specs.EventAt.{direction, role, how, answer, walk_answer, event, event_at}
 use Rattle.hp_replay.specs.EndAt.{any_number, end_at}
 use Rattle.hp_replay.specs.HeadWords.{from_below, any_within, name, calls, kind}
@@ -76,7 +79,7 @@ event_lines =
     []
 
 event_lines_say : map (λ row. event_at (ended row.0)) event_lines ≡ map (λ row. row.1) event_lines
-unfolding event_at words_at event op form number_below from_below integer direction role how answer walk_answer
+unfolding event_at words_at event op_at op_tail op_word_of file_of set form number_below from_below integer direction role how answer walk_answer
 event_lines_say = refl
 
 -- an upmany with the words of its set
@@ -90,7 +93,7 @@ upmany_lines =
     []
 
 upmany_lines_say : map (λ row. event_at (ended row.0)) upmany_lines ≡ map (λ row. row.1) upmany_lines
-unfolding event_at words_at event op number_below from_below set_of bits_of
+unfolding event_at words_at event op_at op_tail op_word_of set number_below set_of bits_of
 upmany_lines_say = refl
 
 no_newline : event_at (codes "leave 7") ≡ None

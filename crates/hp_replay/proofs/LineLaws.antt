@@ -7,10 +7,10 @@ use Rattle.std.specs.List.{onto_first}
 use Rattle.std.proofs.lemmas.Bool.{eqb-true, ne_eqb, and_parts, leb-true, not-true}
 use Rattle.hp_states.proofs.Basics.{map_some, same_some}
 use Rattle.hp_model.specs.Words.{line}
-use Rattle.hp_replay.specs.Numbers.{is_digit, are_digits}
+use Rattle.hp_text.specs.Numbers.{is_digit, are_digits}
 use Rattle.hp_replay.specs.Fits.{IsI32}
 use Rattle.hp_replay.specs.LineWords.{ended, words_at}
-use Rattle.hp_replay.proofs.NumberLaws.{decimal_written}
+use Rattle.hp_text.proofs.NumberLaws.{decimal_written}
 
 -- the line has a first word, and is spelled of its words
 pub record IsLineOf (l : List ℕ) (ws : List (List ℕ)) : Type 0 where

@@ -1,7 +1,7 @@
 -- The number that an `end` line says, however large. This project's own.
 use Rattle.std.specs.Prelude.{ℕ, if◌then◌else◌, List, [], ◌∷◌, Option, Some, None, codes}
 use Rattle.std.specs.Option.{option_and_then}
-use Rattle.hp_replay.specs.Numbers.{is_number, value}
+use Rattle.hp_text.specs.Numbers.{is_number, value}
 use Rattle.hp_replay.specs.LineWords.{words_at}
 use Rattle.hp_replay.specs.Readers.{Field, Tail, Row, ◌>>=◌, done, row, one_of}
 

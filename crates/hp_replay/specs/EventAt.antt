@@ -16,8 +16,7 @@ use Rattle.hp_event.specs.declared.event.Event.TheVariants.{Admit, Leave, Enter,
 use Rattle.hp_replay.specs.Numbers.{number, integer}
 use Rattle.hp_replay.specs.LineWords.{words_at}
 use Rattle.hp_replay.specs.Readers.{Field, Tail, Row, ◌>>=◌, done, mapped, row, one_of}
-use Rattle.hp_replay.specs.Tails.{numbered, valued}
-use Rattle.hp_replay.specs.OpAt.{op}
+use Rattle.hp_replay.specs.Tails.{numbered, valued, op}
 
 unfoldable pub direction : Field Dir
 direction w = if bytes_eq w (codes "up") then Some Up else (if bytes_eq w (codes "down") then Some Down else None)

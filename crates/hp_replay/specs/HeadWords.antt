@@ -1,20 +1,18 @@
 -- The words of the lines before the events: numbers in a range, a number or a star, names, callbacks and kinds. This
 -- project's own.
 use Rattle.std.specs.Prelude.{ℕ, ◌+◌, Bool, true, false, ◌&&◌, nat_le, if◌then◌else◌, List, [], length, Option, Some, None, codes}
-use Rattle.std.specs.Option.{option_map, option_and_then}
+use Rattle.std.specs.Option.{option_map}
+use Rattle.std.specs.Result.{result_ok}
 use Rattle.std.specs.List.{list_all}
 use Rattle.std.specs.Str.{bytes_eq}
 use Rattle.hp_states.specs.declared.limits.TheConstants.{MAX_NAME_LEN}
 use Rattle.hp_model.specs.Heads.{is_name_byte}
-use Rattle.hp_replay.specs.Numbers.{number_below}
+use Rattle.hp_text.specs.Numbers.{number_from}
 use Rattle.hp_replay.specs.Readers.{Field}
-
-abbrev pub at_least : (low n : ℕ) → Option ℕ
-at_least low n = if nat_le low n then Some n else None
 
 -- a number from `low`, below `limit`
 unfoldable pub from_below : (low limit : ℕ) → Field ℕ
-from_below low limit w = option_and_then (at_least low) (number_below limit w)
+from_below low limit w = result_ok (number_from low limit w)
 
 -- a number in a range
 abbrev pub within : (low high : ℕ) → Field ℕ

@@ -6,7 +6,6 @@ pub mod Fits
 pub mod Spelled
 pub mod HeadWords
 pub mod Rising
-pub mod OpAt
 pub mod EventAt
 pub mod HeadLines
 pub mod EndAt

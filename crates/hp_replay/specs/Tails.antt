@@ -1,5 +1,9 @@
--- Tails that several lines share: a number alone, and a number with a signed one behind it. This project's own.
+-- Tails that several lines share: a number alone, a number with a signed one behind it, and an operation. This project's
+-- own.
 use Rattle.std.specs.Prelude.{ℕ, ℤ}
+use Rattle.std.specs.Result.{result_ok}
+use Rattle.hp_event.specs.declared.op.Op.{Op}
+use Rattle.hp_text.specs.OpAt.{op_at}
 use Rattle.hp_replay.specs.Numbers.{number, integer}
 use Rattle.hp_replay.specs.Readers.{Tail, ◌>>=◌, done}
 
@@ -14,3 +18,7 @@ valued make = do
   cpu ← number
   value ← integer
   done (make cpu value)
+
+-- an operation, as the lines of a script have it
+abbrev pub op : Tail Op
+op words = result_ok (op_at words)

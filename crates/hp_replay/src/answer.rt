@@ -6,9 +6,9 @@ ghost use Rattle.hp_event.specs.declared.answer.Answer.TheVariants as answer;
 ghost use Rattle.hp_replay.specs.Tails.{numbered};
 ghost use Rattle.hp_replay.specs.EventAt.{how as how_at, ok_tail, stuck_tail, answer as answer_at, walk_answer as walk_answer_at};
 
-use crate::numbers::integer;
 use crate::words::Words;
 use hp_event::{Answer, How};
+use hp_text::integer;
 
 /// The words behind `fault`, of an entry.
 fn ran_fault(words: &mut Words<'_>) -> Option<How>
@@ -47,7 +47,7 @@ pub fn how(words: &mut Words<'_>) -> Option<How>
 fn ok(words: &mut Words<'_>) -> Option<Answer>
     ensures { result ≡ ok_tail words.old }
 {
-    let value = integer(words.next()?)?;
+    let value = integer(words.next()?).ok()?;
     words.done(Answer::Ok(value))
 }
 

@@ -10,11 +10,10 @@ ghost use Rattle.hp_replay.specs.EventAt.{direction as direction_at, role as rol
 use crate::answer::{answer, how, walk_answer};
 use crate::first_word::{EventWord, event_word};
 use crate::line::Line;
-use crate::numbers::integer;
-use crate::op::op;
 use crate::words::Words;
 use hp_event::{Event, File, Role};
 use hp_states::Dir;
+use hp_text::{integer, read_op};
 
 /// The direction that a word says.
 #[tactic(auto, unfolding(crate::specs::EventAt::direction))]
@@ -71,7 +70,9 @@ fn enter(words: &mut Words<'_>) -> Option<Event>
     ensures { result ≡ enter_tail words.old }
 {
     let seat = words.number()?;
-    let op = op(words)?;
+    let Ok(op) = read_op(words) else {
+        return None;
+    };
     Some(Event::Enter { seat, op })
 }
 
@@ -81,7 +82,9 @@ fn refused(words: &mut Words<'_>) -> Option<Event>
 {
     let seat = words.number()?;
     let errno = words.number()?;
-    let op = op(words)?;
+    let Ok(op) = read_op(words) else {
+        return None;
+    };
     Some(Event::Refused { seat, errno, op })
 }
 
@@ -153,7 +156,9 @@ fn reg(words: &mut Words<'_>) -> Option<Event>
 {
     let seat = words.number()?;
     let state = words.number()?;
-    let op = op(words)?;
+    let Ok(op) = read_op(words) else {
+        return None;
+    };
     Some(Event::RegBegin { seat, state, op })
 }
 
@@ -188,7 +193,7 @@ fn armed(words: &mut Words<'_>) -> Option<Event>
 {
     let seat = words.number()?;
     let cpu = words.number()?;
-    let value = integer(words.next()?)?;
+    let value = integer(words.next()?).ok()?;
     words.done(Event::Armed { seat, cpu, value })
 }
 
@@ -197,7 +202,7 @@ fn shown_of(seat: u32, file: File, words: &mut Words<'_>) -> Option<Event>
     ensures { result ≡ valued (λ cpu value. event.Shown seat file cpu value) words.old }
 {
     let cpu = words.number()?;
-    let value = integer(words.next()?)?;
+    let value = integer(words.next()?).ok()?;
     words.done(Event::Shown {
         seat,
         file,
@@ -210,7 +215,7 @@ fn shown_of(seat: u32, file: File, words: &mut Words<'_>) -> Option<Event>
 fn shown_states(seat: u32, words: &mut Words<'_>) -> Option<Event>
     ensures { result ≡ shown_states_tail seat words.old }
 {
-    let value = integer(words.next()?)?;
+    let value = integer(words.next()?).ok()?;
     words.done(Event::Shown {
         seat,
         file: File::States,

@@ -7,57 +7,13 @@ ghost use Rattle.std.specs.Prelude.{ℤ, All};
 ghost use Rattle.hp_replay.specs.Fits.{IsU32, IsI32, OpFits, HowFits, AnswerFits, RoleFits, EventFits};
 
 use hp_event::{Answer, Event, How, Key, Op, Role};
-use hp_model::set_is_of_its_numbers;
-
-/// A number of the type `u32` is within it.
-fn known(_number: u32)
-    ensures { IsU32 _number }
-{}
-
-/// A number of the type `i32` is within it.
-fn known_signed(_number: i32)
-    ensures { IsI32 _number }
-{}
-
-fn op_fits(op: Op)
-    ensures { OpFits op }
-{
-    match op {
-        Op::Up(cpu)
-        | Op::Down(cpu)
-        | Op::ShowState(cpu)
-        | Op::ShowTarget(cpu)
-        | Op::ShowFail(cpu)
-        | Op::Boot(cpu) => known(cpu),
-        Op::Target(cpu, value) => {
-            known(cpu);
-            known_signed(value)
-        }
-        Op::Arm(cpu, value) => {
-            known(cpu);
-            known_signed(value)
-        }
-        Op::Setup { state, sub, .. } => {
-            known(state);
-            known(sub)
-        }
-        Op::Remove { state, .. } => known(state),
-        Op::Add { state, inst, .. } | Op::Del { state, inst, .. } => {
-            known(state);
-            known(inst)
-        }
-        Op::Freeze(primary) => known_signed(primary),
-        Op::UpMany(set) => set_is_of_its_numbers(set),
-        Op::ShowStates | Op::Lock | Op::Unlock | Op::Disable | Op::Enable | Op::Thaw | Op::Wakeup =>
-            {}
-    }
-}
+use hp_text::{integer_fits, number_fits, op_fits};
 
 fn how_fits(how: How)
     ensures { HowFits how }
 {
     match how {
-        How::RanFault(code) | How::Overruled(code) => known(code),
+        How::RanFault(code) | How::Overruled(code) => number_fits(code),
         How::RanOk | How::Injected | How::Empty | How::Presumed => {}
     }
 }
@@ -66,13 +22,13 @@ fn answer_fits(answer: Answer)
     ensures { AnswerFits answer }
 {
     match answer {
-        Answer::Ok(value) => known_signed(value),
-        Answer::Refused(errno) => known(errno),
-        Answer::Fault(code) => known(code),
+        Answer::Ok(value) => integer_fits(value),
+        Answer::Refused(errno) => number_fits(errno),
+        Answer::Fault(code) => number_fits(code),
         Answer::Stuck { first, second, at } => {
-            known(first);
-            known(second);
-            known(at)
+            number_fits(first);
+            number_fits(second);
+            number_fits(at)
         }
         Answer::LogFull => {}
     }
@@ -83,7 +39,7 @@ fn role_fits(role: Role)
 {
     match role {
         Role::Client => {}
-        Role::Ap(cpu) => known(cpu),
+        Role::Ap(cpu) => number_fits(cpu),
     }
 }
 
@@ -91,8 +47,8 @@ fn role_fits(role: Role)
 fn asked_fits(seat: u32, number: u32, op: Op)
     ensures { IsU32 seat × IsU32 number × OpFits op }
 {
-    known(seat);
-    known(number);
+    number_fits(seat);
+    number_fits(number);
     op_fits(op)
 }
 
@@ -100,20 +56,20 @@ fn asked_fits(seat: u32, number: u32, op: Op)
 fn walk_fits(seat: u32, cpu: u32, from: u32, to: u32)
     ensures { IsU32 seat × IsU32 cpu × IsU32 from × IsU32 to }
 {
-    known(seat);
-    known(cpu);
-    known(from);
-    known(to)
+    number_fits(seat);
+    number_fits(cpu);
+    number_fits(from);
+    number_fits(to)
 }
 
 /// The numbers of an entry.
 fn call_fits(seat: u32, cpu: u32, key: Key, how: How)
     ensures { IsU32 seat × IsU32 cpu × IsU32 key.state × IsU32 key.inst × HowFits how }
 {
-    known(seat);
-    known(cpu);
-    known(key.state);
-    known(key.inst);
+    number_fits(seat);
+    number_fits(cpu);
+    number_fits(key.state);
+    number_fits(key.inst);
     how_fits(how)
 }
 
@@ -121,8 +77,8 @@ fn call_fits(seat: u32, cpu: u32, key: Key, how: How)
 fn answered_fits(seat: u32, cpu: u32, answer: Answer)
     ensures { IsU32 seat × IsU32 cpu × AnswerFits answer }
 {
-    known(seat);
-    known(cpu);
+    number_fits(seat);
+    number_fits(cpu);
     answer_fits(answer)
 }
 
@@ -130,16 +86,16 @@ fn answered_fits(seat: u32, cpu: u32, answer: Answer)
 fn value_fits(seat: u32, cpu: u32, value: i32)
     ensures { IsU32 seat × IsU32 cpu × IsI32 value }
 {
-    known(seat);
-    known(cpu);
-    known_signed(value)
+    number_fits(seat);
+    number_fits(cpu);
+    integer_fits(value)
 }
 
 /// The numbers of an event that lets a seat in.
 fn admit_fits(seat: u32, role: Role)
     ensures { IsU32 seat × RoleFits role }
 {
-    known(seat);
+    number_fits(seat);
     role_fits(role)
 }
 
@@ -152,7 +108,7 @@ pub fn event_fits(event: &Event)
         Event::Leave { seat }
         | Event::ReadLock { seat }
         | Event::ReadUnlock { seat }
-        | Event::Wakeup { seat } => known(seat),
+        | Event::Wakeup { seat } => number_fits(seat),
         Event::Enter { seat, op } => asked_fits(seat, 0, op),
         Event::Refused { seat, errno, op } => asked_fits(seat, errno, op),
         Event::RegBegin { seat, state, op } => asked_fits(seat, state, op),

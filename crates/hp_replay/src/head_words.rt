@@ -5,8 +5,8 @@ ghost use Rattle.hp_replay.specs.HeadWords.{from_below as from_below_at, within 
 ghost use Rattle.std.specs.List.{list_all};
 ghost use Rattle.hp_states.specs.Names.{is_name_byte};
 
-use crate::numbers::number_below;
 use hp_states::{MAX_NAME_LEN, is_name_byte};
+use hp_text::number_from;
 
 /// A number from `low`, below a limit.
 #[tactic(auto, unfolding(crate::specs::HeadWords::from_below))]
@@ -17,8 +17,7 @@ pub fn from_below(low: u32, limit: u64, word: &[u8]) -> Option<u32>
     ensures below { IfSome result (λ n. n < limit) }
     ensures from { IfSome result (λ n. low ≤ n) }
 {
-    let n = number_below(limit, word)?;
-    if low <= n { Some(n) } else { None }
+    number_from(low, limit, word).ok()
 }
 
 /// A number in a range.

@@ -4,7 +4,7 @@
 //! first line that can't stand and why. Which event can stand next says a `Law` of `hp_law`; all else
 //! is decided here. Lines are slices of the input, and nothing is copied but the head and the events.
 //!
-//! To read the definitions, take `specs/Numbers.antt`, `LineWords`, `Readers`, `OpAt` and `EventAt`,
+//! To read the definitions, take `specs/Numbers.antt`, `LineWords`, `Readers`, `Tails` and `EventAt`,
 //! which read a line by the grammar, apart from how it is printed; `HeadWords`, `HeadLines` and
 //! `EndAt` for the lines round the events. `Verdict` says the answer in the grammar's own words: a
 //! lawful journal, where the bytes are its text or its text and its summary, or the first line that
@@ -30,8 +30,6 @@ mod head_lines;
 mod head_words;
 mod laws;
 mod line;
-mod numbers;
-mod op;
 mod replay;
 mod summary_lines;
 mod words;

@@ -6,7 +6,7 @@ ghost use Rattle.hp_replay.specs.WordsLeft.{first_of, others_of, first_says, pie
 ghost use Rattle.hp_replay.specs.Numbers.{number as number_at};
 ghost use Rattle.hp_replay.specs.Readers.{done as done_at};
 
-use crate::numbers::number;
+use hp_text::number;
 use std::marker::Model;
 
 /// The words of a line that are left to be read. Contracts see the list of them.
@@ -48,6 +48,14 @@ fn behind_call(text: &[u8]) -> Option<&[u8]>
     match text.split_first_chunk() {
         Some((b"call ", others)) => Some(others),
         _ => None,
+    }
+}
+
+impl<'a> hp_text::Words<'a> for Words<'a> {
+    ghost left = { λ w. w };
+
+    fn next_word(&mut self) -> Option<&'a [u8]> {
+        self.next()
     }
 }
 
@@ -98,7 +106,7 @@ impl<'a> Words<'a> {
         ensures said { result ≡ first_says number_at self.old }
         ensures rest { IsSome result → self.new ≡ others_of self.old }
     {
-        number(self.next()?)
+        number(self.next()?).ok()
     }
 
     /// Takes the next word where it is `call` and words follow, and answers whether it did.

@@ -1,0 +1,9 @@
+pub mod DigitLoop
+pub mod NumberLaws
+pub mod Readings
+pub mod SetWords
+pub mod SetLoop
+pub mod OpLaws
+pub mod SmallDecimals
+pub mod SpacedWords
+pub mod SetText

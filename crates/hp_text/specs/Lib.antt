@@ -1,0 +1,9 @@
+pub mod Words
+pub mod Readings
+pub mod Numbers
+pub mod Flags
+pub mod Sets
+pub mod FirstWords
+pub mod OpAt
+pub mod Fits
+pub mod Appends

@@ -1,0 +1,36 @@
+//! Words: how what scripts and journals share is read from words, and how it is spelled.
+//!
+//! Words say a value, or aren't of the form, or are of the form and have a number that is out of
+//! its range (`Unread`). They come one by one from any `Words`: how a line is parted into words is each
+//! text's own rule.
+//!
+//! To read the definitions, take `specs/Numbers.antt` and `Readings`, which say what a word and all
+//! the words that are left say; `Flags`, `Sets` and `FirstWords`, and `OpAt` for operations. `Fits`
+//! has the values that words can say, and `Appends` what is spelled. What is read is defined apart
+//! from how it is spelled (`EventLine.antt` of hp_model), and that both are inverse to each other
+//! is a part of the readers' contracts.
+#![tactic(auto)]
+
+mod first_word;
+mod fits;
+mod flags;
+mod numbers;
+mod op;
+mod set;
+mod spell;
+mod spell_op;
+mod tails;
+mod unread;
+mod words;
+
+pub use first_word::file_of;
+pub use fits::{integer_fits, number_fits, op_fits};
+pub use numbers::{integer, is_number, number, number_below, number_from};
+pub use op::read_op;
+pub use spell::{
+    append, append_any, append_behind_dot, append_count, append_dir, append_name, append_number,
+    append_numbers, append_of, append_signed, end_line,
+};
+pub use spell_op::append_op;
+pub use unread::Unread;
+pub use words::Words;
