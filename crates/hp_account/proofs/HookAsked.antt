@@ -22,11 +22,11 @@ use Rattle.hp_reg.specs.declared.step.RegStep.TheVariants as regstep
 use Rattle.hp_account.specs.declared.registering.Registering.{Registering}
 use Rattle.hp_account.specs.Processors.{ProcessorsView, IsStanding}
 use Rattle.hp_account.specs.Registering.{IsRegistering}
-use Rattle.hp_account.specs.RegistrationMeans.{means_of}
+use Rattle.hp_account.specs.RegistrationMadeBy.{made_by_in_registration}
 use Rattle.hp_account.specs.Table.{IsTableOf}
 use Rattle.hp_account.proofs.RegistrationNext.{entry_next, end_stands}
 use Rattle.hp_account.proofs.RegistrationComing.{registration_means, asked_alike as reg_alike}
-use Rattle.hp_account.specs.Entries.{how_of_means}
+use Rattle.hp_account.specs.Entries.{how_made_by}
 use Rattle.hp_account.specs.UnderWay.{hook_asked, hook_by}
 use Rattle.hp_table.specs.Step.{Step, step_at}
 use Rattle.hp_walk.specs.After.{IsWithin}
@@ -42,7 +42,7 @@ use Rattle.hp_model.specs.Registered.{keys}
 use Rattle.hp_model.proofs.OneEntry.{one_walk_entry}
 use Rattle.hp_walk.proofs.Alike.{asked_alike}
 use Rattle.hp_account.specs.declared.flights.Flight.{Flight}
-use Rattle.hp_account.specs.NextStep.{means_in_walk}
+use Rattle.hp_account.specs.NextStep.{made_by_in_walk}
 use Rattle.hp_account.specs.Walking.{IsFlightIn, IsSceneOf}
 use Rattle.hp_model.specs.ApTurn.{IsApTurn, IsEntryOf}
 use Rattle.hp_model.specs.Lawful.{IsLawful}
@@ -53,15 +53,15 @@ use Rattle.hp_account.specs.Flights.{IsFlights}
 use Rattle.hp_account.specs.Places.{at_place}
 use Rattle.hp_account.proofs.FlightFacts.{flight_at, keys_same, no_flight_at, no_registration}
 use Rattle.hp_account.proofs.WalkEntries.{entry_asked, end_gives}
-use Rattle.hp_account.proofs.WalkComing.{flight_means}
+use Rattle.hp_account.proofs.WalkComing.{flight_made_by}
 use Rattle.hp_account.proofs.TableMore.{answered_called}
 
 -- an entry calls the hook where that makes it
-pub hook_made : (s code : ℕ) (may_fail : Bool) (by : MadeBy) (how : How) → how_of_means by (how_answered may_fail code) ≡ how →
+pub hook_made : (s code : ℕ) (may_fail : Bool) (by : MadeBy) (how : How) → how_made_by by (how_answered may_fail code) ≡ how →
     hook_by s by ≡ hook_asked s how
 hook_made s code may_fail by how is = go by ∙ ap (hook_asked s) is
   where
-    go : (m : MadeBy) → hook_by s m ≡ hook_asked s (how_of_means m (how_answered may_fail code))
+    go : (m : MadeBy) → hook_by s m ≡ hook_asked s (how_made_by m (how_answered may_fail code))
     go Presumed = refl
     go Empty = refl
     go Injected = refl
@@ -72,7 +72,7 @@ pub flight_asks : (head : Head) (events : List Event) (f : Flight) (places : Lis
     (d : Dir) (place : Place) (first : Bool) (made_by : MadeBy) → IsFlightIn head events f →
     IsSceneOf head events places (cpu_of f.walk) armed_at thread → ask.Call key d place first ≡ asked (keys_by places) f.walk →
     IsWithin (keys_by places) f.walk →
-    IfSome (step_at places key.state) (λ step. made_by ≡ means_in_walk step.kept armed_at key.state d place first) →
+    IfSome (step_at places key.state) (λ step. made_by ≡ made_by_in_walk step.kept armed_at key.state d place first) →
     (s i : ℕ) (dir : Dir) (how : How) → WalkEntry head events (cpu_of f.walk) s i dir how →
     hook_by key.state made_by ≡ hook_asked s how
 flight_asks head events f places armed_at thread key d place first made_by one beside is within by s i dir how entry =
@@ -84,7 +84,7 @@ flight_asks head events f places armed_at thread key d place first made_by one b
     let made : How = how_in_walk head events c key.state key.inst d place first in
     let alike = one_walk_entry head events c s key.state i key.inst dir d how made entry e.0 in
     hook_made key.state (answer_at head events c key.state key.inst d) (can_fail d key.state place) made_by made
-    (flight_means head events f places armed_at thread key d place first made_by one beside is within by)
+    (flight_made_by head events f places armed_at thread key d place first made_by one beside is within by)
     ∙ rw (alike.state_same, alike.how_same) refl
 
 -- a walk that is at its end has no entry
@@ -120,7 +120,7 @@ pub registration_asks : (head : Head) (es : List Event) (places : List (Option S
     (r : IsRegistering head es g) → IsTableOf head es places → IsStanding head es p → (c : ℕ) (key : Key) (d : Dir) (place : Place)
     (by : MadeBy) → key.state ≡ g.reg.state →
     regstep.Call c key d place ≡ reg_asked (key_at places g.reg) (cpus_at p.settled head.absent g.reg) g.reg →
-    IfSome (step_at places key.state) (λ step. by ≡ means_of (is_nocalls g.reg.op) step.kept d) →
+    IfSome (step_at places key.state) (λ step. by ≡ made_by_in_registration (is_nocalls g.reg.op) step.kept d) →
     (on s i : ℕ) (dir : Dir) (how : How) → RegistrationEntry head es on s i dir how → hook_by key.state by ≡ hook_asked s how
 registration_asks head es places p g r t standing c key d place by at asks means_are on s i dir how entry =
     let n = entry_next head es g r c key d place (sym (asks ∙ reg_alike head es places p g r t standing)) in

@@ -42,10 +42,10 @@ use Rattle.hp_account.specs.declared.under_way.MadeBy.{MadeBy}
 use Rattle.hp_account.specs.declared.under_way.MadeBy.TheVariants as made_by
 use Rattle.hp_account.specs.declared.under_way.NextStep.TheVariants as coming
 use Rattle.hp_account.specs.declared.under_way.Ending.TheVariants as ending
-use Rattle.hp_account.specs.Entries.{entry_event, how_of_means}
+use Rattle.hp_account.specs.Entries.{entry_event, how_made_by}
 use Rattle.hp_account.specs.NextStep.{IsComing, IsInFlightOf, has_callback_by}
 use Rattle.hp_account.specs.Registering.{IsRegistering}
-use Rattle.hp_account.specs.RegistrationMeans.{means_of, seat_by}
+use Rattle.hp_account.specs.RegistrationMadeBy.{made_by_in_registration, seat_by}
 use Rattle.hp_account.specs.Table.{IsTableOf, IsStepOf, HasRegistration}
 use Rattle.hp_account.specs.Processors.{ProcessorsView, IsStanding}
 use Rattle.hp_account.specs.Places.{at_place}
@@ -109,13 +109,13 @@ callback_is head es s step k Down = sym k.down_is
 -- how it is made, by what it is made by
 made_so : (head : Head) (es : List Event) (op : Op) (c s i : ℕ) (d : Dir) (place : Place) (step : Step) (k : IsStepOf head es s step) →
     sub_at head s es ≡ Some k.sub →
-    how_of_means (means_of (is_nocalls op) step.kept d) (how_answered (can_fail d s place) (answer_at head es c s i d))
+    how_made_by (made_by_in_registration (is_nocalls op) step.kept d) (how_answered (can_fail d s place) (answer_at head es c s i d))
     ≡ how_in_registration head es op c s i d place
 made_so head es op c s i d place step k sub =
     rw (sub, callback_is head es s step k d) (go (is_nocalls op) (has_callback_by step.kept d) _)
   where
     go : (none has : Bool) (answered : How) →
-        how_of_means (cond none made_by.Presumed (cond has made_by.Hook made_by.Empty)) answered
+        how_made_by (cond none made_by.Presumed (cond has made_by.Hook made_by.Empty)) answered
         ≡ cond none how.Presumed (cond has answered how.Empty)
     go true has answered = refl
     go false true answered = refl
@@ -172,12 +172,12 @@ entry_by c key d place by seat =
 -- how the entry is made that it asks for, by what makes it
 pub registration_means : (head : Head) (es : List Event) (places : List (Option Step)) (g : Registering) (r : IsRegistering head es g) →
     IsTableOf head es places → (c : ℕ) (key : Key) (d : Dir) (place : Place) (by : MadeBy) → key.state ≡ g.reg.state →
-    IfSome (step_at places key.state) (λ step. by ≡ means_of (is_nocalls g.reg.op) step.kept d) →
-    how_of_means by (how_answered (can_fail d key.state place) (answer_at head es c key.state key.inst d))
+    IfSome (step_at places key.state) (λ step. by ≡ made_by_in_registration (is_nocalls g.reg.op) step.kept d) →
+    how_made_by by (how_answered (can_fail d key.state place) (answer_at head es c key.state key.inst d))
     ≡ how_in_registration head es r.of.op c key.state key.inst d place
 registration_means head es places g r t c key d place by at means_are =
-    ap (λ m. how_of_means m (how_answered (can_fail d key.state place) (answer_at head es c key.state key.inst d)))
-    (by_is ∙ ap (λ o. means_of (is_nocalls o) h.step.kept d) r.op_is)
+    ap (λ m. how_made_by m (how_answered (can_fail d key.state place) (answer_at head es c key.state key.inst d)))
+    (by_is ∙ ap (λ o. made_by_in_registration (is_nocalls o) h.step.kept d) r.op_is)
     ∙ made_so head es r.of.op c key.state key.inst d place h.step kept sub
   where
     h : HasRegistration head es places r.of
@@ -192,14 +192,14 @@ registration_means head es places g r t c key d place by at means_are =
     sub : sub_at head key.state es ≡ Some kept.sub
     sub = ap (λ s. sub_at head s es) (at ∙ r.state_is) ∙ h.sub_is ∙ kept.sub_is
 
-    by_is : by ≡ means_of (is_nocalls g.reg.op) h.step.kept d
+    by_is : by ≡ made_by_in_registration (is_nocalls g.reg.op) h.step.kept d
     by_is = rw there at means_are
 
 pub comes_by_entry : (head : Head) (es : List Event) (places : List (Option Step)) (p : ProcessorsView) (roll : SeatsView) (g : Registering) →
     IsLawful head es → IsRegistering head es g → IsTableOf head es places → IsStanding head es p → IsRoll head es roll →
     (c : ℕ) (key : Key) (d : Dir) (place : Place) (by : MadeBy) → key.state ≡ g.reg.state →
     regstep.Call c key d place ≡ asked (key_at places g.reg) (cpus_at p.settled head.absent g.reg) g.reg →
-    IfSome (step_at places key.state) (λ step. by ≡ means_of (is_nocalls g.reg.op) step.kept d) →
+    IfSome (step_at places key.state) (λ step. by ≡ made_by_in_registration (is_nocalls g.reg.op) step.kept d) →
     IsComing head es
     (coming.Entry g.seat c (entry_by c key d place by (seat_by (is_nocalls g.reg.op) key.state (at_place roll.threads c) g.seat)))
 comes_by_entry head es places p roll g lawful r t standing seated c key d place by at asks means_are =
@@ -211,7 +211,7 @@ comes_by_entry head es places p roll g lawful r t standing seated c key d place 
     made : How
     made = how_in_registration head es r.of.op c key.state key.inst d place
 
-    how_is : how_of_means by (how_answered (can_fail d key.state place) (answer_at head es c key.state key.inst d)) ≡ made
+    how_is : how_made_by by (how_answered (can_fail d key.state place) (answer_at head es c key.state key.inst d)) ≡ made
     how_is = registration_means head es places g r t c key d place by at means_are
 
     event_of : (k : ℕ) → Event

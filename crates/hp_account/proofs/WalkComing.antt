@@ -45,8 +45,8 @@ use Rattle.hp_account.specs.declared.under_way.NextStep.{NextStep}
 use Rattle.hp_account.specs.declared.under_way.NextStep.TheVariants as coming
 use Rattle.hp_account.specs.declared.under_way.Ending.TheVariants as ending
 use Rattle.hp_account.specs.declared.flights.Flight.{Flight}
-use Rattle.hp_account.specs.NextStep.{IsComing, IsByThread, IsInFlightOf, end_event, means_in_walk}
-use Rattle.hp_account.specs.Entries.{entry_event, how_of_means}
+use Rattle.hp_account.specs.NextStep.{IsComing, IsByThread, IsInFlightOf, end_event, made_by_in_walk}
+use Rattle.hp_account.specs.Entries.{entry_event, how_made_by}
 use Rattle.hp_account.specs.Table.{registered_by, IsStepOf}
 use Rattle.hp_account.specs.WalkComing.{event_of, IsThreadsEntry, IsOfWalk, IsNextOn}
 use Rattle.hp_account.specs.Walking.{IsFlightIn, IsSceneOf}
@@ -128,25 +128,25 @@ has_step P Q places s some h then = go (step_at places s) refl some h
     go (Some step) e f g = then step e g
 
 -- how the entry is made that the walk of a flight asks for, by what makes it
-pub flight_means : (head : Head) (events : List Event) (f : Flight) (places : List (Option Step)) (armed_at thread : Option ℕ) (key : Key)
+pub flight_made_by : (head : Head) (events : List Event) (f : Flight) (places : List (Option Step)) (armed_at thread : Option ℕ) (key : Key)
     (d : Dir) (place : Place) (first : Bool) (made_by : MadeBy) → IsFlightIn head events f →
     IsSceneOf head events places (cpu_of f.walk) armed_at thread → ask.Call key d place first ≡ asked (keys_by places) f.walk →
     IsWithin (keys_by places) f.walk →
-    IfSome (step_at places key.state) (λ step. made_by ≡ means_in_walk step.kept armed_at key.state d place first) →
-    how_of_means made_by (how_answered (can_fail d key.state place) (answer_at head events (cpu_of f.walk) key.state key.inst d))
+    IfSome (step_at places key.state) (λ step. made_by ≡ made_by_in_walk step.kept armed_at key.state d place first) →
+    how_made_by made_by (how_answered (can_fail d key.state place) (answer_at head events (cpu_of f.walk) key.state key.inst d))
     ≡ how_in_walk head events (cpu_of f.walk) key.state key.inst d place first
-flight_means head events f places armed_at thread key d place first made_by one beside is within by =
+flight_made_by head events f places armed_at thread key d place first made_by one beside is within by =
     let c : ℕ = cpu_of f.walk in
     let b = flight_at head events one.flights c f one.flights_are one.there in
     let idle = no_registration head events c f beside.lawful b in
     let some = asked_state (keys_by places) f.walk key d place first within (sym is) in
-    has_step (λ step. made_by ≡ means_in_walk step.kept armed_at key.state d place first)
-    (how_of_means made_by (how_answered (can_fail d key.state place) (answer_at head events c key.state key.inst d))
+    has_step (λ step. made_by ≡ made_by_in_walk step.kept armed_at key.state d place first)
+    (how_made_by made_by (how_answered (can_fail d key.state place) (answer_at head events c key.state key.inst d))
     ≡ how_in_walk head events c key.state key.inst d place first) places key.state some.some by
     (λ step there means_is.
     let registered = registered_there head events places key.state beside.table_is idle ∙ ap registered_by there in
     let kept_there = subst (λ o. IfSome o (IsStepOf head events key.state)) there (beside.table_is.steps key.state) in
-    ap (λ m. how_of_means m (how_answered (can_fail d key.state place) (answer_at head events c key.state key.inst d))) means_is
+    ap (λ m. how_made_by m (how_answered (can_fail d key.state place) (answer_at head events c key.state key.inst d))) means_is
     ∙ made_same head events c key.state key.inst d place first step armed_at
     (has_same head events key.state step d idle registered kept_there) beside.armed_is)
 
@@ -155,7 +155,7 @@ pub flight_entry : (head : Head) (events : List Event) (f : Flight) (places : Li
     (d : Dir) (place : Place) (first : Bool) (made_by : MadeBy) (seat : Option ℕ) (entry : Option Entry) → IsFlightIn head events f →
     IsSceneOf head events places (cpu_of f.walk) armed_at thread → ask.Call key d place first ≡ asked (keys_by places) f.walk →
     IsWithin (keys_by places) f.walk →
-    IfSome (step_at places key.state) (λ step. made_by ≡ means_in_walk step.kept armed_at key.state d place first) →
+    IfSome (step_at places key.state) (λ step. made_by ≡ made_by_in_walk step.kept armed_at key.state d place first) →
     seat ≡ cond (is_ap_state key.state) thread (Some f.seat) →
     entry ≡ option_map (entry_at (cpu_of f.walk) key d place made_by) seat →
     IsNextOn head events (cpu_of f.walk) (coming.Entry f.seat (cpu_of f.walk) entry)
@@ -170,7 +170,7 @@ flight_entry head events f places armed_at thread key d place first made_by seat
     let Given : ℕ → Type 0 = λ k. next_of_walk head events c (walk c events)
     ≡ option_map (λ j. Call j c key.state key.inst d how) (caller events c key.state how k) in
     let made : (k : ℕ) → entry_event head events (entry_at c key d place made_by k) ≡ Call k c key.state key.inst d how =
-    λ k. ap (Call k c key.state key.inst d) (flight_means head events f places armed_at thread key d place first made_by one beside is within by) in
+    λ k. ap (Call k c key.state key.inst d) (flight_made_by head events f places armed_at thread key d place first made_by one beside is within by) in
     let by_seat : seat ≡ caller events c key.state how f.seat =
     seat_is ∙ rw (by_thread_at head events c key.state key.inst d place first, beside.thread_is) refl in
     subst (λ o. IsNextOn head events c (coming.Entry f.seat c o)) (sym (entry_is ∙ ap (option_map (entry_at c key d place made_by)) by_seat))

@@ -36,8 +36,8 @@ use Rattle.hp_walk.specs.Asked.{asked, slot_of}
 use Rattle.hp_walk.proofs.Asked.{asks}
 use Rattle.hp_account.specs.declared.under_way.MadeBy.TheVariants as made_by
 use Rattle.hp_account.specs.declared.flights.Flight.{Flight}
-use Rattle.hp_account.specs.NextStep.{has_callback_by, means_in_walk}
-use Rattle.hp_account.specs.Entries.{how_of_means}
+use Rattle.hp_account.specs.NextStep.{has_callback_by, made_by_in_walk}
+use Rattle.hp_account.specs.Entries.{how_made_by}
 use Rattle.hp_account.specs.Flights.{IsFlight}
 use Rattle.hp_account.specs.Table.{registered_by, IsStepOf}
 
@@ -134,7 +134,7 @@ has_same head events s step d idle is k = rw (idle, is, k.sub_is) (callback_is h
 -- and what makes an entry makes it as the journal's
 pub made_same : (head : Head) (events : List Event) (c s i : ℕ) (d : Dir) (place : Place) (first : Bool) (step : Step)
     (armed_at : Option ℕ) → has_callback_by step.kept d ≡ has_callback (sub_at head s events) d → armed_at ≡ armed c events →
-    how_of_means (means_in_walk step.kept armed_at s d place first) (how_answered (can_fail d s place) (answer_at head events c s i d))
+    how_made_by (made_by_in_walk step.kept armed_at s d place first) (how_answered (can_fail d s place) (answer_at head events c s i d))
     ≡ how_in_walk head events c s i d place first
 made_same head events c s i d place first step armed_at has at =
     rw (has, at) (go (has_callback (sub_at head s events) d) (takes_fault events c s d place first))
@@ -143,7 +143,7 @@ made_same head events c s i d place first step armed_at has at =
     answered = how_answered (can_fail d s place) (answer_at head events c s i d)
 
     go : (has takes : Bool) →
-        how_of_means (cond has (cond takes made_by.Injected made_by.Hook) made_by.Empty) answered
+        how_made_by (cond has (cond takes made_by.Injected made_by.Hook) made_by.Empty) answered
         ≡ cond has (cond takes how.Injected answered) how.Empty
     go true true = refl
     go true false = refl

@@ -12,15 +12,15 @@ use Rattle.hp_account.specs.declared.under_way.MadeBy.{MadeBy}
 use Rattle.hp_account.specs.declared.under_way.MadeBy.TheVariants.{Presumed, Empty, Injected, Hook}
 use Rattle.hp_account.specs.declared.under_way.Entry.{Entry}
 
-abbrev pub how_of_means : MadeBy → (answered : How) → How
-how_of_means Presumed answered = how.Presumed
-how_of_means Empty answered = how.Empty
-how_of_means Injected answered = how.Injected
-how_of_means Hook answered = answered
+abbrev pub how_made_by : MadeBy → (answered : How) → How
+how_made_by Presumed answered = how.Presumed
+how_made_by Empty answered = how.Empty
+how_made_by Injected answered = how.Injected
+how_made_by Hook answered = answered
 
 -- how it is made where its hook answers a code
 abbrev pub how_by : Entry → (code : ℕ) → How
-how_by x code = how_of_means x.made_by (how_answered (can_fail x.dir x.key.state x.place) code)
+how_by x code = how_made_by x.made_by (how_answered (can_fail x.dir x.key.state x.place) code)
 
 -- the event, made so
 abbrev pub entry_made : Entry → How → Event

@@ -18,7 +18,7 @@ pub mod HookAsked
 pub mod Walking
 pub mod FlightNext
 pub mod TableChanges
-pub mod RegistrationMeans
+pub mod RegistrationMadeBy
 pub mod After
 pub mod Appending
 pub mod Operations

@@ -37,13 +37,13 @@ abbrev pub is_injected : (armed_at : Option ℕ) → (state : ℕ) → Dir → P
 is_injected armed_at s d place first = first && (can_fail d s place && is_armed_at armed_at s)
 
 -- what an entry of a walk is made by
-abbrev pub means_in_walk : Kept → (armed_at : Option ℕ) → (state : ℕ) → Dir → Place → (first : Bool) → MadeBy
-means_in_walk kept armed_at s d place first =
+abbrev pub made_by_in_walk : Kept → (armed_at : Option ℕ) → (state : ℕ) → Dir → Place → (first : Bool) → MadeBy
+made_by_in_walk kept armed_at s d place first =
     if has_callback_by kept d then (if is_injected armed_at s d place first then Injected else Hook) else Empty
 
 -- an entry of a walk is made by this, where something is registered
-abbrev pub IsMeansInWalk : Option Step → (armed_at : Option ℕ) → (state : ℕ) → Dir → Place → (first : Bool) → MadeBy → Type 0
-IsMeansInWalk at armed_at s d place first made_by = IfSome at (λ step. made_by ≡ means_in_walk step.kept armed_at s d place first)
+abbrev pub IsMadeByInWalk : Option Step → (armed_at : Option ℕ) → (state : ℕ) → Dir → Place → (first : Bool) → MadeBy → Type 0
+IsMadeByInWalk at armed_at s d place first made_by = IfSome at (λ step. made_by ≡ made_by_in_walk step.kept armed_at s d place first)
 
 -- what is under way is the client's: a walk of its operation, or its registration, while nothing walks
 abbrev pub IsInFlightOf : List Event → (client : ℕ) → Type 0

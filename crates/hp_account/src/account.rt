@@ -4,6 +4,7 @@ ghost use Rattle.std.specs.Prelude.{◌≡◌, ◌<◌, ◌⊎◌, ◌∷◌, �
 ghost use Rattle.hp_states.specs.CpuSets.{HasNoneFrom};
 ghost use Rattle.hp_states.specs.declared.limits.TheConstants.{MAX_CPUS};
 ghost use Rattle.hp_event.specs.declared.event.Event.TheVariants.{Admit};
+ghost use Rattle.hp_model.specs.Events.{is_call};
 ghost use Rattle.hp_model.specs.Heads.{IsHead};
 ghost use Rattle.hp_model.specs.Lawful.{Stands};
 ghost use Rattle.hp_model.specs.Needs.{need as need_of, taken};
@@ -14,6 +15,7 @@ ghost use Rattle.hp_account.specs.After.{disarmed_after};
 ghost use Rattle.hp_account.specs.Appending.{CanAdmit, Admitted, CanAppend, Appended, WalkWentOnIf, RegistrationWentOnIf};
 ghost use Rattle.hp_account.specs.Batches.{batch_of, IsWalking, IsServedFrom, NoneServedFrom};
 ghost use Rattle.hp_account.specs.BatchTurns.{is_batch, CanTurn, TurnTaken, HasPlaceInSet, Awaited};
+ghost use Rattle.hp_account.specs.Entries.{entry_made};
 ghost use Rattle.hp_account.specs.FlightChanges.{IfFlies, CanGoOn};
 ghost use Rattle.hp_account.specs.Places.{at_place};
 ghost use Rattle.hp_account.specs.Table.{IsTableOf};
@@ -28,7 +30,7 @@ use crate::processors::Processors;
 use crate::registering::Registering;
 use crate::seats::Seats;
 use crate::suspended::Suspended;
-use crate::under_way::NextStep;
+use crate::under_way::{Entry, NextStep};
 use hp_event::{Event, Head, How, Journal, Role};
 use hp_hook::Hook;
 use hp_locks::Locks;
@@ -85,9 +87,9 @@ impl Account {
     /// Appends an event that stands to the journal, and takes it into account. What is under way then
     /// is in `coming`.
     ///
-    /// It isn't an admission (`admit` makes those), `need` is the room that it takes, which the journal has
-    /// promised, and the table is that of the journal with the event. Takes no memory, and a time that doesn't grow
-    /// with the journal or the table.
+    /// It is neither an entry nor an admission (`append_entry` and `admit` make those), `need` is the room that it
+    /// takes, which the journal has promised, and the table is that of the journal with the event. Takes no memory, and
+    /// a time that doesn't grow with the journal or the table.
     #[inline(always)]
     pub fn append<H: Hook>(
         &mut self,
@@ -99,6 +101,7 @@ impl Account {
     )
         requires kept { IsAccounted journal.old need self.old }
         requires stands { Stands journal.old.head journal.old.events event.now }
+        requires no_entry { is_call event.now ≡ false }
         requires no_admission { NoAdmission event.now }
         requires need { need ≡ taken (need_of journal.old.head journal.old.events event.now) }
         requires table { IsTableOf journal.old.head (journal.old.events ++ event.now ∷ []) table.now }
@@ -111,6 +114,44 @@ impl Account {
         let freed = self.take(table, event, need);
         journal.push(*event);
         journal.give_back(freed);
+        *coming = self.under_way(journal, table);
+    }
+
+    /// Appends an entry that stands, made so, to the journal, and takes it into account. What is under way then is in
+    /// `coming`.
+    ///
+    /// Its room is what the journal has promised to its walk or its registration, and the table is that of the journal
+    /// with the entry. Takes no memory, and a time that doesn't grow with the journal or the table.
+    #[inline(always)]
+    pub fn append_entry<H: Hook>(
+        &mut self,
+        journal: &mut Journal,
+        coming: &mut Option<NextStep>,
+        table: &Table<H>,
+        entry: &Entry,
+        how: How,
+    )
+        requires kept { IsAccounted journal.old 0 self.old }
+        requires stands { Stands journal.old.head journal.old.events (entry_made entry.now how) }
+        requires table { IsTableOf journal.old.head (journal.old.events ++ entry_made entry.now how ∷ []) table.now }
+        ensures head { journal.new.head ≡ journal.old.head }
+        ensures events { journal.new.events ≡ journal.old.events ++ entry_made entry.now how ∷ [] }
+        ensures kept { IsAccounted journal.new 0 self.new }
+        ensures under_way { IsUnderWay journal.new.head journal.new.events coming.new }
+    {
+        table.sound();
+        let event = entry.event(how);
+        let batch = self.is_batch();
+        self.take_entry(table, entry.cpu, how);
+        take_turn(
+            &mut self.turns,
+            &mut self.awaited,
+            &self.flights,
+            table,
+            &event,
+            batch,
+        );
+        journal.push(event);
         *coming = self.under_way(journal, table);
     }
 
@@ -157,27 +198,16 @@ impl Account {
         Ok(())
     }
 
-    /// Takes one event more into account, but an admission. Answers how much room is given back, which
-    /// a walk or a registration that ends has left. `need` is the room that the event took.
+    /// Takes one event more into account, but an entry or an admission. Answers how much room is given back,
+    /// which a walk or a registration that ends has left. `need` is the room that the event took.
     ///
     /// Takes no memory.
     fn take<H: Hook>(&mut self, table: &Table<H>, event: &Event, need: u32) -> u32
-        requires { CanAppend (keys_by table.now) need event.now self.old }
+        requires no_entry { is_call event.now ≡ false }
+        requires parts { CanAppend (keys_by table.now) need event.now self.old }
         ensures { Appended (keys_by table.now) need result event.now self.old self.new }
     {
         let batch = self.is_batch();
-        if let Event::Call { cpu, how, .. } = *event {
-            self.take_entry(table, cpu, how);
-            take_turn(
-                &mut self.turns,
-                &mut self.awaited,
-                &self.flights,
-                table,
-                event,
-                batch,
-            );
-            return 0;
-        }
         let to = walked_to(&self.flights, event);
         depart(&mut self.seats, event);
         hold(&mut self.locks, event, batch);

@@ -11,7 +11,7 @@ ghost use Rattle.hp_account.specs.FlightChanges.{IsStill, WalkBegan, IsGoing, Ca
 ghost use Rattle.hp_account.specs.BatchTurns.{asks_own, asks_entry, FliesWithin, WalksWithin};
 ghost use Rattle.hp_account.specs.FlightNext.{IsNextOfFlight, IsNextOfFlights, FlightAsks, FlightsAsk};
 
-use crate::under_way::{Ending, Entry, NextStep, means_in_walk};
+use crate::under_way::{Ending, Entry, NextStep, made_by_in_walk};
 use hp_event::How;
 use hp_hook::Hook;
 use hp_states::{CpuSet, NoMemory, ONLINE, is_ap};
@@ -57,7 +57,7 @@ impl Flight {
                 place,
                 first,
             } => {
-                let made_by = means_in_walk(table, armed, key, dir, place, first);
+                let made_by = made_by_in_walk(table, armed, key, dir, place, first);
                 let seat = if is_ap(key.state) {
                     thread
                 } else {
@@ -101,7 +101,7 @@ impl Flight {
                 dir,
                 place,
                 first,
-            } => means_in_walk(table, armed, key, dir, place, first).hook_at(key.state),
+            } => made_by_in_walk(table, armed, key, dir, place, first).hook_at(key.state),
             Step::Ended(_) => None,
         }
     }

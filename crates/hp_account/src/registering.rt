@@ -8,7 +8,7 @@ ghost use Rattle.hp_model.specs.Lawful.{IsLawful};
 ghost use Rattle.hp_table.specs.Step.{step_at};
 ghost use Rattle.hp_account.specs.RegisteringChanges.{RegistrationBegan, RegistrationWentOn};
 ghost use Rattle.hp_account.specs.Registering.{IsRegistering};
-ghost use Rattle.hp_account.specs.RegistrationMeans.{seat_by, IsMeansOf};
+ghost use Rattle.hp_account.specs.RegistrationMadeBy.{seat_by, IsMadeByInRegistration};
 ghost use Rattle.hp_account.specs.Table.{IsTableOf};
 ghost use Rattle.hp_account.specs.Seats.{IsRoll};
 ghost use Rattle.hp_account.specs.Processors.{IsStanding};
@@ -142,7 +142,7 @@ impl Registering {
     /// What an entry of a direction at the state is made by.
     fn made_by<H: Hook>(&self, table: &Table<H>, state: u32, dir: Dir) -> MadeBy
         requires { IsSome (step_at table.now state) }
-        ensures { IsMeansOf (is_nocalls self.now.reg.op) (step_at table.now state) dir result }
+        ensures { IsMadeByInRegistration (is_nocalls self.now.reg.op) (step_at table.now state) dir result }
     {
         if self.is_nocalls() {
             return MadeBy::Presumed;

@@ -5,7 +5,7 @@ ghost use Rattle.hp_table.specs.Step.{step_at};
 ghost use Rattle.hp_model.specs.Events.{seat_of};
 ghost use Rattle.hp_model.specs.Lawful.{IsLawful};
 ghost use Rattle.hp_account.specs.Account.{IsAccount, IsLoneWalker, NoLoneWalker};
-ghost use Rattle.hp_account.specs.NextStep.{due_beyond, thread_due_beyond, end_event, has_callback_by, waits_by, IsMeansInWalk};
+ghost use Rattle.hp_account.specs.NextStep.{due_beyond, thread_due_beyond, end_event, has_callback_by, waits_by, IsMadeByInWalk};
 ghost use Rattle.hp_account.specs.Entries.{how_by, entry_made};
 ghost use Rattle.hp_account.specs.Table.{IsTableOf};
 ghost use Rattle.hp_account.specs.UnderWay.{IsUnderWay, hook_by};
@@ -201,7 +201,7 @@ pub fn has_callback<H: Hook>(table: &Table<H>, state: u32, dir: Dir) -> bool
 /// What an entry of a walk is made by, whose state is registered: nothing where its subsystem has no
 /// callback of that direction, a fault where the processor is armed there and it may fail, and is the
 /// first of its crossing, and else the hook.
-pub fn means_in_walk<H: Hook>(
+pub fn made_by_in_walk<H: Hook>(
     table: &Table<H>,
     armed: Option<u32>,
     key: Key,
@@ -210,7 +210,7 @@ pub fn means_in_walk<H: Hook>(
     first: bool,
 ) -> MadeBy
     requires { IsSome (step_at table.now key.state) }
-    ensures { IsMeansInWalk (step_at table.now key.state) armed key.state dir place first result }
+    ensures { IsMadeByInWalk (step_at table.now key.state) armed key.state dir place first result }
 {
     if !has_callback(table, key.state, dir) {
         return MadeBy::Empty;

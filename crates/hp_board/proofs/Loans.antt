@@ -31,7 +31,7 @@ use Rattle.hp_account.specs.TableChanges.{is_registering}
 use Rattle.hp_account.specs.declared.under_way.Entry.{Entry}
 use Rattle.hp_account.specs.declared.under_way.MadeBy.{MadeBy}
 use Rattle.hp_account.specs.declared.under_way.MadeBy.TheVariants.{Presumed, Empty, Injected, Hook}
-use Rattle.hp_account.specs.Entries.{entry_event, how_by, how_of_means}
+use Rattle.hp_account.specs.Entries.{entry_event, how_by, how_made_by}
 use Rattle.hp_board.specs.Contents.{Contents}
 use Rattle.hp_board.specs.Answered.{aside_of}
 use Rattle.hp_board.specs.Loans.{IsLoan, is_hook, aside_at, loan_of, loan, IsOutFor, AreOut}
@@ -219,14 +219,14 @@ disarms_not es k c s i d how e h = go (is_some (walk c es))
     go false = refl
 
 -- an entry by its hook, and not
-means_hook : (m : MadeBy) (answered : How) → is_called answered ≡ true → is_called (how_of_means m answered) ≡ true → m ≡ Hook
+means_hook : (m : MadeBy) (answered : How) → is_called answered ≡ true → is_called (how_made_by m answered) ≡ true → m ≡ Hook
 means_hook Presumed answered a is = absurd (false≢true is)
 means_hook Empty answered a is = absurd (false≢true is)
 means_hook Injected answered a is = absurd (false≢true is)
 means_hook Hook answered a is = refl
 
 -- whether an entry asks its hook
-asks_by : (m : MadeBy) (answered : How) → is_called answered ≡ true → is_called (how_of_means m answered) ≡ is_hook m
+asks_by : (m : MadeBy) (answered : How) → is_called answered ≡ true → is_called (how_made_by m answered) ≡ is_hook m
 asks_by Presumed answered a = refl
 asks_by Empty answered a = refl
 asks_by Injected answered a = refl

@@ -1,9 +1,9 @@
 -- The start of a board, and why it doesn't start: the first thing that is at fault in its head, or memory was wanting. This project's own.
-use Rattle.std.specs.Prelude.{◌≡◌, ◌+◌, [], List, None, replicate}
-use Rattle.hp_states.specs.declared.limits.TheConstants.{ONLINE}
+use Rattle.std.specs.Prelude.{◌≡◌, List}
 use Rattle.hp_event.specs.declared.head.Sub.{Sub}
 use Rattle.hp_event.specs.declared.head.Head.{Head}
 use Rattle.hp_model.specs.Heads.{IsHead}
+use Rattle.hp_machine.specs.Contents.{started}
 use Rattle.hp_machine.specs.Heads.{IsFirstFault}
 use Rattle.hp_machine.specs.declared.heads.HeadFault.{HeadFault}
 use Rattle.hp_board.specs.Contents.{Contents}
@@ -17,7 +17,7 @@ head_of plan subs = record { possible = plan.possible; absent = plan.absent; sub
 
 -- no event was made, and nothing is registered
 abbrev pub IsStarted : Head → Contents → Type 0
-IsStarted head board = board ≡ record { head = head; events = []; places = replicate (ONLINE + 1) None; lent = board.lent }
+IsStarted head board = board ≡ started head board.lent
 
 abbrev pub IsStartRefusal : Head → StartError → Type 0
 IsStartRefusal head NoProcessor = IsFirstFault head HeadFault.NoProcessor

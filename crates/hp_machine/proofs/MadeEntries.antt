@@ -14,7 +14,7 @@ use Rattle.hp_table.specs.Step.{Step, step_at, changed_at, called_step}
 use Rattle.hp_account.specs.declared.under_way.Entry.{Entry}
 use Rattle.hp_account.specs.declared.under_way.MadeBy.{MadeBy}
 use Rattle.hp_account.specs.declared.under_way.MadeBy.TheVariants.{Presumed, Empty, Injected, Hook}
-use Rattle.hp_account.specs.Entries.{entry_event, entry_made, how_by, how_of_means}
+use Rattle.hp_account.specs.Entries.{entry_event, entry_made, how_by, how_made_by}
 use Rattle.hp_account.specs.Table.{IsTableOf}
 use Rattle.hp_account.specs.TableChanges.{table_after}
 use Rattle.hp_machine.proofs.EventTables.{calls_hook}
@@ -34,7 +34,7 @@ pub record IsByHook (head : Head) (es : List Event) (places : List (Option Step)
 
 called_by_hook : (x : Entry) (code : ℕ) → x.made_by ≡ Hook → is_called (how_by x code) ≡ true
 called_by_hook x code is =
-    ap (λ m. is_called (how_of_means m (how_answered (can_fail x.dir x.key.state x.place) code))) is
+    ap (λ m. is_called (how_made_by m (how_answered (can_fail x.dir x.key.state x.place) code))) is
     ∙ answered_called (can_fail x.dir x.key.state x.place) code
 
 pub by_hook : (head : Head) (es : List Event) (places : List (Option Step)) (x : Entry) → IsLawful head es → IsTableOf head es places →
@@ -62,7 +62,7 @@ pub record IsWithoutHook (head : Head) (es : List Event) (places : List (Option 
   pub changed_is : table_after head es (entry_event head es x) places ≡ places
   pub after : IsTableOf head (es ++ entry_event head es x ∷ []) places
 
-without : (m : MadeBy) (a b : How) → (m ≡ Hook → ⊥) → (how_of_means m a ≡ how_of_means m b) × (is_called (how_of_means m b) ≡ false)
+without : (m : MadeBy) (a b : How) → (m ≡ Hook → ⊥) → (how_made_by m a ≡ how_made_by m b) × (is_called (how_made_by m b) ≡ false)
 without Presumed a b other = (refl, refl)
 without Empty a b other = (refl, refl)
 without Injected a b other = (refl, refl)

@@ -20,6 +20,7 @@ impl<H: Hook> Machine<H> {
     ///
     /// There is no condition. Takes no memory, and looks at no event. After `cpuhp_invoke_callback`
     /// and `cpuhp_invoke_ap_callback` of `kernel/cpu.c`.
+    #[inline(always)]
     pub fn due(&self, seat: u32) -> Option<Entry>
         ensures { IsDue self.now.head self.now.events seat result }
     {
@@ -119,12 +120,24 @@ impl<H: Hook> Machine<H> {
             MadeBy::Hook => {
                 let state = entry.key.state;
                 let answer = self.table.call(state, entry.cpu, entry.key.inst, entry.dir);
-                let event = entry.event(entry.how(answer));
-                self.account.append(&mut self.journal, &mut self.coming, &self.table, &event, 0);
+                let how = entry.how(answer);
+                self.account.append_entry(
+                    &mut self.journal,
+                    &mut self.coming,
+                    &self.table,
+                    entry,
+                    how,
+                );
             }
             _ => {
-                let event = entry.event(entry.how(0));
-                self.account.append(&mut self.journal, &mut self.coming, &self.table, &event, 0);
+                let how = entry.how(0);
+                self.account.append_entry(
+                    &mut self.journal,
+                    &mut self.coming,
+                    &self.table,
+                    entry,
+                    how,
+                );
             }
         }
     }
@@ -145,8 +158,8 @@ impl<H: Hook> Machine<H> {
     {
         self.lent.take(entry.cpu);
         self.table.restore(entry.key.state, hook);
-        let event = entry.event(entry.how(answer));
-        self.account.append(&mut self.journal, &mut self.coming, &self.table, &event, 0);
+        let how = entry.how(answer);
+        self.account.append_entry(&mut self.journal, &mut self.coming, &self.table, entry, how);
     }
 }
 

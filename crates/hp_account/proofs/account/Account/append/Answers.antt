@@ -7,8 +7,8 @@ use Rattle.hp_account.proofs.account.Account.append.Given as given
 use Rattle.hp_account.proofs.account.Account.append.Goals as goal
 use Rattle.hp_account.proofs.account.Account.append.Goals.{After-take-freed, After-give_back}
 
-pub take-freed-requires : goal.take-freed-requires
-take-freed-requires g c =
+pub take-freed-requires-clause-parts : goal.take-freed-requires-clause-parts
+take-freed-requires-clause-parts g c =
     let j = c.args.journal.now in
     let r = c.requires in
     can_append j.head j.events c.args.table.now c.args.self.now c.args.need c.args.event.now r.no_admission r.kept.lawful r.stands r.need

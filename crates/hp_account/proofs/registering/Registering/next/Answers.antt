@@ -4,7 +4,7 @@ use Rattle.hp_reg.specs.Concerned.{key_at, cpus_at}
 use Rattle.hp_reg.specs.declared.step.RegStep.TheVariants as regstep
 use Rattle.hp_model.specs.How.{is_nocalls}
 use Rattle.hp_account.specs.Places.{at_place}
-use Rattle.hp_account.specs.RegistrationMeans.{seat_by}
+use Rattle.hp_account.specs.RegistrationMadeBy.{seat_by}
 use Rattle.hp_account.proofs.RegistrationComing.{comes_to_end, comes_by_entry, entry_by}
 use Rattle.hp_account.proofs.registering.Registering.next.Goals as goal
 

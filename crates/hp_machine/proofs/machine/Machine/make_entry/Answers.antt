@@ -1,15 +1,9 @@
 use Rattle.std.proofs.Common.{◌≡◌, List, ◌<◌, IsSome, IfSome, ◌∙◌, ap, sym, subst, refl, ◌++◌, ◌∷◌, []}
 use Rattle.hp_states.specs.declared.limits.TheConstants.{MAX_EVENTS}
 use Rattle.hp_states.specs.Rules.{site_at}
-use Rattle.hp_event.specs.declared.event.Event.{Event}
-use Rattle.hp_event.specs.declared.head.Head.{Head}
-use Rattle.hp_event.specs.declared.how.How.{How}
 use Rattle.hp_model.specs.Lawful.{Stands}
-use Rattle.hp_model.specs.Needs.{need, taken}
 use Rattle.hp_table.specs.Kept.{answer_at}
 use Rattle.hp_table.specs.Step.{Step}
-use Rattle.hp_account.specs.declared.under_way.Entry.{Entry}
-use Rattle.hp_account.specs.Accounted.{NoAdmission}
 use Rattle.hp_account.specs.Entries.{entry_event, entry_made, how_by}
 use Rattle.hp_account.specs.Table.{IsTableOf}
 use Rattle.hp_account.specs.TableChanges.{table_after}
@@ -18,7 +12,7 @@ use Rattle.hp_machine.proofs.MadeEntries.{IsByHook, by_hook, without_hook}
 use Rattle.hp_machine.proofs.Made.{Makes, makes, made_machine, made_seen, seen}
 use Rattle.hp_machine.proofs.machine.Machine.make_entry.Given as given
 use Rattle.hp_machine.proofs.machine.Machine.make_entry.Goals as goal
-use Rattle.hp_machine.proofs.machine.Machine.make_entry.Goals.{In-Hook, After-event-event, After-event-event-in_default}
+use Rattle.hp_machine.proofs.machine.Machine.make_entry.Goals.{In-Hook, After-how-how, After-how-how-in_default}
 
 there : (g : given.Over) (c : In-Hook g) →
     IsByHook c.self.inside.journal.head c.self.inside.journal.events c.self.inside.table c.args.entry.now
@@ -38,49 +32,49 @@ call-answer-requires-clause-few g c =
     let h = there g (goal.at.call-answer-requires-clause-few g c).In-Hook in
     subst (λ o. IfSome o (λ (step : Step). step.kept.counts.made < MAX_EVENTS)) (sym h.there) h.few
 
-called : (g : given.Over) (c : After-event-event g) → IsByHook c.self.inside.journal.head c.self.inside.journal.events c.self.inside.table c.args.entry.now →
+called : (g : given.Over) (c : After-how-how g) → IsByHook c.self.inside.journal.head c.self.inside.journal.events c.self.inside.table c.args.entry.now →
     Makes c.self.inside.journal c.self.inside.table c.call-answer.new.self
-    (entry_event c.self.inside.journal.head c.self.inside.journal.events c.args.entry.now) c.event-event.result
+    (entry_event c.self.inside.journal.head c.self.inside.journal.events c.args.entry.now) (entry_made c.args.entry.now c.how-how.result)
 called g c h =
     let j = c.self.inside.journal in
     let x = c.args.entry.now in
     let e = entry_event j.head j.events x in
     let stands = subst (λ (m : Contents). Stands m.head m.events (entry_event m.head m.events x)) (sym c.self.view_is) c.requires.stands in
     let answer = subst (λ o. IfSome o (λ (step : Step). c.call-answer.result ≡ answer_at step.kept (site_at x.cpu x.key.inst x.dir))) h.there c.call-answer.ensures.answer in
-    let same = c.event-event.ensures ∙ (ap (entry_made x) c.how.ensures ∙ (ap (λ n. entry_made x (how_by x n)) answer ∙ h.event_is)) in
+    let same = ap (entry_made x) c.how-how.ensures ∙ (ap (λ n. entry_made x (how_by x n)) answer ∙ h.event_is) in
     let changed : c.call-answer.new.self ≡ table_after j.head j.events e c.self.inside.table = c.call-answer.ensures.called ∙ sym h.changed_is in
-    makes j c.self.inside.table c.call-answer.new.self e c.event-event.result stands same changed
+    makes j c.self.inside.table c.call-answer.new.self e (entry_made c.args.entry.now c.how-how.result) stands same changed
     (subst (IsTableOf j.head (j.events ++ e ∷ [])) (sym changed) h.after)
 
-uncalled : (g : given.Over) (c : After-event-event-in_default g) →
+uncalled : (g : given.Over) (c : After-how-how-in_default g) →
     Makes c.self.inside.journal c.self.inside.table c.self.inside.table
-    (entry_event c.self.inside.journal.head c.self.inside.journal.events c.args.entry.now) c.event-event-in_default.result
+    (entry_event c.self.inside.journal.head c.self.inside.journal.events c.args.entry.now) (entry_made c.args.entry.now c.how-how-in_default.result)
 uncalled g c =
     let j = c.self.inside.journal in
     let x = c.args.entry.now in
     let stands = subst (λ (m : Contents). Stands m.head m.events (entry_event m.head m.events x)) (sym c.self.view_is) c.requires.stands in
     let w = without_hook j.head j.events c.self.inside.table x 0 c.self.invariant.table_is c.in_default.not-Hook in
-    let same = c.event-event-in_default.ensures ∙ (ap (entry_made x) c.how-in_default.ensures ∙ w.event_is) in
-    makes j c.self.inside.table c.self.inside.table (entry_event j.head j.events x) c.event-event-in_default.result stands same
+    let same = ap (entry_made x) c.how-how-in_default.ensures ∙ w.event_is in
+    makes j c.self.inside.table c.self.inside.table (entry_event j.head j.events x) (entry_made c.args.entry.now c.how-how-in_default.result) stands same
     (sym w.changed_is) w.after
 
-pub append-requires-clause-stands : goal.append-requires-clause-stands
-append-requires-clause-stands g c =
-    let at = goal.at.append-requires-clause-stands g c in
-    (called g at.After-event-event (there g at.In-Hook)).stands
+pub append_entry-requires-clause-stands : goal.append_entry-requires-clause-stands
+append_entry-requires-clause-stands g c =
+    let at = goal.at.append_entry-requires-clause-stands g c in
+    (called g at.After-how-how (there g at.In-Hook)).stands
 
-pub append-requires-clause-table : goal.append-requires-clause-table
-append-requires-clause-table g c =
-    let at = goal.at.append-requires-clause-table g c in
-    (called g at.After-event-event (there g at.In-Hook)).table
+pub append_entry-requires-clause-table : goal.append_entry-requires-clause-table
+append_entry-requires-clause-table g c =
+    let at = goal.at.append_entry-requires-clause-table g c in
+    (called g at.After-how-how (there g at.In-Hook)).table
 
 pub invariant_of-self : goal.invariant_of-self
 invariant_of-self g c =
     let at = goal.at.invariant_of-self g c in
-    let m = called g at.After-event-event (there g at.In-Hook) in
-    let a = c.append.ensures in
-    made_machine c.self.inside.journal c.append.new.journal c.append.new.self c.append.new.coming
-    c.event-event.result c.call-answer.new.self a.head a.events a.kept a.under_way m.table
+    let m = called g at.After-how-how (there g at.In-Hook) in
+    let a = c.append_entry.ensures in
+    made_machine c.self.inside.journal c.append_entry.new.journal c.append_entry.new.self c.append_entry.new.coming
+    (entry_made c.args.entry.now c.how-how.result) c.call-answer.new.self a.head a.events a.kept a.under_way m.table
 
 pub returns-in-Hook : goal.returns-in-Hook
 returns-in-Hook g c =
@@ -88,33 +82,24 @@ returns-in-Hook g c =
     let x = c.args.entry.now in
     let lent = c.self.inside.lent in
     let j = c.self.inside.journal in
-    let a = c.append.ensures in
-    subst (λ (m : Contents). seen c.append.new.journal c.call-answer.new.self lent ≡ with_event m (entry_event m.head m.events x))
+    let a = c.append_entry.ensures in
+    subst (λ (m : Contents). seen c.append_entry.new.journal c.call-answer.new.self lent ≡ with_event m (entry_event m.head m.events x))
     c.self.view_is
-    (made_seen j c.append.new.journal c.self.inside.table c.call-answer.new.self lent (entry_event j.head j.events x)
-    c.event-event.result a.head a.events (called g at.After-event-event (there g at.In-Hook)))
+    (made_seen j c.append_entry.new.journal c.self.inside.table c.call-answer.new.self lent (entry_event j.head j.events x)
+    (entry_made c.args.entry.now c.how-how.result) a.head a.events (called g at.After-how-how (there g at.In-Hook)))
 
--- an entry isn't an admission, and takes no room
-entry_alone : (head : Head) (es : List Event) (x : Entry) (how : How) → NoAdmission (entry_made x how) × (0 ≡ taken (need head es (entry_made x how)))
-entry_alone head es x how = (λ seat role is. absurd (cc), refl)
-
-pub append-requires-in_default : goal.append-requires-in_default
-append-requires-in_default g c =
-    let at = goal.at.append-requires-in_default g c in
-    let j = c.self.inside.journal in
-    let x = c.args.entry.now in
-    let m = uncalled g at.After-event-event-in_default in
-    let alone = subst (λ e. NoAdmission e × (0 ≡ taken (need j.head j.events e))) (sym c.event-event-in_default.ensures)
-    (entry_alone j.head j.events x c.how-in_default.result) in
-    record { kept = c.self.invariant.kept; stands = m.stands; no_admission = alone.0; need = alone.1; table = m.table }
+pub append_entry-requires-in_default : goal.append_entry-requires-in_default
+append_entry-requires-in_default g c =
+    let m = uncalled g (goal.at.append_entry-requires-in_default g c).After-how-how-in_default in
+    record { kept = c.self.invariant.kept; stands = m.stands; table = m.table }
 
 pub invariant_of-self-in_default : goal.invariant_of-self-in_default
 invariant_of-self-in_default g c =
     let at = goal.at.invariant_of-self-in_default g c in
-    let m = uncalled g at.After-event-event-in_default in
-    let a = c.append-in_default.ensures in
-    made_machine c.self.inside.journal c.append-in_default.new.journal c.append-in_default.new.self
-    c.append-in_default.new.coming c.event-event-in_default.result c.self.inside.table a.head a.events a.kept a.under_way m.table
+    let m = uncalled g at.After-how-how-in_default in
+    let a = c.append_entry-in_default.ensures in
+    made_machine c.self.inside.journal c.append_entry-in_default.new.journal c.append_entry-in_default.new.self
+    c.append_entry-in_default.new.coming (entry_made c.args.entry.now c.how-how-in_default.result) c.self.inside.table a.head a.events a.kept a.under_way m.table
 
 pub returns-in_default : goal.returns-in_default
 returns-in_default g c =
@@ -122,10 +107,10 @@ returns-in_default g c =
     let x = c.args.entry.now in
     let lent = c.self.inside.lent in
     let j = c.self.inside.journal in
-    let a = c.append-in_default.ensures in
+    let a = c.append_entry-in_default.ensures in
     subst
     (λ (m : Contents).
-    seen c.append-in_default.new.journal c.self.inside.table lent ≡ with_event m (entry_event m.head m.events x))
+    seen c.append_entry-in_default.new.journal c.self.inside.table lent ≡ with_event m (entry_event m.head m.events x))
     c.self.view_is
-    (made_seen j c.append-in_default.new.journal c.self.inside.table c.self.inside.table lent (entry_event j.head j.events x)
-    c.event-event-in_default.result a.head a.events (uncalled g at.After-event-event-in_default))
+    (made_seen j c.append_entry-in_default.new.journal c.self.inside.table c.self.inside.table lent (entry_event j.head j.events x)
+    (entry_made c.args.entry.now c.how-how-in_default.result) a.head a.events (uncalled g at.After-how-how-in_default))

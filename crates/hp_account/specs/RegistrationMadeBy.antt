@@ -10,12 +10,12 @@ use Rattle.hp_account.specs.declared.under_way.MadeBy.TheVariants.{Presumed, Emp
 use Rattle.hp_account.specs.NextStep.{has_callback_by}
 
 -- nothing where the form is without calls or there is no callback of the direction, and else the state's hook
-abbrev pub means_of : (nocalls : Bool) → Kept → Dir → MadeBy
-means_of nocalls kept d = if nocalls then Presumed else (if has_callback_by kept d then Hook else Empty)
+abbrev pub made_by_in_registration : (nocalls : Bool) → Kept → Dir → MadeBy
+made_by_in_registration nocalls kept d = if nocalls then Presumed else (if has_callback_by kept d then Hook else Empty)
 
 -- an entry of that direction is made by this, where something is registered
-abbrev pub IsMeansOf : (nocalls : Bool) → Option Step → Dir → MadeBy → Type 0
-IsMeansOf nocalls place d made_by = IfSome place (λ step. made_by ≡ means_of nocalls step.kept d)
+abbrev pub IsMadeByInRegistration : (nocalls : Bool) → Option Step → Dir → MadeBy → Type 0
+IsMadeByInRegistration nocalls place d made_by = IfSome place (λ step. made_by ≡ made_by_in_registration nocalls step.kept d)
 
 -- the thread of the processor at an AP state, unless the entry is presumed, and else the client
 abbrev pub seat_by : (nocalls : Bool) → (state : ℕ) → (thread : Option ℕ) → (client : ℕ) → Option ℕ
