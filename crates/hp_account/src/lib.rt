@@ -2,9 +2,9 @@
 //!
 //! An `Account` says who is in, who holds which lock, where processors stand, which operation holds the map
 //! lock, which walks and which registration are in flight and how far they are, and how much room is promised to
-//! each. `append` puts one event more into the journal and into the account, with what is under way then:
-//! the entry or the end that comes next in flight (`NextStep`). `change_table` changes the table of states, which
-//! holds the hooks and stands beside the journal, as an event does.
+//! each. `append` puts one event more into the journal and into the account, `append_entry` an entry, with what
+//! is under way then: the entry or the end that comes next in flight (`NextStep`). `change_table` changes the table
+//! of states, which holds the hooks and stands beside the journal, as an event does.
 //!
 //! Its contract is that of hp_model's definitions. `specs/Account.antt` says that each part is the fold of the
 //! events, `specs/Table.antt` what the table of states has, meanwhile too, and `specs/UnderWay.antt` what is under
