@@ -57,6 +57,7 @@ module _ {V : Type 0} (head : V → Head) (story : V → List Event) (aside : V 
     knows = knows_more x.seat x.admits x.front t added u f.knows grows others admitted;
     admitted = f.admitted;
     heard = λ y e. let old = f.heard y e in record {
+      alike = old.alike;
       one = knows_more x.seat y.had y.one t added u old.one grows others (λ yes. admitted (old.right yes));
       two = prefix_trans y.two t u old.two (added, grows);
       front_is = old.front_is;

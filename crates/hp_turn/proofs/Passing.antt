@@ -84,7 +84,7 @@ module _ {V : Type 0} (head : V → Head) (story : V → List Event) (aside : V 
   pub joins : (id : ℕ) (v : View) (other : ℕ) (w : View) → v.spent ≡ false → v.held ≡ None → w.spent ≡ false →
       w.held ≡ None → Joins Rule id v other w (joined v w) spent
   joins id v other w live idle live' idle' s r at apart there = let fits = r.each id v at live in
-      let one : View = joined v w in let both : Heard = record { one = v.front; two = w.front; had = v.admits } in
+      let one : View = joined v w in let both : Heard = record { one = v.front; two = w.front; had = v.admits; head = w.head } in
       let was : get_elem? s.views other ≡ some w = sym (set_else s.views id other one apart) ∙ there in
       let fits' = r.each other w was live' in
       let s1 : St = record { words = s.words; homes = s.homes; views = set s.views other spent } in
@@ -100,7 +100,8 @@ module _ {V : Type 0} (head : V → Head) (story : V → List Event) (aside : V 
         admitted = λ k e. has_before k v.front (longer v.front w.front) all.1 (fits.admitted k e);
         aside = fits.aside;
         heard = λ y e. let is : both ≡ y = cc e in
-            subst (WereHeard v.seat (v.admits || w.admits) (longer v.front w.front) r.told) is record {
+            subst (WereHeard r.h v.seat (v.admits || w.admits) (longer v.front w.front) r.told) is record {
+              alike = fits'.alike;
               one = fits.knows;
               two = knows_prefix w.seat w.admits w.front r.told fits'.knows;
               front_is = refl;
@@ -137,19 +138,21 @@ module _ {V : Type 0} (head : V → Head) (story : V → List Event) (aside : V 
                 (knows_until m.0.seat y.had y.one (longer y.one y.two) r.told old.one all.1 all.0),
             subst (IsPrefix y.two)
                 (sym old.front_is) all.2,
+            old.alike ∙ sym fits.alike,
           ),
     ),
   )
 
 -- what the load after a join tells
 pub joined_front : (v w m n : View) → m ≡ joined v w → n ≡ settled m →
-    ((x : Heard) → m.heard ≡ Some x → Knows m.seat x.had x.one m.front × IsPrefix x.two m.front)
-    → (n.front ≡ longer v.front w.front) × Knows v.seat v.admits v.front n.front × IsPrefix w.front n.front
-joined_front v w m n e f told = let both : Heard = record { one = v.front; two = w.front; had = v.admits } in
+    ((x : Heard) → m.heard ≡ Some x → Knows m.seat x.had x.one m.front × IsPrefix x.two m.front × (x.head ≡ m.head))
+    → (n.front ≡ longer v.front w.front) × Knows v.seat v.admits v.front n.front × IsPrefix w.front n.front × (w.head ≡ v.head)
+joined_front v w m n e f told = let both : Heard = record { one = v.front; two = w.front; had = v.admits; head = w.head } in
     let t = told both (ap (λ (x : View). x.heard) e) in
     let nf : n.front ≡ m.front = ap (λ (x : View). x.front) f in (
       nf ∙ ap (λ (x : View). x.front) e,
       subst (Knows v.seat v.admits v.front) (sym nf)
           (subst (λ s. Knows s v.admits v.front m.front) (ap (λ (x : View). x.seat) e) t.0),
       subst (IsPrefix w.front) (sym nf) t.1,
+      t.2 ∙ ap (λ (x : View). x.head) e,
     )

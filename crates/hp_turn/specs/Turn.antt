@@ -15,8 +15,9 @@ use Rattle.hp_turn.specs.Asides.{seat_aside}
 use Rattle.hp_turn.specs.Story.{HasAdmit, Knows, longer}
 use Rattle.hp_turn.specs.Views.{held_of, holding, missed, after_count, freed, settled}
 
--- two fronts that a join brought together, while the story is `told`
-pub record WereHeard (seat : Option ℕ) (admits : Bool) (front told : List Event) (x : Heard) : Type 0 where
+-- two fronts that a join brought together, of passes with one head, while the story is `told`
+pub record WereHeard (h : Head) (seat : Option ℕ) (admits : Bool) (front told : List Event) (x : Heard) : Type 0 where
+  pub alike : x.head ≡ h
   pub one : Knows seat x.had x.one told
   pub two : IsPrefix x.two told
   pub front_is : front ≡ longer x.one x.two
@@ -27,7 +28,7 @@ pub record Fits (h : Head) (told : List Event) (pairs : List (ℕ × Aside)) (v 
   pub alike : v.head ≡ h
   pub knows : Knows v.seat v.admits v.front told
   pub admitted : (k : ℕ) → v.seat ≡ Some k → HasAdmit k v.front
-  pub heard : (x : Heard) → v.heard ≡ Some x → WereHeard v.seat v.admits v.front told x
+  pub heard : (x : Heard) → v.heard ≡ Some x → WereHeard h v.seat v.admits v.front told x
   pub aside : v.aside ≡ seat_aside v.seat pairs
 
 -- no two seats of the table have a view of the kind
@@ -117,8 +118,8 @@ without (c ∷ cs) = cs
 abbrev pub released : {V : Type 0} → Me (Option V) View → Me (Option V) View → Type 0
 released m n = n ≡ (freed m.0, without m.1)
 
--- the load of word 0 after a join: both fronts begin the longer
+-- the load of word 0 after a join: both fronts begin the longer, and both passes have one head
 abbrev pub learned : {V : Type 0} → Me (Option V) View → Me (Option V) View → Type 0
 learned m n =
     (n ≡ (settled m.0, m.1))
-    × ((x : Heard) → m.0.heard ≡ Some x → Knows m.0.seat x.had x.one m.0.front × IsPrefix x.two m.0.front)
+    × ((x : Heard) → m.0.heard ≡ Some x → Knows m.0.seat x.had x.one m.0.front × IsPrefix x.two m.0.front × (x.head ≡ m.0.head))

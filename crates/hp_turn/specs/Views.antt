@@ -76,7 +76,7 @@ split_right v = fresh v.head v.front v.admits
 abbrev pub joined : View → View → View
 joined v w =
     view v.head (longer v.front w.front) v.seat (v.admits || w.admits)
-    (Some (record { one = v.front; two = w.front; had = v.admits })) v.misses v.held v.aside v.kept
+    (Some (record { one = v.front; two = w.front; had = v.admits; head = w.head })) v.misses v.held v.aside v.kept
 
 -- that step: the two fronts are forgotten
 abbrev pub settled : View → View

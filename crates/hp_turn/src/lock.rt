@@ -167,8 +167,8 @@ impl<V: Grown> TurnLock<V> {
 
     /// Takes the other pass in, which ends. The pass's front is the longer of both, which both
     /// begin. Past its own front as given it has no event of the pass's seat and, where the pass
-    /// may admit, no Admit. The right to admit comes over. Condition: the lock gave both passes,
-    /// neither holds it, and nothing is lent to the other.
+    /// may admit, no Admit. The right to admit comes over. Both passes have one head, that of the
+    /// value. Condition: the lock gave both passes, neither holds it, and nothing is lent to the other.
     ///
     /// Waits for nobody, and takes no memory.
     pub fn join(&self, pass: &mut TurnPass<V>, other: TurnPass<V>)
@@ -176,6 +176,7 @@ impl<V: Grown> TurnLock<V> {
         requires other { MayLock self.now other }
         requires nothing { other.aside ≡ None }
         ensures head { pass.new.head ≡ pass.old.head }
+        ensures one_head { other.head ≡ pass.old.head }
         ensures front { pass.new.front ≡ longer pass.old.front other.front }
         ensures whole { IsPrefix other.front pass.new.front }
         ensures knew { Knew pass.old pass.new.front }

@@ -12,6 +12,8 @@ pub struct Heard {
     pub two: LinkedList<Event>,
     /// The first had the right to admit.
     pub had: bool,
+    /// The head of the other pass.
+    pub head: Head,
 }
 
 /// What a pass has of the value while it holds the lock: what it took, and from where it is told

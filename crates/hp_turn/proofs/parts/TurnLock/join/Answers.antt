@@ -1,4 +1,4 @@
-use Rattle.std.proofs.Common.{rules, ◌≡◌, ap, ◌∙◌, subst}
+use Rattle.std.proofs.Common.{rules, ◌≡◌, ap, sym, ◌∙◌, subst}
 use mathlib.Core.List.{IsPrefix}
 use Rattle.hp_turn.specs.Story.{Knows, longer}
 use Rattle.hp_turn.specs.Pass.{Pass}
@@ -38,3 +38,9 @@ returns-clause-knew g c =
     let told = joined_front c.pass.inside.seat.me.0 c.other.inside.seat.me.0 c.join_seat.new.seat.me.0 c.load.new.seat.me.0
     (ap (λ m. m.0) c.join_seat.ensures.2) (ap (λ m. m.0) c.load.ensures.2.0) c.load.ensures.2.1 in
     subst (λ (p : Pass). Knows p.seat p.admits p.front c.load.new.seat.me.0.front) c.pass.view_is told.1
+
+pub returns-clause-one_head : goal.returns-clause-one_head
+returns-clause-one_head g c =
+    let told = joined_front c.pass.inside.seat.me.0 c.other.inside.seat.me.0 c.join_seat.new.seat.me.0 c.load.new.seat.me.0
+    (ap (λ m. m.0) c.join_seat.ensures.2) (ap (λ m. m.0) c.load.ensures.2.0) c.load.ensures.2.1 in
+    sym (ap (λ (p : Pass). p.head) c.other.view_is) ∙ told.3 ∙ ap (λ (p : Pass). p.head) c.pass.view_is
