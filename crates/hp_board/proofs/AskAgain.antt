@@ -50,7 +50,7 @@ role_kept xs (Admit seat role) k other = let apart = ne_eqb seat k other in rw a
 role_kept xs (Leave seat) k other = let apart = ne_eqb seat k other in rw apart refl
 role_kept xs e k other = refl
 
-allowed_after : (head : Head) (xs : List Event) (e : Event) (p : Pending) → seat_of e ≢ p.seat → IsAllowed head xs p →
+pub allowed_after : (head : Head) (xs : List Event) (e : Event) (p : Pending) → seat_of e ≢ p.seat → IsAllowed head xs p →
     IsAllowed head (xs ++ e ∷ []) p
 allowed_after head xs e p other a =
     record {
@@ -81,7 +81,7 @@ own_role op xs (Admit seat role) k of = absurd of
 own_role op xs (Leave seat) k of = absurd of
 own_role op xs e k of = refl
 
-own_after : (head : Head) (xs : List Event) (e : Event) (p : Pending) → BelongsTo p.op e → IsAllowed head xs p →
+pub own_after : (head : Head) (xs : List Event) (e : Event) (p : Pending) → BelongsTo p.op e → IsAllowed head xs p →
     IsAllowed head (xs ++ e ∷ []) p
 own_after head xs e p of a =
     record {

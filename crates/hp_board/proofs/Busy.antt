@@ -32,7 +32,7 @@ use Rattle.hp_board.specs.Hooks.{has_hook, has_hook_after}
 abbrev busy_after : (k : ℕ) → List Event → Event → Bool
 busy_after k xs e = holds_map k (operation_step (operation xs) xs e) || registers k (registration_step (registration xs) xs e)
 
-busy_push : (k : ℕ) (xs : List Event) (e : Event) → is_busy k (xs ++ e ∷ []) ≡ busy_after k xs e
+pub busy_push : (k : ℕ) (xs : List Event) (e : Event) → is_busy k (xs ++ e ∷ []) ≡ busy_after k xs e
 busy_push k xs e = rw (operation_push xs e, registration_push xs e) refl
 
 keeps : (head : Head) (xs : List Event) (e : Event) (k : ℕ) → Comes head xs e → seat_of e ≢ k → busy_after k xs e ≡ is_busy k xs
@@ -77,11 +77,11 @@ begins : (k : ℕ) (op : Op) (state : Option ℕ) (e : Event) → reg_begin k op
 begins k op None e h = absurd (none_some e h)
 begins k op (Some s) e h = (s, sym (same_some (RegBegin k s op) e h))
 
-unless : (b : Bool) (o : Option Event) (e : Event) → cond b None o ≡ Some e → o ≡ Some e
+pub unless : (b : Bool) (o : Option Event) (e : Event) → cond b None o ≡ Some e → o ≡ Some e
 unless true o e h = absurd (none_some e h)
 unless false o e h = h
 
-where_so : (b : Bool) (o : Option Event) (e : Event) → cond b o None ≡ Some e → o ≡ Some e
+pub where_so : (b : Bool) (o : Option Event) (e : Event) → cond b o None ≡ Some e → o ≡ Some e
 where_so true o e h = h
 where_so false o e h = absurd (none_some e h)
 
@@ -92,7 +92,7 @@ begun head xs k s sub form (Some errno) e h none =
 begun head xs k s sub form None e h none =
     begins k (Setup s sub form) (resolved head xs (Setup s sub form)) e (unless (is_waiting xs (Setup s sub form)) _ e h)
 
-with_room : (head : Head) (xs : List Event) (o : Option Event) (e : Event) → if_room head xs o ≡ Some e → o ≡ Some e
+pub with_room : (head : Head) (xs : List Event) (o : Option Event) (e : Event) → if_room head xs o ≡ Some e → o ≡ Some e
 with_room head xs None e h = h
 with_room head xs (Some x) e h = where_so (has_room head xs x) (Some x) e h
 

@@ -16,3 +16,4 @@ pub mod LoansMade
 pub mod OwnEntries
 pub mod HookOuts
 pub mod Moving
+pub mod GoesOn

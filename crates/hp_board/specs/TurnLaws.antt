@@ -1,6 +1,6 @@
 -- Laws of turns and of the events that they make: which seats stay busy, what may be asked after a turn, and what an operation answers.
 -- This project's own.
-use Rattle.std.specs.Prelude.{◌≡◌, ◌≢◌, ◌⊎◌, ℕ, pos, true, None, Some, Option, List, [], ◌∷◌, ◌++◌}
+use Rattle.std.specs.Prelude.{◌≡◌, ◌≢◌, ◌⊎◌, ℕ, pos, true, false, None, Some, Option, List, [], ◌∷◌, ◌++◌}
 use Rattle.hp_event.specs.declared.answer.Answer.{Answer}
 use Rattle.hp_event.specs.declared.answer.Answer.TheVariants.{Ok, LogFull}
 use Rattle.hp_event.specs.declared.event.Event.{Event}
@@ -10,7 +10,7 @@ use Rattle.hp_event.specs.declared.op.Op.{Op}
 use Rattle.hp_account.specs.TableChanges.{is_setup}
 use Rattle.hp_machine.specs.MayAsk.{MayAsk}
 use Rattle.hp_model.specs.Entries.{codes_of_faults}
-use Rattle.hp_model.specs.Events.{seat_of, answer_by}
+use Rattle.hp_model.specs.Events.{seat_of, answer_by, is_answer}
 use Rattle.hp_model.specs.Lawful.{IsLawful, Stands}
 use Rattle.hp_model.specs.Moves.{ArePending}
 use Rattle.hp_model.specs.NextEvent.{next_event}
@@ -48,6 +48,16 @@ StaysBusy events e k =
 abbrev pub SetupGoesOn : Head → List Event → Event → (seat : ℕ) → Op → Type 0
 SetupGoesOn head events e k op =
     is_setup op ≡ true → next_event head events k op ≡ Some e → answer_by e ≡ None → is_busy k (events ++ e ∷ []) ≡ true
+
+-- so does what comes next of any operation
+abbrev pub GoesOnBusy : Head → List Event → Event → (seat : ℕ) → Op → Type 0
+GoesOnBusy head events e k op =
+    next_event head events k op ≡ Some e → answer_by e ≡ None → is_busy k (events ++ e ∷ []) ≡ true
+
+-- an event that answers leaves its seat with nothing in flight
+abbrev pub AnswerFrees : Head → List Event → Event → Type 0
+AnswerFrees head events e =
+    IsLawful head events → Stands head events e → is_answer e ≡ true → is_busy (seat_of e) (events ++ e ∷ []) ≡ false
 
 -- a walk that ends with no fault among its entries answers Ok(0)
 abbrev pub EndsOk : Head → List Event → (seat cpu : ℕ) → Answer → Type 0

@@ -6,7 +6,7 @@ ghost use Rattle.hp_board.specs.Contents.{Contents};
 ghost use Rattle.hp_board.specs.Turns.{IsTurn, IsServed};
 ghost use Rattle.hp_model.specs.NextEvent.{next_event, is_full};
 ghost use Rattle.hp_model.specs.Pending.{Pending};
-ghost use Rattle.hp_board.specs.TurnLaws.{LeavesOtherBusy, LeavesOthersHook, StaysBusy, SetupGoesOn, AfterTurn, AnswersOk, EndsOk, SomeSeatMoves};
+ghost use Rattle.hp_board.specs.TurnLaws.{LeavesOtherBusy, LeavesOthersHook, StaysBusy, SetupGoesOn, GoesOnBusy, AnswerFrees, AfterTurn, AnswersOk, EndsOk, SomeSeatMoves};
 ghost use Rattle.hp_machine.specs.MayAsk.{MayAsk};
 
 use crate::turn::Turn;
@@ -30,6 +30,17 @@ pub fn stays_busy(events: &[Event], event: &Event, seat: u32)
 #[tactic(auto, using(crate::proofs::Busy::setup_goes_on))]
 pub fn setup_goes_on(head: &Head, events: &[Event], event: &Event, seat: u32, op: Op)
     ensures { SetupGoesOn head.now events.now event.now seat op }
+{}
+
+/// What comes next of an operation and is no answer leaves its seat busy.
+#[tactic(auto, using(crate::proofs::GoesOn::goes_on_busy))]
+pub fn goes_on_busy(head: &Head, events: &[Event], event: &Event, seat: u32, op: Op)
+    ensures { GoesOnBusy head.now events.now event.now seat op }
+{}
+
+/// An event that stands and answers an operation leaves its seat with nothing in flight.
+pub fn answer_frees(head: &Head, events: &[Event], event: &Event)
+    ensures { AnswerFrees head.now events.now event.now }
 {}
 
 /// Where there is no room for an operation's first event, no event of it comes next.

@@ -34,8 +34,9 @@ pub use board::Board;
 pub use hook_laws::{admit_keeps_hooks, leave_keeps_hooks, serve_keeps_hooks, turn_keeps_hooks};
 pub use hp_machine::AdmitError;
 pub use laws::{
-    allowed_again, answers_ok, full_has_no_event, others_keep, serve_keeps_others, setup_goes_on,
-    some_seat_moves, stays_busy, turn_keeps_others, walk_ends_ok,
+    allowed_again, answer_frees, answers_ok, full_has_no_event, goes_on_busy, others_keep,
+    serve_keeps_others, setup_goes_on, some_seat_moves, stays_busy, turn_keeps_others,
+    walk_ends_ok,
 };
 pub use loan::{Back, Loan};
 pub use start::{CpuPlan, StartError};

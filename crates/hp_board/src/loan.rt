@@ -59,6 +59,13 @@ impl<H: Hook> Model for Back<H> {
 }
 
 impl<H: Hook> Loan<H> {
+    /// The state whose hook it is. Takes no memory. That hooks are lent is this project's own.
+    pub fn state(&self) -> u32
+        ensures { result ≡ self.now.key.state }
+    {
+        self.key.state
+    }
+
     /// Calls the hook once, for the entry that it is lent for. Takes no memory. After
     /// `cpuhp_invoke_callback` of `kernel/cpu.c`; that it is called outside is this project's own.
     pub fn call(self) -> Back<H>
