@@ -1,7 +1,7 @@
 -- Digits read one by one, up to a limit: the loop that ends where the limit is passed says what all digits say.
-use Rattle.std.proofs.Common.{◌≡◌, ℕ, ◌+◌, ◌-◌, ◌*◌, ◌<◌, ◌≤◌, Bool, true, false, ltb, List, [], ◌∷◌, length, get_or, drop, Ok, Err, refl, sym, ap, ◌∙◌, arith}
+use Rattle.std.proofs.Common.{◌≡◌, ℕ, ◌+◌, ◌-◌, ◌*◌, ◌^◌, ◌<◌, ◌≤◌, Bool, true, false, cond, ltb, Some, None, List, [], ◌∷◌, length, get_or, drop, Ok, Err, refl, sym, ap, ◌∙◌, arith}
 use Rattle.std.specs.Prelude.{Result}
-use Rattle.std.proofs.lemmas.Bool.{lt-ltb, le-ltb}
+use Rattle.std.proofs.lemmas.Bool.{lt-ltb, le-ltb, ltb-false}
 use Rattle.std.proofs.lemmas.List.{at_drop_more, at_drop_all}
 use Rattle.hp_text.specs.declared.unread.Unread.{Unread}
 use Rattle.hp_text.specs.declared.unread.Unread.TheVariants.{NotOfForm}
@@ -56,3 +56,11 @@ at_end limit i n ds s over =
     let form : are_digits ds ≡ true = sym s.form ∙ at_drop_all are_digits ds i over in
     let small : ltb (value ds) limit ≡ true = lt-ltb (value ds) limit (omega (arith, is, s.below)) in
     rw (form, small) (ap (λ (k : ℕ). Ok k) is)
+
+by_test : (n : ℕ) (t : Bool) → ltb n (2 ^ 64) ≡ t → None ≡ cond t (Some n) None → 2 ^ 64 ≤ n
+by_test n true is e = absurd cc
+by_test n false is e = ltb-false n (2 ^ 64) is
+
+-- a number past the type u64
+pub too_large : (n : ℕ) → None ≡ cond (ltb n (2 ^ 64)) (Some n) None → 2 ^ 64 ≤ n
+too_large n e = by_test n (ltb n (2 ^ 64)) refl e

@@ -3,7 +3,9 @@ pub mod NumberLaws
 pub mod Readings
 pub mod SetWords
 pub mod SetLoop
+pub mod ListLoop
 pub mod OpLaws
+pub mod SubLaws
 pub mod SmallDecimals
 pub mod SpacedWords
 pub mod SetText

@@ -9,7 +9,7 @@ use Rattle.hp_model.specs.Lists.{is_empty}
 use Rattle.hp_text.specs.declared.unread.Unread.{Unread}
 use Rattle.hp_text.specs.declared.unread.Unread.TheVariants.{NotOfForm, OutOfRange}
 use Rattle.hp_text.specs.Fits.{IsU32, IsI32}
-use Rattle.hp_text.specs.Numbers.{is_digit, are_digits, is_plain, is_number, read_on, value, if_below, at_least, number_below, number_from, number, negated, natural, integer}
+use Rattle.hp_text.specs.Numbers.{is_digit, are_digits, is_plain, is_number, read_on, value, if_below, at_least, number_below, number_from, long_number, number, negated, natural, integer}
 
 own : IsNumeralModel (λ ds. are_digits ds ≡ true) (read_on 0)
 own = numerals_by_fold _ (search rules) read_on (search rules)
@@ -165,3 +165,10 @@ integer_is_spelled w (Err u) e = tt
 
 pub integer_read : (w : List ℕ) (r : Result ℤ Unread) → r ≡ integer w → (z : ℤ) → IsI32 z → w ≡ signed_decimal z → r ≡ Ok z
 integer_read w r e z fits is = e ∙ integer_again z w fits is
+
+pub long_spelled : (w : List ℕ) (r : Result ℕ Unread) → r ≡ long_number w → IfOk r (λ n. w ≡ decimal n)
+long_spelled w (Ok n) e = (below_takes (2 ^ 64) w n (omega arith) (sym e)).0
+long_spelled w (Err u) e = tt
+
+pub long_read : (w : List ℕ) (r : Result ℕ Unread) → r ≡ long_number w → (n : ℕ) → n < 2 ^ 64 → w ≡ decimal n → r ≡ Ok n
+long_read w r e n lt is = e ∙ below_again (2 ^ 64) n w (omega arith) lt is

@@ -3,6 +3,9 @@ pub mod Readings
 pub mod Numbers
 pub mod Flags
 pub mod Sets
+pub mod Lists
+pub mod Choices
+pub mod Subs
 pub mod FirstWords
 pub mod OpAt
 pub mod Fits

@@ -1,6 +1,6 @@
 -- Words that are numbers, and what they say: `0`, or digits of which the first isn't 0. A signed one may have a `-`
 -- before it, but not before 0. This project's own.
-use Rattle.std.specs.Prelude.{ℕ, zero, suc, ◌+◌, ◌-◌, ◌*◌, ◌^◌, ℤ, pos, negsuc, Bool, false, not, ◌&&◌, ◌||◌, ◌==◌, nat_lt, nat_le, if◌then◌else◌, List, [], ◌∷◌, Result, Ok, Err}
+use Rattle.std.specs.Prelude.{ℕ, zero, suc, ◌+◌, ◌-◌, ◌*◌, ◌^◌, ℤ, pos, negsuc, Bool, false, not, ◌&&◌, ◌||◌, ◌==◌, nat_lt, nat_le, if◌then◌else◌, List, [], ◌∷◌, Option, Some, None, Result, Ok, Err}
 use Rattle.std.specs.List.{list_all}
 use Rattle.hp_text.specs.declared.unread.Unread.{Unread}
 use Rattle.hp_text.specs.declared.unread.Unread.TheVariants.{NotOfForm, OutOfRange}
@@ -28,6 +28,10 @@ read_on n (byte ∷ bytes) = read_on (n * 10 + (byte - 48)) bytes
 abbrev pub value : (digits : List ℕ) → ℕ
 value digits = read_on 0 digits
 
+-- a number with a digit more, where it is of the type u64
+abbrev pub with_digit : (n digit : ℕ) → Option ℕ
+with_digit n digit = if nat_lt (n * 10 + digit) (2 ^ 64) then Some (n * 10 + digit) else None
+
 -- a number, where it is below a limit
 abbrev pub if_below : (limit n : ℕ) → Result ℕ Unread
 if_below limit n = if nat_lt n limit then Ok n else Err OutOfRange
@@ -52,6 +56,10 @@ at_least low (Err unread) = Err unread
 -- the number from `low`, below a limit, that a word says
 abbrev pub number_from : (low limit : ℕ) → (word : List ℕ) → Result ℕ Unread
 number_from low limit word = at_least low (number_below limit word)
+
+-- a number of the type u64
+abbrev pub long_number : (word : List ℕ) → Result ℕ Unread
+long_number word = number_below (2 ^ 64) word
 
 -- a number of the type u32
 abbrev pub number : (word : List ℕ) → Result ℕ Unread

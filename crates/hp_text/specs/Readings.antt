@@ -1,6 +1,6 @@
 -- What readers of words say: a field is one word, a tail is all the words that are left. Words say nothing where any
 -- part of them isn't of the form; else, where a number in them is out of its range. This project's own.
-use Rattle.std.specs.Prelude.{ℕ, List, [], ◌∷◌, Result, Ok, Err}
+use Rattle.std.specs.Prelude.{ℕ, List, [], ◌∷◌, Option, Some, None, Result, Ok, Err}
 use Rattle.hp_text.specs.declared.unread.Unread.{Unread}
 use Rattle.hp_text.specs.declared.unread.Unread.TheVariants.{NotOfForm, OutOfRange}
 
@@ -41,3 +41,18 @@ alone field (w ∷ v ∷ ws) = Err NotOfForm
 abbrev pub in_front : {A B : Type 0} → Field A → Tail B → Tail (A × B)
 in_front field tail [] = Err NotOfForm
 in_front field tail (w ∷ ws) = both (field w) (tail ws)
+
+-- a word that has a form alone, and no range
+abbrev pub of_form : {A : Type 0} → Option A → Reading A
+of_form (Some a) = Ok a
+of_form None = Err NotOfForm
+
+-- each word that is left
+abbrev pub each : {A : Type 0} → Field A → Tail (List A)
+each field [] = Ok []
+each field (w ∷ ws) = said (λ x. x.0 ∷ x.1) (both (field w) (each field ws))
+
+-- one word or more
+abbrev pub some : {A : Type 0} → Field A → Tail (List A)
+some field [] = Err NotOfForm
+some field (w ∷ ws) = each field (w ∷ ws)

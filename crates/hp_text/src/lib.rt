@@ -11,26 +11,33 @@
 //! is a part of the readers' contracts.
 #![tactic(auto)]
 
+mod choices;
 mod first_word;
 mod fits;
 mod flags;
+mod lists;
 mod numbers;
 mod op;
 mod set;
 mod spell;
 mod spell_op;
+mod subs;
 mod tails;
 mod unread;
 mod words;
 
-pub use first_word::file_of;
+pub use choices::{dir_of, is_name};
+pub use first_word::{OpWord, op_word};
 pub use fits::{integer_fits, number_fits, op_fits};
-pub use numbers::{integer, is_number, number, number_below, number_from};
-pub use op::read_op;
+pub use lists::{number_list, number_list_or_dash, rise_from};
+pub use numbers::{integer, long_number, number, number_from};
+pub use op::{read_op, read_op_behind};
 pub use spell::{
     append, append_any, append_behind_dot, append_count, append_dir, append_name, append_number,
     append_numbers, append_of, append_signed, end_line,
 };
 pub use spell_op::append_op;
+pub use subs::{rule, sub};
+pub use tails::{both, done, number_alone};
 pub use unread::Unread;
 pub use words::Words;

@@ -4,7 +4,7 @@
 ghost use Rattle.std.specs.Prelude.{◌≡◌, ◌≤◌, ◌<◌, ◌^◌, ℕ, ℤ, Ok, IfOk, decimal};
 ghost use Rattle.std.specs.Fmt.{signed_decimal};
 ghost use Rattle.hp_text.specs.Fits.{IsU32, IsI32};
-ghost use Rattle.hp_text.specs.Numbers.{are_digits, is_plain as is_plain_at, is_number as is_number_at, past_limit as past_limit_at, digits_below as digits_below_at, number_below as number_below_at, number_from as number_from_at, number as number_at, integer as integer_at, negated as negated_at};
+ghost use Rattle.hp_text.specs.Numbers.{are_digits, is_plain as is_plain_at, is_number as is_number_at, past_limit as past_limit_at, digits_below as digits_below_at, number_below as number_below_at, number_from as number_from_at, long_number as long_number_at, with_digit as with_digit_at, number as number_at, integer as integer_at, negated as negated_at};
 
 use crate::unread::Unread;
 
@@ -51,6 +51,30 @@ fn digits_below(limit: u64, digits: &[u8]) -> Result<u32, Unread>
     Ok(value as u32)
 }
 
+/// A number with a digit more, where it is of the type `u64`.
+fn with_digit(number: u64, digit: u8) -> Option<u64>
+    ensures { result ≡ with_digit_at number digit }
+{
+    number.checked_mul(10)?.checked_add(digit as u64)
+}
+
+/// The number of the type `u64` that digits say. It ends at the first digit that passes the type.
+fn long_digits(digits: &[u8]) -> Result<u64, Unread>
+    ensures { result ≡ digits_below_at (2 ^ 64) digits.now }
+{
+    let mut value: u64 = 0;
+    for byte in digits {
+        if !byte.is_ascii_digit() {
+            return Err(Unread::NotOfForm);
+        }
+        match with_digit(value, *byte - b'0') {
+            Some(more) => value = more,
+            None => return Err(past_limit(digits)),
+        }
+    }
+    Ok(value)
+}
+
 /// Whether a word isn't empty, and has no 0 before other bytes.
 fn is_plain(word: &[u8]) -> bool
     ensures { result ≡ is_plain_at word.now }
@@ -79,6 +103,33 @@ pub fn number_below(limit: u64, word: &[u8]) -> Result<u32, Unread>
         return Err(Unread::NotOfForm);
     }
     digits_below(limit, word)
+}
+
+/// A number of the type `u64`.
+#[tactic(auto, unfolding(crate::specs::Numbers::number_below))]
+fn any_long_number(word: &[u8]) -> Result<u64, Unread>
+    ensures { result ≡ long_number_at word.now }
+{
+    if !is_plain(word) {
+        return Err(Unread::NotOfForm);
+    }
+    long_digits(word)
+}
+
+/// The number of the type `u64` that a word says.
+///
+/// - `NotOfForm` where the word is no number.
+/// - `OutOfRange` where the number is 2 ^ 64 or more.
+///
+/// There is no condition. Takes no memory. This project's own.
+#[tactic(auto, using(crate::proofs::NumberLaws::long_spelled, crate::proofs::NumberLaws::long_read))]
+pub fn long_number(word: &[u8]) -> Result<u64, Unread>
+    ensures said { result ≡ long_number_at word.now }
+    // A word that is read is the spelling of its number, and the spelling of a number is read.
+    ensures spelled { IfOk result (λ n. word.now ≡ decimal n) }
+    ensures read { (n : ℕ) → n < 2 ^ 64 → word.now ≡ decimal n → result ≡ Ok n }
+{
+    any_long_number(word)
 }
 
 /// The number from `low`, below a limit, that a word says.

@@ -38,9 +38,15 @@ fn show<'a, W: Words<'a>>(words: &mut W) -> Result<Op, Unread>
     shown(file_of(name), words)
 }
 
-/// The words behind the first word of an operation.
+/// The operation that the words say which are left behind its first word.
+///
+/// - `NotOfForm` where they are the words of no operation with that first word.
+/// - `OutOfRange` where they are, and a number is out of its type's range, or the processors of an
+///   upmany don't rise or aren't below 256.
+///
+/// There is no condition. Takes no memory. The forms are this project's own.
 #[tactic(auto, unfolding(crate::specs::OpAt::op_tail))]
-fn behind<'a, W: Words<'a>>(first: OpWord, words: &mut W) -> Result<Op, Unread>
+pub fn read_op_behind<'a, W: Words<'a>>(first: OpWord, words: &mut W) -> Result<Op, Unread>
     ensures { result ≡ op_tail first (W.left words.old) }
 {
     match first {
@@ -92,7 +98,7 @@ fn any_op<'a, W: Words<'a>>(words: &mut W) -> Result<Op, Unread>
         return Err(Unread::NotOfForm);
     };
     match op_word(word) {
-        Some(first) => behind(first, words),
+        Some(first) => read_op_behind(first, words),
         None => Err(Unread::NotOfForm),
     }
 }

@@ -23,8 +23,8 @@ fn are_numbers<'a, W: Words<'a>>(words: &mut W) -> bool
     true
 }
 
-/// Why words say no set of which one number is out of its range: the others may not be numbers.
-fn out_of_range<'a, W: Words<'a>>(words: &mut W) -> Unread
+/// Why words say nothing behind a number that is out of its range: these may not be numbers.
+pub fn out_of_range<'a, W: Words<'a>>(words: &mut W) -> Unread
     ensures { result ≡ out_of_range_at (W.left words.old) }
 {
     if are_numbers(words) {

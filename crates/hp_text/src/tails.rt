@@ -13,8 +13,10 @@ use crate::words::Words;
 use hp_event::Form;
 
 /// What two readings say together: the form of both comes before the range of either.
+///
+/// Takes no memory. This project's own.
 #[inline(always)]
-fn both<A: Copy, B: Copy>(
+pub fn both<A: Copy, B: Copy>(
     first: Result<A, Unread>,
     second: Result<B, Unread>,
 ) -> Result<(A, B), Unread>
