@@ -4,12 +4,19 @@ use Rattle.std.proofs.Math.ListN.{replicate}
 use Rattle.std.specs.Prelude.{codes, decimal}
 use Rattle.std.specs.Fmt.{digits}
 use Rattle.hp_states.specs.declared.limits.TheConstants.{MAX_EVENTS}
+use Rattle.hp_text.specs.Numbers.{number_below, integer}
+use Rattle.hp_text.specs.Choices.{dir_of, calls_of, kind_of, name_of, any_from}
+use Rattle.hp_text.specs.Flags.{form}
+use Rattle.hp_text.specs.Sets.{set}
+use Rattle.hp_text.specs.Subs.{sub, rule}
+use Rattle.hp_text.specs.FirstWords.{op_word_of, file_of}
+use Rattle.hp_text.specs.OpAt.{op_tail}
 use Rattle.hp_script.specs.declared.error.ScriptKind.{ScriptKind}
 use Rattle.hp_script.specs.declared.error.ScriptKind.TheVariants.{BadByte, NoCpus, BadWord, BadOrder, StillLocked, BadForm, BadNumber, NoSub, TooMany, NoActor}
 use Rattle.hp_script.specs.declared.before.Before.{Before}
 use Rattle.hp_script.specs.Pieces.{lines}
 use Rattle.hp_script.specs.Verbs.{verb_of}
-use Rattle.hp_script.specs.Statements.{none_of, one_of, two_of, numbers_of, dir_of, calls_of, kind_of, flag_of, both_flags, some_flags, flags_of, number_of, sub_of, rule_of, mix_of, turns_of, schedule_of_kind, schedule_of, actor_of, pair_of, signed_of, show_of_file, show_of, flagged_of, place_of, op_of}
+use Rattle.hp_script.specs.Statements.{schedule_of_kind, schedule}
 use Rattle.hp_script.specs.Before.{start, after_line}
 use Rattle.hp_script.specs.Refusals.{refusal, refusal_at_end}
 
@@ -64,6 +71,7 @@ cases =
     (of_one (codes "actor a" ∷ codes "upmost 1" ∷ []), Some (3, BadWord)) ∷
     (acting (codes "upmany" ∷ []), Some (4, BadForm)) ∷
     (acting (codes "upmany 256 x" ∷ []), Some (4, BadForm)) ∷
+    (acting (codes "upmany 2 1" ∷ []), Some (4, BadNumber)) ∷
     -- the order of lines
     (of_one (codes "cpus 1" ∷ []), Some (2, BadOrder)) ∷
     (of_one (codes "cpus x y" ∷ []), Some (2, BadOrder)) ∷
@@ -134,20 +142,28 @@ cases =
     (acting (codes "lock now" ∷ []), Some (4, BadForm)) ∷
     (acting (codes "target 1 200" ∷ []), None) ∷
     (acting (codes "fail" ∷ []), Some (4, BadForm)) ∷
+    (acting (codes "fail 0 +1" ∷ []), Some (4, BadForm)) ∷
+    (acting (codes "target 4096 -0" ∷ []), Some (4, BadForm)) ∷
+    (acting (codes "target 4095 -2147483649" ∷ []), Some (4, BadNumber)) ∷
+    (acting (codes "target 4095 -2147483648" ∷ []), None) ∷
+    (acting (codes "show other 1" ∷ []), Some (4, BadForm)) ∷
     (acting (codes "show states" ∷ []), None) ∷
     (acting (codes "boot x" ∷ []), Some (4, BadForm)) ∷
     (acting (codes "disable" ∷ []), None) ∷
     (acting (codes "enable now" ∷ []), Some (4, BadForm)) ∷
-    (acting (codes "freeze 9999" ∷ []), Some (4, BadNumber)) ∷
+    (acting (codes "freeze 4096" ∷ []), Some (4, BadNumber)) ∷
+    (acting (codes "freeze -2" ∷ []), Some (4, BadNumber)) ∷
+    (acting (codes "freeze -0" ∷ []), Some (4, BadForm)) ∷
+    (acting (codes "freeze -1" ∷ codes "freeze 4095" ∷ []), None) ∷
     (acting (codes "thaw" ∷ []), None) ∷
     (acting (codes "wakeup" ∷ []), None) ∷
     []
 
 cases_hold : map (λ row. verdict 2 row.0) cases ≡ map (λ row. row.1) cases
-unfolding verdict digits verb_of none_of one_of two_of numbers_of dir_of calls_of kind_of flag_of both_flags some_flags flags_of number_of sub_of rule_of mix_of turns_of schedule_of_kind schedule_of actor_of pair_of signed_of show_of_file show_of flagged_of place_of op_of
+unfolding verdict digits op_word_of file_of number_below integer form set op_tail dir_of calls_of kind_of name_of any_from sub rule verb_of schedule_of_kind schedule
 cases_hold = refl
 
 -- the subsystem is looked for before a hook is
 without_hooks : verdict 0 (acting (codes "setup 1 2" ∷ [])) ≡ Some (4, NoSub)
-unfolding verdict verb_of none_of one_of two_of numbers_of dir_of calls_of kind_of flag_of both_flags some_flags flags_of number_of sub_of rule_of mix_of turns_of schedule_of_kind schedule_of actor_of pair_of signed_of show_of_file show_of flagged_of place_of op_of
+unfolding verdict op_word_of file_of number_below integer form set op_tail dir_of calls_of kind_of name_of any_from sub rule verb_of schedule_of_kind schedule
 without_hooks = refl

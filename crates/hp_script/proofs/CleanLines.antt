@@ -6,13 +6,14 @@ use Rattle.std.specs.List.{list_all, list_any}
 use Rattle.std.proofs.lemmas.Bool.{and_parts, and_from, leb-true, le-leb, or_from}
 use Rattle.std.proofs.lemmas.List.{append-nil}
 use Rattle.std.proofs.lemmas.List.Folds.{list_any-append}
+use Rattle.hp_model.specs.Lists.{is_empty}
 use Rattle.hp_model.specs.Words.{spaced, joined, line}
+use Rattle.hp_text.specs.Numbers.{is_digit, is_number}
+use Rattle.hp_text.proofs.NumberLaws.{decimal_written}
 use Rattle.hp_script.specs.Pieces.{onto_first, pieces}
-use Rattle.hp_script.specs.Words.{is_empty, words, is_bad_byte, has_bad_byte}
-use Rattle.hp_script.specs.Numbers.{is_digit}
+use Rattle.hp_script.specs.Words.{words, is_bad_byte, has_bad_byte}
 use Rattle.hp_script.proofs.Appended.{assoc}
 use Rattle.hp_script.proofs.PieceLoops.{at_end, in_piece}
-use Rattle.hp_script.proofs.DecimalWords.{decimal_written}
 
 abbrev pub is_graphic : ℕ → Bool
 is_graphic byte = nat_le 33 byte && nat_le byte 126
@@ -34,10 +35,14 @@ digits_graphic (b ∷ bs) h =
     (and_from (leb 33 b) (leb b 126) (le-leb 33 b (omega (arith, low))) (le-leb b 126 (omega (arith, high))))
     (digits_graphic bs p.1)
 
+some_byte : (w : List ℕ) → is_number w ≡ true → is_empty w ≡ false
+some_byte [] h = absurd cc
+some_byte (b ∷ bs) h = refl
+
 pub decimal_clean : (n : ℕ) → n < 2 ^ 64 → is_clean (decimal n) ≡ true
 decimal_clean n lt =
     let w = decimal_written n lt in
-    and_from (not (is_empty (decimal n))) (list_all is_graphic (decimal n)) (ap not w.some) (digits_graphic (decimal n) w.digits)
+    and_from (not (is_empty (decimal n))) (list_all is_graphic (decimal n)) (ap not (some_byte (decimal n) w.form)) (digits_graphic (decimal n) w.digits)
 
 -- ---- bytes that a text doesn't have
 

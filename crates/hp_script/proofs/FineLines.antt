@@ -1,9 +1,11 @@
 -- Lines of clean words of which none is refused, each after those before it, as they stand in a text.
-use Rattle.std.proofs.Common.{◌≡◌, ℕ, ◌+◌, ◌≤◌, Bool, true, false, cond, not, ◌&&◌, List, [], ◌∷◌, ◌++◌, length, map, Option, Some, None, refl, sym, ap, subst, ◌∙◌, arith}
+use Rattle.std.proofs.Common.{◌≡◌, ℕ, ◌+◌, ◌≤◌, Bool, true, false, cond, not, ◌&&◌, List, [], ◌∷◌, ◌++◌, length, map, Option, Some, None, Ok, refl, sym, ap, subst, ◌∙◌, arith}
+use Rattle.std.specs.Result.{result_ok}
 use Rattle.std.specs.List.{flat_map}
 use Rattle.std.proofs.lemmas.List.{append-nil, length-append}
 use Rattle.std.proofs.lemmas.List.Concat.{flat_map-append}
 use Rattle.hp_model.specs.Words.{joined, line}
+use Rattle.hp_text.specs.Readings.{Reading}
 use Rattle.hp_script.specs.declared.error.ScriptKind.TheVariants.{NoCpus, BadWord, BadOrder, StillLocked, BadForm, BadNumber, NoSub, TooMany}
 use Rattle.hp_script.specs.declared.verb.Verb.{Verb}
 use Rattle.hp_script.specs.declared.before.Before.{Before}
@@ -11,10 +13,10 @@ use Rattle.hp_script.specs.declared.statement.Statement.{Statement}
 use Rattle.hp_script.specs.Pieces.{pieces}
 use Rattle.hp_script.specs.Words.{words, has_bad_byte, is_comment}
 use Rattle.hp_script.specs.Verbs.{verb_of}
-use Rattle.hp_script.specs.Statements.{◌>>=◌, statement_by, statement_in}
+use Rattle.hp_script.specs.Statements.{statement_by, statement_behind, statement_in}
 use Rattle.hp_script.specs.Ranges.{is_in_range}
 use Rattle.hp_script.specs.Before.{after, after_line, after_lines, after_maybe, statement_of}
-use Rattle.hp_script.specs.Refusals.{is_first, is_cpus, is_actor, can_stand, names_no_sub, is_too_many, first_of, wrongs, statement_by_first, refusal_of_words, refusal}
+use Rattle.hp_script.specs.Refusals.{is_first, is_cpus, is_actor, can_stand, names_no_sub, is_too_many, first_of, wrongs, refusal_of_words, refusal}
 use Rattle.hp_script.specs.Judged.{AreFine}
 use Rattle.hp_script.proofs.Appended.{assoc}
 use Rattle.hp_script.proofs.CleanLines.{is_clean, are_clean, words_again, line_good, line_parts}
@@ -22,7 +24,7 @@ use Rattle.hp_script.proofs.CleanLines.{is_clean, are_clean, words_again, line_g
 -- a line of these words says this, and isn't long
 pub record Says (first : List ℕ) (rest : List (List ℕ)) (v : Verb) (s : Statement) : Type 0 where
   pub verb : verb_of first ≡ Some v
-  pub said : statement_by v rest ≡ Some s
+  pub said : statement_by v rest ≡ Ok s
   pub clean : is_clean first ≡ true
   pub cleans : are_clean rest ≡ true
   pub plain : is_comment first ≡ false
@@ -40,28 +42,28 @@ verdict_of : (hooks : ℕ) (b : Before) (line first : List ℕ) (rest : List (Li
     → refusal hooks b line ≡ refusal_of_words hooks b (first ∷ rest)
 verdict_of hooks b line first rest good are plain = rw (good, are, plain) refl
 
-said_of : (line first : List ℕ) (rest : List (List ℕ)) → words line ≡ first ∷ rest → is_comment first ≡ false → statement_of line ≡ statement_in (first ∷ rest)
+said_of : (line first : List ℕ) (rest : List (List ℕ)) → words line ≡ first ∷ rest → is_comment first ≡ false → statement_of line ≡ result_ok (statement_in (first ∷ rest))
 said_of line first rest are plain = rw (are, plain) refl
 
 pub line_says : (first : List ℕ) (rest : List (List ℕ)) (v : Verb) (s : Statement) → Says first rest v s → statement_of (joined (first ∷ rest)) ≡ Some s
 line_says first rest v s h =
     said_of (joined (first ∷ rest)) first rest (words_again first rest h.clean h.cleans) h.plain
-    ∙ ap (λ (o : Option Verb). o >>= λ v. statement_by v rest) h.verb
-    ∙ h.said
+    ∙ ap (λ (o : Option Verb). result_ok (statement_behind o rest)) h.verb
+    ∙ ap (λ (r : Reading Statement). result_ok r) h.said
 
 pub line_verdict : (hooks : ℕ) (b : Before) (first : List ℕ) (rest : List (List ℕ)) (v : Verb) (s : Statement) → Says first rest v s
-    → refusal hooks b (joined (first ∷ rest)) ≡ first_of (wrongs hooks b (Some v) (Some s))
+    → refusal hooks b (joined (first ∷ rest)) ≡ first_of (wrongs hooks b (Some v) (Ok s))
 line_verdict hooks b first rest v s h =
     verdict_of hooks b (joined (first ∷ rest)) first rest (line_good first rest h.clean h.cleans) (words_again first rest h.clean h.cleans) h.plain
-    ∙ ap (λ (o : Option Verb). first_of (wrongs hooks b o (statement_by_first o rest))) h.verb
-    ∙ ap (λ (o : Option Statement). first_of (wrongs hooks b (Some v) o)) h.said
+    ∙ ap (λ (o : Option Verb). first_of (wrongs hooks b o (statement_behind o rest))) h.verb
+    ∙ ap (λ (r : Reading Statement). first_of (wrongs hooks b (Some v) r)) h.said
 
 last_row : (a c d e f g : Bool) → a ≡ false → c ≡ true → d ≡ false → e ≡ true → f ≡ false
     → first_of ((a, NoCpus) ∷ (false, BadWord) ∷ (not c, BadOrder) ∷ (d, StillLocked) ∷ (false, BadForm) ∷ (not e, BadNumber) ∷ (f, NoSub) ∷ (g, TooMany) ∷ []) ≡ cond g (Some TooMany) None
 last_row a c d e f g ea ec ed ee ef = rw (ea, ec, ed, ee, ef) refl
 
 -- only the room is left to be asked for
-pub asks_room : (hooks : ℕ) (b : Before) (v : Verb) (s : Statement) → Stands b v s → first_of (wrongs hooks b (Some v) (Some s)) ≡ cond (is_too_many hooks b s) (Some TooMany) None
+pub asks_room : (hooks : ℕ) (b : Before) (v : Verb) (s : Statement) → Stands b v s → first_of (wrongs hooks b (Some v) (Ok s)) ≡ cond (is_too_many hooks b s) (Some TooMany) None
 asks_room hooks b v s h =
     last_row (is_first b.group && not (is_cpus (Some v))) (can_stand b.group v) (is_actor (Some v) && b.locked) (is_in_range b.possible s) (names_no_sub b.subs s) (is_too_many hooks b s)
     h.first h.stands h.unlocked h.range h.sub

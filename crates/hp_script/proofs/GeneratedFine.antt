@@ -9,6 +9,7 @@ use Rattle.hp_event.specs.declared.op.Op.TheVariants as op
 use Rattle.hp_model.specs.Draws.{state_after}
 use Rattle.hp_model.specs.Words.{kind_word}
 use Rattle.hp_model.specs.EventLine.{op_words}
+use Rattle.hp_text.specs.declared.first_word.OpWord.TheVariants as word
 use Rattle.hp_script.specs.declared.limits.TheConstants.{MAX_NAMED_CPU, MAX_NAMED_STATE, MAX_SEED}
 use Rattle.hp_script.specs.declared.drawn.Drawn.{Drawn}
 use Rattle.hp_script.specs.declared.drawn.Drawn.TheVariants as drawn
@@ -19,15 +20,13 @@ use Rattle.hp_script.specs.declared.before.Group.TheVariants as group
 use Rattle.hp_script.specs.declared.before.Before.{Before}
 use Rattle.hp_script.specs.declared.schedule.Schedule.TheVariants.{Mix}
 use Rattle.hp_script.specs.declared.statement.Statement.TheVariants as says
-use Rattle.hp_script.specs.Numbers.{is_within}
-use Rattle.hp_script.specs.Ranges.{is_op}
+use Rattle.hp_script.specs.Ranges.{is_within, is_op}
 use Rattle.hp_event.specs.Ops.{is_setup}
 use Rattle.hp_script.specs.Before.{start, after}
 use Rattle.hp_script.specs.Refusals.{is_first, is_actor, is_before_schedule, can_stand, names_no_sub}
 use Rattle.hp_script.specs.Generated.{first_draw, second_draw, instanced_state, drawn_by, one_drawn, state_behind, state_behind_one, state_behind_all, ops_drawn, plain, sub_words, rule_words, three_subs, schedule_words, heading, actor_words, drawn_lines, actors_from}
 use Rattle.hp_script.proofs.FineLines.{Says, FineTo, none, one, both, longer}
-use Rattle.hp_script.proofs.Spelled.{named_sub, failing_rule}
-use Rattle.hp_script.proofs.GeneratedSays.{cpus_line, sub_line, rule_line, schedule_line, actor_line, up_line, down_line, show_line, lock_line, unlock_line, add_line, del_line}
+use Rattle.hp_script.proofs.GeneratedSays.{named_sub, failing_rule, cpus_line, sub_line, rule_line, schedule_line, actor_line, up_line, down_line, show_line, lock_line, unlock_line, add_line, del_line}
 use Rattle.hp_script.proofs.GeneratedLoops.{drawn_more}
 
 pub within : (low high n : ℕ) → low ≤ n → n ≤ high → is_within low high n ≡ true
@@ -56,14 +55,8 @@ sub_fine hooks n g subs rules not_first early few lt =
 rule_fine : (hooks nth subs : ℕ) → 1 ≤ nth → nth < 100000 → FineTo hooks (upper group.Subs subs 0) (rule_words nth ∷ []) 64 (upper group.Subs subs 1)
 unfolding rule_words
 rule_fine hooks nth subs some small =
-    one hooks (upper group.Subs subs 0) (codes "rule") (codes "up" ∷ codes "*" ∷ codes "*" ∷ decimal nth ∷ codes "5" ∷ []) verb.Rule (says.Rule (failing_rule nth)) (rule_line nth small)
-    (record {
-      first = refl;
-      stands = refl;
-      unlocked = refl;
-      range = and_from (is_within 1 MAX_EVENTS nth) true (within 1 MAX_EVENTS nth some (omega (arith, small))) refl;
-      sub = refl;
-    })
+    one hooks (upper group.Subs subs 0) (codes "rule") (codes "up" ∷ codes "*" ∷ codes "*" ∷ decimal nth ∷ codes "5" ∷ []) verb.Rule (says.Rule (failing_rule nth)) (rule_line nth some small)
+    (record { first = refl; stands = refl; unlocked = refl; range = refl; sub = refl })
     refl
 
 draw_below : (m x : ℕ) → 0 < m → first_draw m x < m
@@ -175,40 +168,40 @@ drawn_fine hooks a m (drawn.Up cpu) lt few = (
   m + 1,
   omega arith,
   longer hooks _ _ _ 64 128 (omega arith)
-      (op_fine hooks a m 12 false (codes "up") (decimal cpu ∷ []) verb.Up (op.Up cpu) (up_line cpu (omega (arith, lt))) refl refl (cpu_named cpu lt) refl refl (omega (arith, few))),
+      (op_fine hooks a m 12 false (codes "up") (decimal cpu ∷ []) (verb.Operation word.Up) (op.Up cpu) (up_line cpu (omega (arith, lt))) refl refl (cpu_named cpu lt) refl refl (omega (arith, few))),
 )
 drawn_fine hooks a m (drawn.Down cpu) lt few = (
   m + 1,
   omega arith,
   longer hooks _ _ _ 64 128 (omega arith)
-      (op_fine hooks a m 12 false (codes "down") (decimal cpu ∷ []) verb.Down (op.Down cpu) (down_line cpu (omega (arith, lt))) refl refl (cpu_named cpu lt) refl refl (omega (arith, few))),
+      (op_fine hooks a m 12 false (codes "down") (decimal cpu ∷ []) (verb.Operation word.Down) (op.Down cpu) (down_line cpu (omega (arith, lt))) refl refl (cpu_named cpu lt) refl refl (omega (arith, few))),
 )
 drawn_fine hooks a m drawn.Section lt few = (
   m + 1 + 1,
   omega arith,
   both hooks (among a m 12 false) (among a (m + 1) 12 true) (among a (m + 1 + 1) 12 false) (op_words op.Lock ∷ []) (op_words op.Unlock ∷ []) 64 64
-      (op_fine hooks a m 12 false (codes "lock") [] verb.Lock op.Lock lock_line refl refl refl refl refl (omega (arith, few)))
-      (op_fine hooks a (m + 1) 12 true (codes "unlock") [] verb.Unlock op.Unlock unlock_line refl refl refl refl refl (omega (arith, few))),
+      (op_fine hooks a m 12 false (codes "lock") [] (verb.Operation word.Lock) op.Lock lock_line refl refl refl refl refl (omega (arith, few)))
+      (op_fine hooks a (m + 1) 12 true (codes "unlock") [] (verb.Operation word.Unlock) op.Unlock unlock_line refl refl refl refl refl (omega (arith, few))),
 )
 drawn_fine hooks a m (drawn.Add state inst) p few = (
   m + 1,
   omega arith,
   longer hooks _ _ _ 64 128 (omega arith)
-      (op_fine hooks a m 12 false (codes "add") (decimal state ∷ decimal inst ∷ []) verb.Add (op.Add state inst plain) (add_line state inst (omega (arith, p.0)) (omega (arith, p.1))) refl refl
+      (op_fine hooks a m 12 false (codes "add") (decimal state ∷ decimal inst ∷ []) (verb.Operation word.Add) (op.Add state inst plain) (add_line state inst (omega (arith, p.0)) (omega (arith, p.1))) refl refl
       (place_named state inst p.0 p.1) refl refl (omega (arith, few))),
 )
 drawn_fine hooks a m (drawn.Del state inst) p few = (
   m + 1,
   omega arith,
   longer hooks _ _ _ 64 128 (omega arith)
-      (op_fine hooks a m 12 false (codes "del") (decimal state ∷ decimal inst ∷ []) verb.Del (op.Del state inst plain) (del_line state inst (omega (arith, p.0)) (omega (arith, p.1))) refl refl
+      (op_fine hooks a m 12 false (codes "del") (decimal state ∷ decimal inst ∷ []) (verb.Operation word.Del) (op.Del state inst plain) (del_line state inst (omega (arith, p.0)) (omega (arith, p.1))) refl refl
       (place_named state inst p.0 p.1) refl refl (omega (arith, few))),
 )
 drawn_fine hooks a m (drawn.Show cpu) lt few = (
   m + 1,
   omega arith,
   longer hooks _ _ _ 64 128 (omega arith)
-      (op_fine hooks a m 12 false (codes "show") (codes "state" ∷ decimal cpu ∷ []) verb.Show (op.ShowState cpu) (show_line cpu (omega (arith, lt))) refl refl (cpu_named cpu lt) refl refl (omega (arith, few))),
+      (op_fine hooks a m 12 false (codes "show") (codes "state" ∷ decimal cpu ∷ []) (verb.Operation word.Show) (op.ShowState cpu) (show_line cpu (omega (arith, lt))) refl refl (cpu_named cpu lt) refl refl (omega (arith, few))),
 )
 
 none_drawn : (x : ℕ) → drawn_lines 0 x ≡ []

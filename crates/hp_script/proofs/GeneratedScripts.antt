@@ -6,13 +6,14 @@ use Rattle.std.proofs.lemmas.Bool.{and_parts, or_from, leb-true, lt-leb, le-ltb}
 use Rattle.hp_states.specs.declared.limits.TheConstants.{MAX_OPERATIONS, MAX_SUBS, MAX_SCRIPT_BYTES, MAX_GENERATED_SIZE}
 use Rattle.hp_event.specs.declared.op.Op.TheVariants as op
 use Rattle.hp_model.specs.Words.{joined, line}
+use Rattle.hp_text.specs.declared.first_word.OpWord.TheVariants as word
 use Rattle.hp_script.specs.declared.limits.TheConstants.{MAX_NAMED_STATE}
 use Rattle.hp_script.specs.declared.error.ScriptKind.{ScriptKind}
 use Rattle.hp_script.specs.declared.verb.Verb.TheVariants as verb
 use Rattle.hp_script.specs.declared.before.Group.TheVariants as group
 use Rattle.hp_script.specs.declared.statement.Statement.TheVariants as says
 use Rattle.hp_script.specs.Pieces.{lines}
-use Rattle.hp_script.specs.Numbers.{is_within}
+use Rattle.hp_script.specs.Ranges.{is_within}
 use Rattle.hp_script.specs.Before.{start, before}
 use Rattle.hp_script.specs.Refusals.{refusal_at_end}
 use Rattle.hp_script.specs.Judged.{AreFine, IsRefused, too_long, at_line, at_end}
@@ -41,10 +42,10 @@ twelve_are = refl
 abbrev pub is_setup_pair : Pair → Bool
 is_setup_pair p = leb p.0 1000 && (leb 1 p.1 && leb p.1 12)
 
-pub setup_says : (s u : ℕ) → s ≤ 1000 → u ≤ 12 → Says (codes "setup") (decimal s ∷ decimal u ∷ []) verb.Setup (says.Operation (op.Setup s u plain))
+pub setup_says : (s u : ℕ) → s ≤ 1000 → u ≤ 12 → Says (codes "setup") (decimal s ∷ decimal u ∷ []) (verb.Operation word.Setup) (says.Operation (op.Setup s u plain))
 setup_says s u le few = setup_line s u (omega (arith, le)) (omega (arith, few))
 
-pub setup_stands : (i s u : ℕ) → s ≤ 1000 → 1 ≤ u → u ≤ 12 → Stands (among 1 i i false) verb.Setup (says.Operation (op.Setup s u plain))
+pub setup_stands : (i s u : ℕ) → s ≤ 1000 → 1 ≤ u → u ≤ 12 → Stands (among 1 i i false) (verb.Operation word.Setup) (says.Operation (op.Setup s u plain))
 setup_stands i s u le some few =
     let state : is_within 0 MAX_NAMED_STATE s ≡ true = within 0 MAX_NAMED_STATE s (omega arith) (omega (arith, le)) in
     let sub : is_within 1 MAX_SUBS u ≡ true = within 1 MAX_SUBS u some (omega (arith, few)) in
@@ -65,7 +66,7 @@ pub setup_fine : (hooks i s u : ℕ) → i < hooks → i < MAX_OPERATIONS → s 
     → FineTo hooks (among 1 i i false) (setup_words s u ∷ []) 64 (among 1 (i + 1) (i + 1) false)
 unfolding setup_words
 setup_fine hooks i s u hook few le some sub =
-    one hooks (among 1 i i false) (codes "setup") (decimal s ∷ decimal u ∷ []) verb.Setup (says.Operation (op.Setup s u plain)) (setup_says s u le sub) (setup_stands i s u le some sub)
+    one hooks (among 1 i i false) (codes "setup") (decimal s ∷ decimal u ∷ []) (verb.Operation word.Setup) (says.Operation (op.Setup s u plain)) (setup_says s u le sub) (setup_stands i s u le some sub)
     (or_from (leb MAX_OPERATIONS i) (leb hooks i) (lt-leb MAX_OPERATIONS i few) (lt-leb hooks i hook))
 
 setups_fine : (hooks i : ℕ) (ps : List Pair) → list_all is_setup_pair ps ≡ true → i + length ps ≤ hooks → i + length ps < MAX_OPERATIONS

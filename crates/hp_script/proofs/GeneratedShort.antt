@@ -7,6 +7,7 @@ use Rattle.std.proofs.lemmas.List.{length-append, length-map}
 use Rattle.hp_states.specs.declared.limits.TheConstants.{MAX_OPERATIONS, MAX_SCRIPT_BYTES, MAX_GENERATED_SIZE}
 use Rattle.hp_event.specs.declared.op.Op.TheVariants as op
 use Rattle.hp_model.specs.Words.{joined, line}
+use Rattle.hp_text.specs.declared.first_word.OpWord.TheVariants as word
 use Rattle.hp_script.specs.declared.error.ScriptKind.TheVariants.{TooMany}
 use Rattle.hp_script.specs.declared.verb.Verb.TheVariants as verb
 use Rattle.hp_script.specs.declared.before.Group.TheVariants as group
@@ -35,7 +36,7 @@ record FirstWithout (hooks i : ℕ) (ps : List Pair) : Type 0 where
 without : (hooks s u : ℕ) → s ≤ 1000 → 1 ≤ u → u ≤ 12 → refusal hooks (among 1 hooks hooks false) (joined (setup_words s u)) ≡ Some TooMany
 unfolding setup_words
 without hooks s u le some few =
-    line_too_many hooks (among 1 hooks hooks false) (codes "setup") (decimal s ∷ decimal u ∷ []) verb.Setup (says.Operation (op.Setup s u plain)) (setup_says s u le few) (setup_stands hooks s u le some few)
+    line_too_many hooks (among 1 hooks hooks false) (codes "setup") (decimal s ∷ decimal u ∷ []) (verb.Operation word.Setup) (says.Operation (op.Setup s u plain)) (setup_says s u le few) (setup_stands hooks s u le some few)
     (or_right (leb MAX_OPERATIONS hooks) (leb hooks hooks) (le-leb hooks hooks (omega arith)))
 
 abbrev Goods : Pair → Type 0

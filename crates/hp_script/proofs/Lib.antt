@@ -1,10 +1,5 @@
 mod Cases
-mod OperationCases
 pub mod PieceLoops
-pub mod Ranging
-pub mod Rises
-pub mod CpuSetLoop
-pub mod Upmany
 pub mod Wrongs
 pub mod Lasts
 pub mod Groups
@@ -15,7 +10,6 @@ pub mod SoundScripts
 pub mod PlayableScripts
 pub mod Appended
 pub mod GeneratedLoops
-pub mod DecimalWords
 pub mod CleanLines
 pub mod FineLines
 pub mod Spelled

@@ -1,11 +1,10 @@
 -- The loops over the bytes of a piece: what they have passed, in front of what is left.
-use Rattle.std.proofs.Common.{◌≡◌, ℕ, suc, ◌+◌, ◌*◌, ◌-◌, ◌^◌, ◌<◌, ◌≤◌, true, false, cond, eqb, ltb, List, [], ◌∷◌, ◌++◌, length, get_or, take, drop, Some, None, refl, sym, ap, ◌∙◌, length-drop, arith}
-use Rattle.std.proofs.lemmas.Bool.{eq-eqb, ne_eqb, lt-ltb, le-ltb}
+use Rattle.std.proofs.Common.{◌≡◌, ℕ, suc, ◌+◌, ◌-◌, ◌<◌, ◌≤◌, true, false, eqb, List, [], ◌∷◌, ◌++◌, length, get_or, take, drop, Some, refl, sym, ap, ◌∙◌, length-drop, arith}
+use Rattle.std.proofs.lemmas.Bool.{eq-eqb, ne_eqb}
 use Rattle.std.proofs.lemmas.List.{append-nil, drop_more, drop_all, take_all}
 use Rattle.std.proofs.Math.Seq.{take-suc}
-use Rattle.hp_script.specs.Pieces.{onto_first, pieces}
-use Rattle.hp_script.specs.Statements.{next}
-use Rattle.hp_script.specs.Numbers.{value, value_on}
+use Rattle.hp_states.proofs.Basics.{same_some}
+use Rattle.hp_script.specs.Pieces.{onto_first, pieces, next}
 
 -- bytes in front of the first piece
 abbrev pub onto_all : (front : List ℕ) → List (List ℕ) → List (List ℕ)
@@ -23,22 +22,6 @@ onto_none byte (b ∷ bs) = ap (onto_first byte) (onto_none b bs)
 pub onto_one_more : (front : List ℕ) (byte : ℕ) (more : List (List ℕ)) → onto_all (front ++ byte ∷ []) more ≡ onto_all front (onto_first byte more)
 onto_one_more [] byte more = refl
 onto_one_more (b ∷ bs) byte more = ap (onto_first b) (onto_one_more bs byte more)
-
--- digits make a number no smaller
-pub value_grows : (n : ℕ) (digits : List ℕ) → n ≤ value_on n digits
-value_grows n [] = omega arith
-value_grows n (b ∷ bs) = omega (arith, value_grows (n * 10 + (b - 48)) bs)
-
--- a number that is too large already
-pub too_large : (n : ℕ) (digits word : List ℕ) → value_on n digits ≡ value word → (n < 2 ^ 64 → ⊥) → None ≡ cond (ltb (value word) (2 ^ 64)) (Some (value word)) None
-too_large n digits word same large =
-    let past : ltb (value word) (2 ^ 64) ≡ false = le-ltb (value word) (2 ^ 64) (omega (arith, value_grows n digits, same, large)) in
-    rw past refl
-
-pub fits : (n : ℕ) (word : List ℕ) → n ≡ value word → n < 2 ^ 64 → Some n ≡ cond (ltb (value word) (2 ^ 64)) (Some (value word)) None
-fits n word same small =
-    let within : ltb (value word) (2 ^ 64) ≡ true = lt-ltb (value word) (2 ^ 64) (omega (arith, same, small)) in
-    rw within (ap (λ (n : ℕ). Some n) same)
 
 -- ---- pieces
 
@@ -80,3 +63,11 @@ at_last end i bytes some done passed =
     let whole : take i bytes ≡ bytes = take_all i bytes done in
     let nothing : pieces end (drop i bytes) ≡ [] = ap (pieces end) (drop_all i bytes done) in
     last_piece end bytes some (sym (ap (λ (w : List ℕ). onto_all w []) whole) ∙ sym (ap (onto_all (take i bytes)) nothing) ∙ passed)
+
+-- ---- a piece that was taken
+
+pub next_is : (pieces : List (List ℕ)) (piece : List ℕ) (rest : List (List ℕ)) → Some (piece, rest) ≡ next pieces → pieces ≡ piece ∷ rest
+next_is [] piece rest e = absurd cc
+next_is (p ∷ ps) piece rest e =
+    let same : ◌≡◌ {A = List ℕ × List (List ℕ)} (piece, rest) (p, ps) = same_some (piece, rest) (p, ps) e in
+    ap (λ (x : List ℕ × List (List ℕ)). x.0 ∷ x.1) (sym same)

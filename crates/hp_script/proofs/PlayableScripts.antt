@@ -1,5 +1,5 @@
 -- Each script that is read can be played: what its lines make is sound, line by line, and no refusal holds at the end.
-use Rattle.std.proofs.Common.{◌≡◌, ◌⊎◌, inl, inr, ℕ, zero, suc, ◌+◌, ◌-◌, ◌<◌, ◌≤◌, Bool, true, false, not, List, [], ◌∷◌, ◌++◌, length, Option, Some, None, refl, sym, ap, subst, ◌∙◌, append_assoc, arith}
+use Rattle.std.proofs.Common.{◌≡◌, ◌⊎◌, inl, inr, ℕ, zero, suc, ◌+◌, ◌<◌, ◌≤◌, Bool, true, false, not, List, [], ◌∷◌, ◌++◌, length, Option, Some, None, refl, sym, ap, subst, ◌∙◌, append_assoc, arith}
 use Rattle.std.specs.Prelude.{All, is_some, nat_le, slice_get}
 use Rattle.std.proofs.lemmas.Bool.{leb-true, leb-false}
 use Rattle.std.proofs.lemmas.Bool.Decides.{nat_tests}
@@ -19,6 +19,7 @@ use Rattle.hp_model.specs.Heads.{IsHead, IsSub}
 use Rattle.hp_model.specs.Scripts.{is_locked}
 use Rattle.hp_model.proofs.Rising.{Rise, rise_within, rise_increases, rise_below}
 use Rattle.hp_model.proofs.SumLemmas.{length-filter_le, length-numbers}
+use Rattle.hp_text.proofs.SetWords.{rises}
 use Rattle.hp_script.specs.declared.error.ScriptKind.{ScriptKind}
 use Rattle.hp_script.specs.declared.error.ScriptKind.TheVariants.{NoCpus, NoActor, StillLocked}
 use Rattle.hp_script.specs.declared.before.Group.{Group}
@@ -27,7 +28,7 @@ use Rattle.hp_script.specs.declared.before.Before.{Before}
 use Rattle.hp_script.specs.declared.limits.TheConstants.{MAX_NAMED_STATE}
 use Rattle.hp_script.specs.declared.statement.Statement.{Statement}
 use Rattle.hp_script.specs.Pieces.{lines}
-use Rattle.hp_script.specs.Numbers.{is_within}
+use Rattle.hp_script.specs.Ranges.{is_within}
 use Rattle.hp_script.specs.Before.{start, statement_of, after_maybe, after_line, after_lines, before}
 use Rattle.hp_script.specs.Refusals.{is_first, is_among_actors, first_of, refusal, refusal_at_end}
 use Rattle.hp_script.specs.Script.{Contents, statements, script_in}
@@ -36,7 +37,6 @@ use Rattle.hp_script.specs.Judged.{AreFine, IsRead, too_long, at_line, at_end}
 use Rattle.hp_script.specs.Playable.{IsPlayable}
 use Rattle.hp_script.proofs.ReadLoop.{contents_more, fits_more}
 use Rattle.hp_script.proofs.TakenLines.{taken}
-use Rattle.hp_script.proofs.Rises.{rises}
 use Rattle.hp_script.proofs.SoundScripts.{SoundHead, SoundActors, IsSoundOp, AreLocked, first_unlocked, others_locked, at_least, head_more, actors_more}
 
 -- ---- line by line
@@ -205,13 +205,13 @@ few_present head = omega (arith, length-filter_le (λ c. is_present head c) (num
 head_of : (s : Contents) (b : Before) → SoundHead s b → is_first b.group ≡ false → IsHead s.head
 head_of s b h later =
     let some : 0 < s.head.possible = omega (arith, h.possible, h.some later) in
-    let absent = rises 1 (b.possible - 1) s.head.absent h.absent in
+    let absent = rises 1 b.possible s.head.absent h.absent in
     record {
       some_possible = some;
       few_possible = omega (arith, h.possible, h.few);
-      absent_rising = rise_increases 1 (b.possible - 1 + 1) s.head.absent absent;
-      absent_possible = λ k d within. omega (arith, h.possible, h.some later, rise_below 1 (b.possible - 1 + 1) s.head.absent absent k d within);
-      first_present = first_there s.head some (no_zero (b.possible - 1 + 1) s.head.absent absent);
+      absent_rising = rise_increases 1 b.possible s.head.absent absent;
+      absent_possible = λ k d within. omega (arith, h.possible, h.some later, rise_below 1 b.possible s.head.absent absent k d within);
+      first_present = first_there s.head some (no_zero b.possible s.head.absent absent);
       few_subs = omega (arith, h.subs, h.few_subs);
       subs_are = h.subs_are;
     }

@@ -16,8 +16,7 @@ use Rattle.hp_script.specs.declared.before.Before.{Before}
 use Rattle.hp_script.specs.declared.draft.Draft.{Draft}
 use Rattle.hp_script.specs.declared.statement.Statement.{Statement}
 use Rattle.hp_script.specs.declared.statement.Statement.TheVariants as says
-use Rattle.hp_script.specs.Pieces.{lines}
-use Rattle.hp_script.specs.Statements.{next}
+use Rattle.hp_script.specs.Pieces.{lines, next}
 use Rattle.hp_script.specs.Before.{start, after, statement_of, after_line, after_lines, before}
 use Rattle.hp_script.specs.Refusals.{refusal, refusal_at_end, is_too_many}
 use Rattle.hp_script.specs.Script.{Contents, statements, script_in}

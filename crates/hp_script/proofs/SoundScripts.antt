@@ -1,12 +1,12 @@
 -- What the statements so far make is in range, and stays so with one statement more.
-use Rattle.std.proofs.Common.{◌≡◌, ℕ, ◌+◌, ◌-◌, ◌<◌, ◌≤◌, Bool, true, false, cond, ◌&&◌, ◌||◌, List, [], ◌∷◌, ◌++◌, length, Option, Some, None, refl, ap, subst, ◌∙◌, length-append, arith}
-use Rattle.std.specs.Prelude.{IfSome, All, sum_by, nat_le}
+use Rattle.std.proofs.Common.{◌≡◌, ℕ, ◌+◌, ◌<◌, ◌≤◌, Bool, true, false, cond, ◌&&◌, ◌||◌, List, [], ◌∷◌, ◌++◌, length, refl, ap, subst, ◌∙◌, length-append, arith}
+use Rattle.std.specs.Prelude.{All, sum_by, nat_le}
 use Rattle.std.proofs.lemmas.Bool.{leb-true, leb-false}
 use Rattle.std.proofs.lemmas.Bool.Decides.{nat_tests}
 use Rattle.std.proofs.lemmas.List.Elements.{All-nil, All-cons, All-head, All-tail, All-append}
 use Rattle.std.proofs.lemmas.List.Sums.{fold-append, sum_by-append}
 use Rattle.hp_states.proofs.Basics.{and_parts}
-use Rattle.hp_states.specs.declared.limits.TheConstants.{MAX_CPUS, MAX_SUBS, MAX_RULES, MAX_RULE_CPU, MAX_INSTANCE, MAX_EVENTS, MAX_CODE, MAX_OPERATIONS}
+use Rattle.hp_states.specs.declared.limits.TheConstants.{MAX_CPUS, MAX_SUBS, MAX_RULES, MAX_OPERATIONS}
 use Rattle.hp_states.specs.declared.plan.Rule.{Rule}
 use Rattle.hp_event.specs.declared.op.Op.{Op}
 use Rattle.hp_event.specs.declared.op.Op.TheVariants as op
@@ -16,8 +16,8 @@ use Rattle.hp_model.specs.Scripts.{lock_step, is_locked}
 use Rattle.hp_script.specs.declared.before.Before.{Before}
 use Rattle.hp_script.specs.declared.statement.Statement.{Statement}
 use Rattle.hp_script.specs.declared.statement.Statement.TheVariants as says
-use Rattle.hp_script.specs.Numbers.{is_within}
-use Rattle.hp_script.specs.Ranges.{are_rising, is_any_within, is_rule, is_schedule, is_op}
+use Rattle.hp_text.specs.Sets.{rise_from}
+use Rattle.hp_script.specs.Ranges.{is_within, is_schedule, is_op}
 use Rattle.hp_event.specs.Ops.{is_setup}
 use Rattle.hp_script.specs.Before.{after}
 use Rattle.hp_script.specs.Refusals.{is_first, names_no_sub}
@@ -33,7 +33,7 @@ pub record SoundHead (s : Contents) (b : Before) : Type 0 where
   pub possible : s.head.possible ≡ b.possible
   pub some : is_first b.group ≡ false → 0 < b.possible
   pub few : b.possible ≤ MAX_CPUS
-  pub absent : are_rising 1 (b.possible - 1) s.head.absent ≡ true
+  pub absent : rise_from 1 b.possible s.head.absent ≡ true
   pub none_yet : is_first b.group ≡ true → s.head.absent ≡ []
   pub subs : length s.head.subs ≡ b.subs
   pub few_subs : b.subs ≤ MAX_SUBS
@@ -42,31 +42,6 @@ pub record SoundHead (s : Contents) (b : Before) : Type 0 where
 
 pub at_least : (low high n : ℕ) → is_within low high n ≡ true → low ≤ n
 at_least low high n e = leb-true low n (and_parts _ _ e).0
-
-pub at_most : (low high n : ℕ) → is_within low high n ≡ true → n ≤ high
-at_most low high n e = leb-true n high (and_parts _ _ e).1
-
-any_least : (low high : ℕ) (o : Option ℕ) → is_any_within low high o ≡ true → IfSome o (λ n. low ≤ n)
-any_least low high None e = tt
-any_least low high (Some n) e = at_least low high n e
-
-any_most : (low high : ℕ) (o : Option ℕ) → is_any_within low high o ≡ true → IfSome o (λ n. n ≤ high)
-any_most low high None e = tt
-any_most low high (Some n) e = at_most low high n e
-
-rule_fits : (rule : Rule) → is_rule rule ≡ true → IsRule rule
-rule_fits rule e =
-    let code = and_parts (is_any_within 0 MAX_RULE_CPU rule.cpu && is_any_within 0 MAX_INSTANCE rule.inst && is_any_within 1 MAX_EVENTS rule.nth) (is_within 1 MAX_CODE rule.code) e in
-    let nth = and_parts (is_any_within 0 MAX_RULE_CPU rule.cpu && is_any_within 0 MAX_INSTANCE rule.inst) (is_any_within 1 MAX_EVENTS rule.nth) code.0 in
-    let first = and_parts (is_any_within 0 MAX_RULE_CPU rule.cpu) (is_any_within 0 MAX_INSTANCE rule.inst) nth.0 in
-    record {
-      cpu_fits = any_most 0 MAX_RULE_CPU rule.cpu first.0;
-      inst_fits = any_most 0 MAX_INSTANCE rule.inst first.1;
-      nth_above = any_least 1 MAX_EVENTS rule.nth nth.1;
-      nth_fits = any_most 1 MAX_EVENTS rule.nth nth.1;
-      code_above = at_least 1 MAX_CODE rule.code code.1;
-      code_fits = at_most 1 MAX_CODE rule.code code.1;
-    }
 
 rule_more : (rule : Rule) → IsRule rule → (subs : List Sub) → All IsSub subs → last_rules subs < MAX_RULES → All IsSub (with_last (one_rule_more rule) subs)
 rule_more rule fits [] are few = are
@@ -84,8 +59,8 @@ pub head_more : (hooks : ℕ) (s : Contents) (b : Before) (t : Statement) → Ta
 head_more hooks s b (says.Cpus n) t f p = record {
   possible = refl;
   some = λ _. at_least 1 MAX_CPUS n t.range;
-  few = at_most 1 MAX_CPUS n t.range;
-  absent = ap (are_rising 1 (n - 1)) (p.none_yet t.first);
+  few = leb-true n MAX_CPUS (and_parts _ _ t.range).1;
+  absent = ap (rise_from 1 n) (p.none_yet t.first);
   none_yet = λ e. p.none_yet t.first;
   subs = p.subs;
   few_subs = p.few_subs;
@@ -112,7 +87,7 @@ head_more hooks s b (says.Sub sub) t f p = record {
   subs = omega (arith, p.subs, length-append s.head.subs (record sub { plan = [] } ∷ []));
   few_subs = omega (arith, leb-false MAX_SUBS b.subs t.room);
   subs_are = All-append IsSub s.head.subs (record sub { plan = [] } ∷ []) p.subs_are (All-cons IsSub (record sub { plan = [] }) [] (record {
-    name_is = t.titled;
+    name_is = t.formed;
     few_rules = omega arith;
     rules_are = All-nil IsRule;
   }) (All-nil IsSub));
@@ -126,7 +101,7 @@ head_more hooks s b (says.Rule rule) t f p = record {
   none_yet = p.none_yet;
   subs = as_many (one_rule_more rule) s.head.subs ∙ p.subs;
   few_subs = p.few_subs;
-  subs_are = rule_more rule (rule_fits rule t.range) s.head.subs p.subs_are (omega (arith, f.rules, leb-false MAX_RULES b.rules t.room));
+  subs_are = rule_more rule t.formed s.head.subs p.subs_are (omega (arith, f.rules, leb-false MAX_RULES b.rules t.room));
   schedule = p.schedule;
 }
 head_more hooks s b (says.Schedule schedule) t f p = record {

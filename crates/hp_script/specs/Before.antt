@@ -1,5 +1,6 @@
 -- What stood before a line, in short. This project's own.
 use Rattle.std.specs.Prelude.{ℕ, ◌+◌, false, if◌then◌else◌, Option, Some, None, List, [], ◌∷◌}
+use Rattle.std.specs.Result.{result_ok}
 use Rattle.hp_event.specs.Ops.{is_setup}
 use Rattle.hp_model.specs.Scripts.{lock_step}
 use Rattle.hp_script.specs.declared.before.Group.TheVariants as group
@@ -39,7 +40,7 @@ after b (says.Operation op) =
 
 -- what a line says: nothing where it is skipped
 abbrev pub statement_of : (line : List ℕ) → Option Statement
-statement_of line = if is_skipped (words line) then None else statement_in (words line)
+statement_of line = if is_skipped (words line) then None else result_ok (statement_in (words line))
 
 abbrev pub after_maybe : Before → Option Statement → Before
 after_maybe b None = b

@@ -1,6 +1,5 @@
 pub mod Pieces
 pub mod Words
-pub mod Numbers
 pub mod Verbs
 pub mod Statements
 pub mod Ranges

@@ -1,6 +1,6 @@
 -- What a reader of the code answers, beside what reading gives. This project's own.
 use Rattle.std.specs.Prelude.{◌≡◌, ℕ, Bool, false, not, ◌&&◌, List, [], ◌∷◌, Option, Some, None, Result, Ok, Err}
-use Rattle.hp_event.specs.declared.op.Op.{Op}
+use Rattle.hp_text.specs.Readings.{Reading}
 use Rattle.hp_script.specs.declared.error.ScriptKind.{ScriptKind}
 use Rattle.hp_script.specs.declared.error.ScriptKind.TheVariants.{NoCpus, BadWord, BadOrder, StillLocked, NoSub, TooMany}
 use Rattle.hp_script.specs.declared.error.ParseError.{ParseError}
@@ -12,7 +12,7 @@ use Rattle.hp_script.specs.declared.stop.Stop.{Stop}
 use Rattle.hp_script.specs.declared.stop.Stop.TheVariants.{Bad, NoMemory}
 use Rattle.hp_script.specs.Refusals.{is_first, is_cpus, is_unknown, stands, is_actor, first_of, names_no_sub, is_too_many, refusal_of_words, refusal}
 use Rattle.hp_script.specs.Statements.{statement_in}
-use Rattle.hp_script.specs.Ranges.{by_range, is_op, is_in_range}
+use Rattle.hp_script.specs.Ranges.{by_range, is_in_range}
 use Rattle.hp_script.specs.Before.{statement_of, after_line}
 use Rattle.hp_script.specs.declared.draft.Draft.{Draft}
 use Rattle.hp_script.specs.Drafts.{contents_of, contents_maybe, Fits}
@@ -23,12 +23,8 @@ Gives (Ok a) read = read ≡ Ok a
 Gives (Err (Bad kind)) read = read ≡ Err kind
 Gives (Err NoMemory) read = Unit {0}
 
--- the answer is the operation that is said, where its numbers are in their ranges
-abbrev pub GivesOp : Result Op ScriptKind → (said : Option Op) → Type 0
-GivesOp answer said = answer ≡ by_range is_op said
-
 -- the answer is the statement that is said, where its numbers are in their ranges, unless memory was wanting
-abbrev pub GivesStatement : (possible : ℕ) → Result Statement Stop → (said : Option Statement) → Type 0
+abbrev pub GivesStatement : (possible : ℕ) → Result Statement Stop → (said : Reading Statement) → Type 0
 GivesStatement possible answer said = Gives answer (by_range (is_in_range possible) said)
 
 -- what is wrong with a first word here: the first four conditions of words
@@ -55,7 +51,7 @@ AnswersRoom hooks b s (Err kind) = first_of (wrongs_of_room hooks b s) ≡ Some 
 -- what the words of a line give after what stood before it, unless memory was wanting
 abbrev pub AnswersWords : (hooks : ℕ) → Before → (words : List (List ℕ)) → Result Statement Stop → Type 0
 AnswersWords hooks b words (Ok s) =
-    (refusal_of_words hooks b words ≡ None) × (statement_in words ≡ Some s) × (is_too_many hooks b s ≡ false)
+    (refusal_of_words hooks b words ≡ None) × (statement_in words ≡ Ok s) × (is_too_many hooks b s ≡ false)
 AnswersWords hooks b words (Err (Bad kind)) = refusal_of_words hooks b words ≡ Some kind
 AnswersWords hooks b words (Err NoMemory) = Unit {0}
 

@@ -1,8 +1,10 @@
 -- Why a line is refused, after what stood before it; and what is refused at the end of the input. This project's own.
-use Rattle.std.specs.Prelude.{ℕ, Bool, true, false, not, ◌&&◌, ◌||◌, nat_le, nat_lt, is_none, List, [], ◌∷◌, Option, Some, None, if◌then◌else◌}
+use Rattle.std.specs.Prelude.{ℕ, Bool, true, false, not, ◌&&◌, ◌||◌, nat_le, nat_lt, List, [], ◌∷◌, Option, Some, None, Ok, Err, if◌then◌else◌}
 use Rattle.hp_states.specs.declared.limits.TheConstants.{MAX_SUBS, MAX_RULES, MAX_ACTORS, MAX_OPERATIONS}
 use Rattle.hp_event.specs.declared.op.Op.TheVariants as op
 use Rattle.hp_event.specs.Ops.{is_setup}
+use Rattle.hp_text.specs.declared.unread.Unread.TheVariants.{NotOfForm, OutOfRange}
+use Rattle.hp_text.specs.Readings.{Reading}
 use Rattle.hp_script.specs.declared.error.ScriptKind.{ScriptKind}
 use Rattle.hp_script.specs.declared.error.ScriptKind.TheVariants.{BadByte, NoCpus, BadWord, BadOrder, StillLocked, BadForm, BadNumber, NoSub, TooMany, NoActor}
 use Rattle.hp_script.specs.declared.verb.Verb.{Verb}
@@ -14,7 +16,7 @@ use Rattle.hp_script.specs.declared.statement.Statement.{Statement}
 use Rattle.hp_script.specs.declared.statement.Statement.TheVariants as says
 use Rattle.hp_script.specs.Words.{words, has_bad_byte, is_skipped}
 use Rattle.hp_script.specs.Verbs.{verb_of}
-use Rattle.hp_script.specs.Statements.{statement_by}
+use Rattle.hp_script.specs.Statements.{statement_behind}
 use Rattle.hp_script.specs.Ranges.{is_in_range}
 
 -- ---- the conditions
@@ -71,10 +73,21 @@ abbrev pub stands : Group → Option Verb → Bool
 stands g None = false
 stands g (Some verb) = can_stand g verb
 
+-- the words aren't of the form
+abbrev pub is_unformed : Reading Statement → Bool
+is_unformed (Err NotOfForm) = true
+is_unformed _ = false
+
+-- they are, and a number is out of its range
+abbrev pub is_out_of_range : (possible : ℕ) → Reading Statement → Bool
+is_out_of_range possible (Ok statement) = not (is_in_range possible statement)
+is_out_of_range possible (Err OutOfRange) = true
+is_out_of_range possible (Err NotOfForm) = false
+
 -- whether this is said, and passes the test
-abbrev pub says_one_that : (test : Statement → Bool) → Option Statement → Bool
-says_one_that test None = false
-says_one_that test (Some statement) = test statement
+abbrev pub says_one_that : (test : Statement → Bool) → Reading Statement → Bool
+says_one_that test (Ok statement) = test statement
+says_one_that test (Err unread) = false
 
 -- a setup of a subsystem above the number of those that stood before
 abbrev pub names_no_sub : (subs : ℕ) → Statement → Bool
@@ -97,20 +110,15 @@ abbrev pub first_of : List (Bool × ScriptKind) → Option ScriptKind
 first_of [] = None
 first_of (row ∷ rows) = if row.0 then Some row.1 else first_of rows
 
--- what a line says whose first word is this one
-abbrev pub statement_by_first : Option Verb → (rest : List (List ℕ)) → Option Statement
-statement_by_first None rest = None
-statement_by_first (Some verb) rest = statement_by verb rest
-
 -- what is wrong with a line of this first word, after what stood before: the conditions in their order
-abbrev pub wrongs : (hooks : ℕ) → Before → Option Verb → Option Statement → List (Bool × ScriptKind)
+abbrev pub wrongs : (hooks : ℕ) → Before → Option Verb → Reading Statement → List (Bool × ScriptKind)
 wrongs hooks b verb said =
     (is_first b.group && not (is_cpus verb), NoCpus)
     ∷ (is_unknown verb, BadWord)
     ∷ (not (stands b.group verb), BadOrder)
     ∷ (is_actor verb && b.locked, StillLocked)
-    ∷ (is_none said, BadForm)
-    ∷ (says_one_that (λ s. not (is_in_range b.possible s)) said, BadNumber)
+    ∷ (is_unformed said, BadForm)
+    ∷ (is_out_of_range b.possible said, BadNumber)
     ∷ (says_one_that (names_no_sub b.subs) said, NoSub)
     ∷ (says_one_that (is_too_many hooks b) said, TooMany)
     ∷ []
@@ -118,7 +126,7 @@ wrongs hooks b verb said =
 abbrev pub refusal_of_words : (hooks : ℕ) → Before → (words : List (List ℕ)) → Option ScriptKind
 refusal_of_words hooks b [] = None
 refusal_of_words hooks b (first ∷ rest) =
-    first_of (wrongs hooks b (verb_of first) (statement_by_first (verb_of first) rest))
+    first_of (wrongs hooks b (verb_of first) (statement_behind (verb_of first) rest))
 
 -- the first kind that holds of the line; of a line that is skipped, a bad byte alone
 abbrev pub refusal : (hooks : ℕ) → Before → (line : List ℕ) → Option ScriptKind

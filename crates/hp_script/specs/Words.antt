@@ -1,11 +1,8 @@
 -- The words of a line: they are parted by one or more spaces, and spaces at its ends are skipped. This project's own.
 use Rattle.std.specs.Prelude.{ℕ, Bool, true, false, not, ◌&&◌, ◌==◌, nat_le, List, [], ◌∷◌, filter}
 use Rattle.std.specs.List.{list_any}
+use Rattle.hp_model.specs.Lists.{is_empty}
 use Rattle.hp_script.specs.Pieces.{pieces}
-
-abbrev pub is_empty : {A : Type 0} → List A → Bool
-is_empty [] = true
-is_empty (x ∷ xs) = false
 
 -- the pieces between spaces that aren't empty
 abbrev pub words : (line : List ℕ) → List (List ℕ)

@@ -2,9 +2,11 @@
 
 ghost use Rattle.std.specs.Prelude.{◌≡◌};
 ghost use Rattle.hp_script.specs.declared.stop.Stop.TheVariants.{Bad, NoMemory};
+ghost use Rattle.hp_script.specs.Ranges.{kind_of};
 
 use crate::error::ScriptKind;
 use hp_states::NoMemory;
+use hp_text::Unread;
 use std::alloc::{AllocError, AllocFailed};
 
 /// Why a line gives nothing.
@@ -21,6 +23,17 @@ impl From<ScriptKind> for Stop {
 
     fn from(kind: ScriptKind) -> Stop {
         Stop::Bad(kind)
+    }
+}
+
+impl From<Unread> for Stop {
+    ghost from_gives = { λ unread stop. stop ≡ Bad (kind_of unread) };
+
+    fn from(unread: Unread) -> Stop {
+        match unread {
+            Unread::NotOfForm => Stop::Bad(ScriptKind::BadForm),
+            Unread::OutOfRange => Stop::Bad(ScriptKind::BadNumber),
+        }
     }
 }
 

@@ -1,9 +1,10 @@
 //! The first words of lines.
 
 ghost use Rattle.std.specs.Prelude.{◌≡◌};
-ghost use Rattle.hp_script.specs.Verbs.{verb_of};
+ghost use Rattle.hp_script.specs.Verbs.{verb_of as verb_at};
 
 use hp_states::find_word;
+use hp_text::{OpWord, op_word};
 
 /// The first word of a line, which says what kind of line it is.
 #[derive(Clone, Copy)]
@@ -14,57 +15,27 @@ pub enum Verb {
     Rule,
     Schedule,
     Actor,
-    Up,
-    Down,
-    Target,
-    Fail,
-    Show,
-    Setup,
-    Remove,
-    Add,
-    Del,
-    Lock,
-    Unlock,
-    Boot,
-    Disable,
-    Enable,
-    Freeze,
-    Thaw,
-    Wakeup,
-    UpMany,
+    /// An operation of this first word.
+    Operation(OpWord),
 }
 
-/// The words of the verbs, each with its verb.
-const VERBS: [(&'static [u8], Verb); 24] = [
+/// The first words of the lines that are no operations, each with its verb.
+const HEADINGS: [(&'static [u8], Verb); 6] = [
     (b"cpus", Verb::Cpus),
     (b"absent", Verb::Absent),
     (b"sub", Verb::Sub),
     (b"rule", Verb::Rule),
     (b"schedule", Verb::Schedule),
     (b"actor", Verb::Actor),
-    (b"up", Verb::Up),
-    (b"down", Verb::Down),
-    (b"target", Verb::Target),
-    (b"fail", Verb::Fail),
-    (b"show", Verb::Show),
-    (b"setup", Verb::Setup),
-    (b"remove", Verb::Remove),
-    (b"add", Verb::Add),
-    (b"del", Verb::Del),
-    (b"lock", Verb::Lock),
-    (b"unlock", Verb::Unlock),
-    (b"boot", Verb::Boot),
-    (b"disable", Verb::Disable),
-    (b"enable", Verb::Enable),
-    (b"freeze", Verb::Freeze),
-    (b"thaw", Verb::Thaw),
-    (b"wakeup", Verb::Wakeup),
-    (b"upmany", Verb::UpMany),
 ];
 
-/// The verb whose word this is.
+/// The verb whose word this is. Most lines are operations.
+#[tactic(auto, unfolding(crate::specs::Verbs::verb_of))]
 pub fn verb_of(word: &[u8]) -> Option<Verb>
-    ensures { result ≡ verb_of word.now }
+    ensures { result ≡ verb_at word.now }
 {
-    find_word(&VERBS, word)
+    match op_word(word) {
+        Some(first) => Some(Verb::Operation(first)),
+        None => find_word(&HEADINGS, word),
+    }
 }

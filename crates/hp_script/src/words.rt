@@ -1,11 +1,13 @@
-//! Pieces and words, as slices of the bytes: a reader answers a piece and the bytes behind it.
+//! Pieces and words, as slices of the bytes.
 //!
 //! No reader takes memory, and each looks at a byte a few times at most.
 
-ghost use Rattle.std.specs.Prelude.{◌≡◌, ◌<◌, length, IfSome, option_map, bytes_eq};
-ghost use Rattle.hp_script.specs.Pieces.{pieces};
-ghost use Rattle.hp_script.specs.Words.{words, is_bad_byte, has_bad_byte, is_comment, is_empty};
-ghost use Rattle.hp_script.specs.Statements.{next, none_of, one_of, two_of};
+ghost use Rattle.std.specs.Prelude.{◌≡◌, ◌<◌, length, IfSome, option_map};
+ghost use Rattle.hp_script.specs.Pieces.{next, pieces};
+ghost use Rattle.hp_script.specs.Words.{words, is_bad_byte, has_bad_byte, is_comment};
+
+use hp_text::Words;
+use std::marker::Model;
 
 /// The piece before the first byte `end`, or all where there is none, and the bytes behind that
 /// byte. Nothing where there are no bytes.
@@ -26,9 +28,8 @@ pub fn next_piece(end: u8, bytes: &[u8]) -> Option<(&[u8], &[u8])>
 }
 
 /// The first word, and the bytes behind it.
-pub fn next_word(bytes: &[u8]) -> Option<(&[u8], &[u8])>
-    ensures word { option_map (λ x. (x.0.now, words x.1.now)) result ≡ next (words bytes.now) }
-    ensures shorter { IfSome result (λ x. length x.1.now < length bytes.now) }
+fn first_word(bytes: &[u8]) -> Option<(&[u8], &[u8])>
+    ensures { option_map (λ x. (x.0.now, words x.1.now)) result ≡ next (words bytes.now) }
 {
     for (i, byte) in bytes.iter().enumerate() {
         if *byte != b' ' {
@@ -38,30 +39,39 @@ pub fn next_word(bytes: &[u8]) -> Option<(&[u8], &[u8])>
     None
 }
 
-/// Whether no word is left.
-pub fn is_done(bytes: &[u8]) -> bool
-    ensures { result ≡ is_empty (words bytes.now) }
-{
-    next_word(bytes).is_none()
+/// The words of a line that are left to be read. Contracts see the list of them.
+#[derive(Drop)]
+pub struct LineWords<'a> {
+    left: &'a [u8],
 }
 
-/// The one word that is left.
-#[tactic(auto, unfolding(crate::specs::Statements::one_of, crate::specs::Statements::none_of))]
-pub fn one_of(bytes: &[u8]) -> Option<&[u8]>
-    ensures { option_map (λ x. x.now) result ≡ one_of (words bytes.now) }
-{
-    let (word, rest) = next_word(bytes)?;
-    if is_done(rest) { Some(word) } else { None }
+impl<'a> Model for LineWords<'a> {
+    ghost use Rattle.std.specs.Prelude.{ℕ, List};
+
+    ghost Value = { List (List ℕ) };
+
+    ghost use Rattle.hp_script.specs.Words.{words};
+
+    ghost view = { λ w. words w.left.now };
 }
 
-/// The two words that are left.
-#[tactic(auto, unfolding(crate::specs::Statements::two_of))]
-pub fn two_of(bytes: &[u8]) -> Option<(&[u8], &[u8])>
-    ensures { option_map (λ x. (x.0.now, x.1.now)) result ≡ two_of (words bytes.now) }
-{
-    let (first, rest) = next_word(bytes)?;
-    let second = one_of(rest)?;
-    Some((first, second))
+impl<'a> LineWords<'a> {
+    /// The words of a line.
+    pub fn of(line: &'a [u8]) -> LineWords<'a>
+        ensures { result ≡ words line.now }
+    {
+        LineWords { left: line }
+    }
+}
+
+impl<'a> Words<'a> for LineWords<'a> {
+    ghost left = { λ w. w };
+
+    fn next_word(&mut self) -> Option<&'a [u8]> {
+        let (word, rest) = first_word(self.left)?;
+        self.left = rest;
+        Some(word)
+    }
 }
 
 fn is_bad_byte(byte: u8) -> bool
@@ -82,11 +92,4 @@ pub fn is_comment(word: &[u8]) -> bool
     ensures { result ≡ is_comment word.now }
 {
     matches!(word, [b'#', ..])
-}
-
-/// Whether a word is this text.
-pub fn is_word(word: &[u8], text: &[u8]) -> bool
-    ensures { result ≡ bytes_eq word.now text.now }
-{
-    word == text
 }

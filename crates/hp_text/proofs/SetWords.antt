@@ -17,7 +17,7 @@ use Rattle.hp_text.proofs.Readings.{IsTail, same_ok}
 
 -- ---- numbers that rise, by the test and as a fact
 
-rises : (low limit : ℕ) (ns : List ℕ) → rise_from low limit ns ≡ true → Rise low limit ns
+pub rises : (low limit : ℕ) (ns : List ℕ) → rise_from low limit ns ≡ true → Rise low limit ns
 rises low limit [] e = tt
 rises low limit (n ∷ ns) e =
     let p = and_parts (leb low n && ltb n limit) (rise_from (n + 1) limit ns) e in

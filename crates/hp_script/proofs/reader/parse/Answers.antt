@@ -1,7 +1,7 @@
 use Rattle.std.proofs.Common.{sym, subst, ℕ, List, arith}
 use Rattle.hp_script.specs.Pieces.{lines}
 use Rattle.hp_script.specs.Judged.{too_long}
-use Rattle.hp_script.proofs.Wrongs.{next_is}
+use Rattle.hp_script.proofs.PieceLoops.{next_is}
 use Rattle.hp_script.proofs.ReadLoop.{SoFar, goes_on, stops_at, ends_badly, ends_well, few_actors, no_next}
 use Rattle.hp_script.proofs.reader.parse.Goals as goal
 

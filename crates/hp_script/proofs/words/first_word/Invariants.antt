@@ -1,6 +1,6 @@
 use Rattle.std.proofs.Common.{◌≡◌, drop}
 use Rattle.hp_script.specs.Words.{words}
-use Rattle.hp_script.proofs.words.next_word.Given as goal
+use Rattle.hp_script.proofs.words.first_word.Given as goal
 
 -- the words of what is left are those of all
 abbrev pub invariant-loop-i : goal.invariant-loop-i
