@@ -16,18 +16,14 @@ use Rattle.hp_event.specs.declared.event.Event.{Event}
 use Rattle.hp_event.specs.declared.event.Event.TheVariants.{Admit, Leave, Enter, Refused, WalkBegin, Call, WalkEnd, OpEnd, RegBegin, RegEnd, ReadLock, ReadUnlock, Armed, Shown, Wakeup}
 use Rattle.hp_model.specs.Words.{line, dir_word}
 use Rattle.hp_model.specs.EventLine.{how_words, answer_words, walk_answer_words, role_words, event_words, event_line}
+use Rattle.hp_text.proofs.SubLaws.{dir_again}
 use Rattle.hp_replay.specs.LineWords.{words_at}
 use Rattle.hp_replay.specs.Fits.{HowFits, AnswerFits, RoleFits, EventFits}
 use Rattle.hp_replay.specs.Spelled.{IsWalkAnswer, IsSpelled}
-use Rattle.hp_replay.specs.EventAt.{direction, role, how, answer, walk_answer, event, event_at}
-use Rattle.hp_replay.proofs.NumberLaws.{integer_again}
+use Rattle.hp_replay.specs.EventAt.{role, how, answer, walk_answer, event, event_at}
+use Rattle.hp_replay.proofs.NumberLaws.{number_again, integer_again}
 use Rattle.hp_replay.proofs.LineLaws.{is_free, all_free, signed_free, words_again}
-use Rattle.hp_replay.proofs.OpWords.{number_again, number_free, op_again, op_free}
-
-pub direction_again : (d : Dir) → direction (dir_word d) ≡ Some d
-unfolding direction
-direction_again Up = refl
-direction_again Down = refl
+use Rattle.hp_replay.proofs.OpWords.{number_free, op_again, op_free}
 
 pub dir_free : (d : Dir) → is_free (dir_word d) ≡ true
 dir_free Up = refl
@@ -96,7 +92,7 @@ event_again (Leave seat) h s = rw (number_again seat h) refl
 event_again (Enter seat o) h s = rw (number_again seat h.0, op_again o h.1 s) refl
 event_again (Refused seat errno o) h s = rw (number_again seat h.0, number_again errno h.1, op_again o h.2 s) refl
 event_again (WalkBegin seat cpu from to) h s = rw (number_again seat h.0, number_again cpu h.1, number_again from h.2, number_again to h.3) refl
-event_again (Call seat cpu state inst dir x) h s = rw (number_again seat h.0, number_again cpu h.1, number_again state h.2, number_again inst h.3, direction_again dir, how_again x h.4) refl
+event_again (Call seat cpu state inst dir x) h s = rw (number_again seat h.0, number_again cpu h.1, number_again state h.2, number_again inst h.3, dir_again dir, how_again x h.4) refl
 event_again (WalkEnd seat cpu a) h s = rw (number_again seat h.0, number_again cpu h.1, walk_answer_again a h.2 s) refl
 event_again (OpEnd seat a) h s = rw (number_again seat h.0, answer_again a h.1) refl
 event_again (RegBegin seat state o) h s = rw (number_again seat h.0, number_again state h.1, op_again o h.2 s) refl

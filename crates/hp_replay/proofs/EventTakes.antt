@@ -1,11 +1,7 @@
 -- The event that a line says is spelled by it.
-use Rattle.std.proofs.Common.{◌≡◌, ℕ, Bool, true, false, cond, List, [], ◌∷◌, Some, None, refl, ap, ◌∙◌, arith}
+use Rattle.std.proofs.Common.{◌≡◌, ℕ, List, [], ◌∷◌, Some, refl, arith}
 use Rattle.std.specs.Prelude.{pos, codes}
 use Rattle.std.specs.Fmt.{decimal}
-use Rattle.std.specs.Str.{bytes_eq}
-use Rattle.hp_states.proofs.Basics.{same_some}
-use Rattle.hp_states.specs.declared.dir.Dir.{Dir}
-use Rattle.hp_states.specs.declared.dir.Dir.TheVariants.{Up, Down}
 use Rattle.hp_event.specs.declared.how.How.TheVariants.{RanOk, RanFault, Injected, Empty, Presumed, Overruled}
 use Rattle.hp_event.specs.declared.answer.Answer.{Answer}
 use Rattle.hp_event.specs.declared.answer.Answer.TheVariants as answers
@@ -15,29 +11,19 @@ use Rattle.hp_event.specs.declared.event.Event.{Event}
 use Rattle.hp_event.specs.declared.event.Event.TheVariants.{Admit, Leave, Enter, Refused, WalkBegin, Call, WalkEnd, OpEnd, RegBegin, RegEnd, ReadLock, ReadUnlock, Armed, Shown, Wakeup}
 use Rattle.hp_model.specs.Words.{dir_word}
 use Rattle.hp_model.specs.EventLine.{how_words, answer_words, walk_answer_words, role_words, event_words, event_line}
+use Rattle.hp_text.specs.Choices.{dir_of}
+use Rattle.hp_text.proofs.SubLaws.{Whatever, dir_takes}
 use Rattle.hp_replay.specs.Readers.{Tail, one_of}
 use Rattle.hp_replay.specs.Fits.{IsU32, HowFits, AnswerFits, RoleFits, EventFits}
 use Rattle.hp_replay.specs.Spelled.{IsWalkAnswer, IsSpelled}
-use Rattle.hp_replay.specs.EventAt.{direction, role_rows, role, how_rows, how, answer_rows, answer, walk_answer_rows, walk_answer, shown_rows, event_rows, event, event_at}
-use Rattle.hp_replay.proofs.ReaderLaws.{IsField, Spells, done_spells, bind_spells, mapped_spells, one_spells, same_word, line_takes}
+use Rattle.hp_replay.specs.EventAt.{role_rows, role, how_rows, how, answer_rows, answer, walk_answer_rows, walk_answer, shown_rows, event_rows, event, event_at}
+use Rattle.hp_replay.proofs.ReaderLaws.{IsField, Spells, done_spells, bind_spells, mapped_spells, one_spells, line_takes}
 use Rattle.hp_replay.proofs.OpWords.{number_field, integer_field, op_spells}
 
 -- ---- the parts of an event
 
-abbrev pub AnyDir : Dir → Type 0
-AnyDir d = Unit {0}
-
-direction_is : (w : List ℕ) (d : Dir) (t u : Bool) → bytes_eq w (codes "up") ≡ t → bytes_eq w (codes "down") ≡ u → cond t (Some Up) (cond u (Some Down) None) ≡ Some d → w ≡ dir_word d
-direction_is w d true u a b h = same_word w (codes "up") a ∙ ap dir_word (same_some Up d h)
-direction_is w d false true a b h = same_word w (codes "down") b ∙ ap dir_word (same_some Down d h)
-direction_is w d false false a b h = absurd cc
-
-direction_takes : (w : List ℕ) (d : Dir) → direction w ≡ Some d → (w ≡ dir_word d) × AnyDir d
-unfolding direction
-direction_takes w d h = (direction_is w d (bytes_eq w (codes "up")) (bytes_eq w (codes "down")) refl refl h, tt)
-
-pub direction_field : IsField direction dir_word AnyDir
-direction_field = record { takes = direction_takes }
+direction_field : IsField dir_of dir_word Whatever
+direction_field = record { takes = λ w d h. (dir_takes w d h, tt) }
 
 role_rows_say : Spells role_words RoleFits [] (one_of role_rows)
 role_rows_say = one_spells role_rows (

@@ -3,12 +3,9 @@ use Rattle.std.proofs.Common.{◌≡◌, ℕ, Bool, true, false, cond, List, [],
 use Rattle.std.specs.Prelude.{find}
 use Rattle.std.specs.Str.{bytes_eq}
 use Rattle.hp_event.specs.declared.event.Event.{Event}
-use Rattle.hp_event.specs.declared.event.Event.TheVariants as event
 use Rattle.hp_replay.specs.declared.first_word.EventWord.{EventWord}
-use Rattle.hp_replay.specs.declared.first_word.EventWord.TheVariants as event_word
 use Rattle.hp_replay.specs.Readers.{Tail, Row, row, row_of}
-use Rattle.hp_replay.specs.Tails.{numbered}
-use Rattle.hp_replay.specs.EventAt.{admit_tail, enter_tail, refused_tail, walk_tail, call_tail, walked_tail, done_tail, reg_tail, regged_tail, armed_tail, shown_tail, event_rows, event as event_at}
+use Rattle.hp_replay.specs.EventAt.{event_tail, event_rows, event as event_at}
 use Rattle.hp_replay.specs.WordsLeft.{first_of, others_of}
 use Rattle.hp_replay.specs.FirstWords.{text_of_event, event_words, event_word_of}
 use Rattle.hp_replay.proofs.Rows.{by_row}
@@ -41,23 +38,6 @@ unknown text tail [] w ws e = refl
 unknown text tail (u ∷ us) w ws e = unknown_by text tail u us w ws (unknown text tail us w ws) (bytes_eq w (text u)) e
 
 -- ---- event lines
-
-abbrev pub event_tail : EventWord → Tail Event
-event_tail event_word.Admit = admit_tail
-event_tail event_word.Leave = numbered (λ seat. event.Leave seat)
-event_tail event_word.Enter = enter_tail
-event_tail event_word.Refused = refused_tail
-event_tail event_word.Walk = walk_tail
-event_tail event_word.Call = call_tail
-event_tail event_word.Walked = walked_tail
-event_tail event_word.Done = done_tail
-event_tail event_word.Reg = reg_tail
-event_tail event_word.Regged = regged_tail
-event_tail event_word.Lock = numbered (λ seat. event.ReadLock seat)
-event_tail event_word.Unlock = numbered (λ seat. event.ReadUnlock seat)
-event_tail event_word.Armed = armed_tail
-event_tail event_word.Shown = shown_tail
-event_tail event_word.Wakeup = numbered (λ seat. event.Wakeup seat)
 
 event_says : (v : EventWord) (words : List (List ℕ)) (word : List ℕ) → Some word ≡ first_of words → Some v ≡ event_word_of word → event_tail v (others_of words) ≡ event_at words
 unfolding event_word_of event_at

@@ -1,29 +1,38 @@
 -- The lines before the events, and the end line: what they say is spelled by them, and what is spelled is said.
-use Rattle.std.proofs.Common.{◌≡◌, ℕ, ◌+◌, ◌^◌, ◌<◌, ◌≤◌, Bool, true, false, cond, ◌&&◌, List, [], ◌∷◌, map, Option, Some, None, refl, ap, subst, ◌∙◌, arith}
-use Rattle.std.specs.Prelude.{codes, decimal, IfSome}
-use Rattle.std.specs.Str.{bytes_eq}
-use Rattle.std.proofs.lemmas.Bool.{and_parts, cond-true}
+use Rattle.std.proofs.Common.{◌≡◌, ℕ, ◌+◌, ◌^◌, ◌<◌, ◌≤◌, Bool, true, false, cond, List, [], ◌∷◌, map, Some, None, refl, ap, subst, ◌∙◌, arith}
+use Rattle.std.specs.Prelude.{codes, decimal}
+use Rattle.std.specs.Option.{option_map}
+use Rattle.std.specs.Result.{result_ok}
+use Rattle.std.proofs.lemmas.Bool.{cond-true}
 use Rattle.hp_states.proofs.Basics.{passed, same_some}
-use Rattle.hp_states.specs.declared.limits.TheConstants.{MAX_CPUS, MAX_RULE_CPU, MAX_INSTANCE, MAX_EVENTS, MAX_CODE}
+use Rattle.hp_states.specs.declared.limits.TheConstants.{MAX_CPUS, MAX_RULE_CPU, MAX_INSTANCE, MAX_EVENTS}
 use Rattle.hp_states.specs.declared.plan.Rule.{Rule}
 use Rattle.hp_event.specs.declared.head.Sub.{Sub}
-use Rattle.hp_model.specs.Lists.{is_empty}
 use Rattle.hp_model.specs.Words.{line, dir_word, name_word, any_word, calls_word, kind_word, list_words}
 use Rattle.hp_model.specs.Heads.{IsName, IsRule}
 use Rattle.hp_model.proofs.Rising.{Rise}
-use Rattle.hp_text.specs.Numbers.{is_number, value}
+use Rattle.hp_text.specs.Numbers.{is_number, value, number_from}
+use Rattle.hp_text.specs.Readings.{alone}
+use Rattle.hp_text.specs.Sets.{rise_from}
+use Rattle.hp_text.specs.Lists.{number_list_or_dash}
+use Rattle.hp_text.specs.Subs.{sub, behind_sub, rule, behind_rule}
+use Rattle.hp_text.proofs.NumberLaws.{number_is, decimal_written, from_again}
+use Rattle.hp_text.proofs.Readings.{alone_is}
+use Rattle.hp_text.proofs.SetWords.{rises, tested}
+use Rattle.hp_text.proofs.ListLaws.{dash_takes, dash_again}
+use Rattle.hp_text.proofs.SubLaws.{InRange, range_field, IsFresh}
+use Rattle.hp_text.proofs.SubLaws as text
 use Rattle.hp_replay.specs.LineWords.{words_at}
 use Rattle.hp_replay.specs.Readers.{one_of}
-use Rattle.hp_replay.specs.Rising.{rising_from}
-use Rattle.hp_replay.specs.HeadLines.{HeadLine, a_sub, a_rule, the_events, cpus_rows, cpus_at, absent_tail, absent_rows, absent_at, head_rows, head_line_at}
+use Rattle.hp_replay.specs.Tails.{read}
+use Rattle.hp_replay.specs.HeadLines.{HeadLine, a_sub, a_rule, the_events, cpus_tail, cpus_rows, cpus_at, if_rising, absent_tail, absent_rows, absent_at, head_rows, head_line_at}
 use Rattle.hp_replay.specs.EndAt.{any_number, end_tail, end_rows, end_at}
-use Rattle.hp_text.proofs.NumberLaws.{number_is, decimal_written}
+use Rattle.hp_replay.proofs.NumberLaws.{ok_is}
 use Rattle.hp_replay.proofs.LineLaws.{all_free, decimal_free, words_take}
-use Rattle.hp_replay.proofs.ReaderLaws.{Spells, done_spells, bind_spells, one_spells, same_word, line_takes, line_again, single_row, single_field, and_then_was}
-use Rattle.hp_replay.proofs.EventTakes.{direction_field}
-use Rattle.hp_replay.proofs.EventAgain.{direction_again, dir_free}
-use Rattle.hp_replay.proofs.HeadFields.{InRange, AnyInRange, decimal_other, range_field, from_below_again, any_field, any_again, any_free, name_field, name_again, name_free, calls_field, calls_again, calls_free, kind_field, kind_again, kind_free}
-use Rattle.hp_replay.proofs.AbsentLaws.{rising_takes, rising_again, rise_free}
+use Rattle.hp_replay.proofs.ReaderLaws.{Spells, done_spells, mapped_spells, one_spells, line_takes, line_again, single_row, single_field, and_then_was}
+use Rattle.hp_replay.proofs.EventAgain.{dir_free}
+use Rattle.hp_replay.proofs.HeadFields.{any_free, name_free, calls_free, kind_free}
+use Rattle.hp_replay.proofs.AbsentLaws.{rise_free}
 
 -- ---- the possible processors
 
@@ -33,8 +42,13 @@ cpus_words n = codes "cpus" ∷ decimal n ∷ []
 abbrev pub IsCount : ℕ → Type 0
 IsCount n = InRange 1 (MAX_CPUS + 1) n
 
+cpus_take : (ws : List (List ℕ)) (n : ℕ) → cpus_tail ws ≡ Some n → (codes "cpus" ∷ ws ≡ cpus_words n) × IsCount n
+cpus_take ws n e =
+    let t = (alone_is (range_field 1 (MAX_CPUS + 1) (omega arith))).takes ws n (ok_is (alone (number_from 1 (MAX_CPUS + 1)) ws) n e) in
+    (ap (λ (v : List (List ℕ)). codes "cpus" ∷ v) t.0, t.1)
+
 cpus_spell : Spells cpus_words IsCount [] (one_of cpus_rows)
-cpus_spell = one_spells cpus_rows (bind_spells (range_field 1 (MAX_CPUS + 1) (omega arith)) (λ n a. done_spells n refl a), tt)
+cpus_spell = one_spells cpus_rows (record { takes = cpus_take }, tt)
 
 pub cpus_takes : (l : List ℕ) (n : ℕ) → cpus_at l ≡ Some n → (l ≡ line (cpus_words n)) × IsCount n
 unfolding cpus_at
@@ -47,56 +61,39 @@ pub cpus_again : (n : ℕ) → IsCount n → cpus_at (line (cpus_words n)) ≡ S
 unfolding cpus_at
 cpus_again n h =
     line_again (one_of cpus_rows) n (codes "cpus") (decimal n ∷ []) (cpus_free n h)
-    (rw (from_below_again 1 (MAX_CPUS + 1) n (omega arith) h) refl)
+    (ap (λ r. result_ok r) (from_again 1 (MAX_CPUS + 1) n (decimal n) (omega arith) h.0 h.1 refl))
 
 -- ---- the absent ones
 
 abbrev pub absent_words : List ℕ → List (List ℕ)
 absent_words absent = codes "absent" ∷ list_words (map decimal absent)
 
-some_words : (w : List ℕ) (ws : List (List ℕ)) (ns : List ℕ) → w ∷ ws ≡ map decimal ns → codes "absent" ∷ w ∷ ws ≡ absent_words ns
-some_words w ws [] h = absurd cc
-some_words w ws (n ∷ ns) h = ap (λ (x : List (List ℕ)). codes "absent" ∷ x) h
+risen : (possible : ℕ) (ns ms : List ℕ) (t : Bool) → rise_from 1 possible ns ≡ t → cond t (Some ns) None ≡ Some ms → (ns ≡ ms) × Rise 1 possible ns
+risen possible ns ms true t e = (same_some ns ms e, rises 1 possible ns t)
+risen possible ns ms false t e = absurd cc
 
-absent_says : (possible : ℕ) (w : List ℕ) (ws : List (List ℕ)) (ns : List ℕ) (t : Bool) → possible ≤ 2 ^ 64 → bytes_eq w (codes "-") && is_empty ws ≡ t →
-    cond t (Some []) (rising_from 1 possible (w ∷ ws)) ≡ Some ns → (codes "absent" ∷ w ∷ ws ≡ absent_words ns) × Rise 1 possible ns
-absent_says possible w ws ns true le t e =
-    let p = and_parts (bytes_eq w (codes "-")) (is_empty ws) t in
-    subst (λ (x : List ℕ). (codes "absent" ∷ w ∷ ws ≡ absent_words x) × Rise 1 possible x) (same_some [] ns e) (dash ws (same_word w (codes "-") p.0) p.1, tt)
-  where
-    dash : (vs : List (List ℕ)) → w ≡ codes "-" → is_empty vs ≡ true → codes "absent" ∷ w ∷ vs ≡ absent_words []
-    dash [] a b = ap (λ (x : List ℕ). codes "absent" ∷ x ∷ []) a
-    dash (v ∷ vs) a b = absurd cc
-absent_says possible w ws ns false le t e =
-    let r = rising_takes 1 possible (w ∷ ws) ns le e in
-    (some_words w ws ns r.0, r.1)
+absent_take : (possible : ℕ) (ws : List (List ℕ)) (ns : List ℕ) → absent_tail possible ws ≡ Some ns → (codes "absent" ∷ ws ≡ absent_words ns) × Rise 1 possible ns
+absent_take possible ws ns e =
+    let a = and_then_was (if_rising possible) (read number_list_or_dash ws) ns e in
+    let r = risen possible a.0 ns (rise_from 1 possible a.0) refl a.2 in
+    subst (λ (x : List ℕ). (codes "absent" ∷ ws ≡ absent_words x) × Rise 1 possible x) r.0
+    (ap (λ (v : List (List ℕ)). codes "absent" ∷ v) (dash_takes ws a.0 (ok_is (number_list_or_dash ws) a.0 a.1)), r.1)
 
-absent_take : (possible : ℕ) (ws : List (List ℕ)) (ns : List ℕ) → possible ≤ 2 ^ 64 → absent_tail possible ws ≡ Some ns → (codes "absent" ∷ ws ≡ absent_words ns) × Rise 1 possible ns
-absent_take possible [] ns le e = absurd cc
-absent_take possible (w ∷ ws) ns le e = absent_says possible w ws ns (bytes_eq w (codes "-") && is_empty ws) le refl e
+absent_spell : (possible : ℕ) → Spells absent_words (Rise 1 possible) [] (one_of (absent_rows possible))
+absent_spell possible = one_spells (absent_rows possible) (record { takes = λ ws ns e. absent_take possible ws ns e }, tt)
 
-absent_spell : (possible : ℕ) → possible ≤ 2 ^ 64 → Spells absent_words (Rise 1 possible) [] (one_of (absent_rows possible))
-absent_spell possible le = one_spells (absent_rows possible) (record { takes = λ ws ns e. absent_take possible ws ns le e }, tt)
-
-pub absent_takes : (possible : ℕ) (l : List ℕ) (ns : List ℕ) → possible ≤ 2 ^ 64 → absent_at possible l ≡ Some ns → (l ≡ line (absent_words ns)) × Rise 1 possible ns
+pub absent_takes : (possible : ℕ) (l : List ℕ) (ns : List ℕ) → absent_at possible l ≡ Some ns → (l ≡ line (absent_words ns)) × Rise 1 possible ns
 unfolding absent_at
-absent_takes possible l ns le h = line_takes (absent_spell possible le) l ns h
+absent_takes possible l ns h = line_takes (absent_spell possible) l ns h
 
-pub absent_free : (possible : ℕ) (ns : List ℕ) → possible ≤ 2 ^ 64 → Rise 1 possible ns → all_free (absent_words ns) ≡ true
+pub absent_free : (possible : ℕ) (ns : List ℕ) → possible ≤ 2 ^ 32 → Rise 1 possible ns → all_free (absent_words ns) ≡ true
 absent_free possible [] le h = refl
-absent_free possible (n ∷ ns) le h = rise_free 1 possible (n ∷ ns) le h
+absent_free possible (n ∷ ns) le h = rise_free 1 possible (n ∷ ns) (omega (arith, le)) h
 
-digits_no_dash : (n : ℕ) → n < 2 ^ 64 → bytes_eq (decimal n) (codes "-") ≡ false
-digits_no_dash n lt = decimal_other n (codes "-") lt refl
+absent_reads : (possible : ℕ) (ns : List ℕ) → possible ≤ 2 ^ 32 → Rise 1 possible ns → absent_tail possible (list_words (map decimal ns)) ≡ Some ns
+absent_reads possible ns le h = rw (dash_again 1 possible ns le h, tested 1 possible ns h) refl
 
-absent_reads : (possible : ℕ) (ns : List ℕ) → possible ≤ 2 ^ 64 → Rise 1 possible ns → absent_tail possible (list_words (map decimal ns)) ≡ Some ns
-absent_reads possible [] le h = refl
-absent_reads possible (n ∷ ns) le h =
-    let no_dash : bytes_eq (decimal n) (codes "-") ≡ false = digits_no_dash n (omega (arith, h.1)) in
-    let again : rising_from 1 possible (decimal n ∷ map decimal ns) ≡ Some (n ∷ ns) = rising_again 1 possible (n ∷ ns) le h in
-    rw no_dash again
-
-pub absent_again : (possible : ℕ) (ns : List ℕ) → possible ≤ 2 ^ 64 → Rise 1 possible ns → absent_at possible (line (absent_words ns)) ≡ Some ns
+pub absent_again : (possible : ℕ) (ns : List ℕ) → possible ≤ 2 ^ 32 → Rise 1 possible ns → absent_at possible (line (absent_words ns)) ≡ Some ns
 unfolding absent_at
 absent_again possible ns le h =
     line_again (one_of (absent_rows possible)) ns (codes "absent") (list_words (map decimal ns)) (absent_free possible ns le h)
@@ -114,27 +111,17 @@ HeadFits (a_sub sub) = IsName sub.name × (sub.plan ≡ [])
 HeadFits (a_rule rule) = IsRule rule
 HeadFits the_events = Unit {0}
 
-any_weaker : (o : Option ℕ) (low high : ℕ) → AnyInRange low (high + 1) o → IfSome o (λ n. n ≤ high)
-any_weaker None low high h = tt
-any_weaker (Some n) low high h = omega (arith, h.1)
+sub_spells : Spells behind_sub IsFresh [] (read sub)
+sub_spells = record { takes = λ ws s e. text.sub_takes ws s (ok_is (sub ws) s e) }
 
-any_least : (o : Option ℕ) (limit : ℕ) → AnyInRange 1 limit o → IfSome o (λ n. 0 < n)
-any_least None limit h = tt
-any_least (Some n) limit h = omega (arith, h.0)
+rule_spells : Spells behind_rule IsRule [] (read rule)
+rule_spells = record { takes = λ ws r e. text.rule_takes ws r (ok_is (rule ws) r e) }
 
 pub head_spells : Spells head_words HeadFits [] (one_of head_rows)
 head_spells = one_spells head_rows (
-  bind_spells name_field (λ n a. bind_spells calls_field (λ c u. bind_spells kind_field (λ m v. done_spells (a_sub (record { name = n; up = c.0; down = c.1; multi = m; plan = [] })) refl (a, refl)))),
+  mapped_spells (λ s. a_sub s) sub_spells (λ s f. (refl, f)),
   (
-    bind_spells direction_field (λ d u. bind_spells (any_field 0 MAX_RULE_CPU (omega arith)) (λ cpu a. bind_spells (any_field 0 MAX_INSTANCE (omega arith)) (λ inst b. bind_spells (any_field 1 MAX_EVENTS (omega arith)) (λ nth c. bind_spells (range_field 1 (MAX_CODE + 1) (omega arith)) (λ code e.
-        done_spells (a_rule (record { dir = d; cpu = cpu; inst = inst; nth = nth; code = code })) refl (record {
-          cpu_fits = any_weaker cpu 0 MAX_RULE_CPU a;
-          inst_fits = any_weaker inst 0 MAX_INSTANCE b;
-          nth_above = any_least nth (MAX_EVENTS + 1) c;
-          nth_fits = any_weaker nth 1 MAX_EVENTS c;
-          code_above = omega (arith, e.0);
-          code_fits = omega (arith, e.1);
-        })))))),
+    mapped_spells (λ r. a_rule r) rule_spells (λ r f. (refl, f)),
     (done_spells the_events refl tt, tt),
   ),
 )
@@ -143,14 +130,6 @@ pub head_takes : (l : List ℕ) (x : HeadLine) → head_line_at l ≡ Some x →
 unfolding head_line_at
 head_takes l x h = line_takes head_spells l x h
 
-any_in : (o : Option ℕ) (high : ℕ) → IfSome o (λ n. n ≤ high) → AnyInRange 0 (high + 1) o
-any_in None high h = tt
-any_in (Some n) high h = (omega arith, omega (arith, h))
-
-nth_in : (o : Option ℕ) (high : ℕ) → IfSome o (λ n. 0 < n) → IfSome o (λ n. n ≤ high) → AnyInRange 1 (high + 1) o
-nth_in None high g h = tt
-nth_in (Some n) high g h = (omega (arith, g), omega (arith, h))
-
 pub sub_free : (sub : Sub) → IsName sub.name → all_free (head_words (a_sub sub)) ≡ true
 sub_free sub h = rw (name_free sub.name h, calls_free sub.up sub.down, kind_free sub.multi) refl
 
@@ -158,9 +137,9 @@ pub rule_free : (rule : Rule) → IsRule rule → all_free (head_words (a_rule r
 rule_free rule h =
     rw (
       dir_free rule.dir,
-      any_free 0 (MAX_RULE_CPU + 1) rule.cpu (omega arith) (any_in rule.cpu MAX_RULE_CPU h.cpu_fits),
-      any_free 0 (MAX_INSTANCE + 1) rule.inst (omega arith) (any_in rule.inst MAX_INSTANCE h.inst_fits),
-      any_free 1 (MAX_EVENTS + 1) rule.nth (omega arith) (nth_in rule.nth MAX_EVENTS h.nth_above h.nth_fits),
+      any_free MAX_RULE_CPU rule.cpu (omega arith) h.cpu_fits,
+      any_free MAX_INSTANCE rule.inst (omega arith) h.inst_fits,
+      any_free MAX_EVENTS rule.nth (omega arith) h.nth_fits,
       decimal_free rule.code (omega (arith, h.code_fits)),
     ) refl
 
@@ -168,19 +147,13 @@ pub sub_again : (sub : Sub) → IsName sub.name → head_line_at (line (head_wor
 unfolding head_line_at
 sub_again sub h =
     line_again (one_of head_rows) (a_sub (record sub { plan = [] })) (codes "sub") (name_word sub.name ∷ calls_word sub.up sub.down ∷ kind_word sub.multi ∷ []) (sub_free sub h)
-    (rw (name_again sub.name h, calls_again sub.up sub.down, kind_again sub.multi) refl)
+    (ap (λ r. option_map (λ s. a_sub s) (result_ok r)) (text.sub_again (record sub { plan = [] }) (h, refl)))
 
 pub rule_again : (rule : Rule) → IsRule rule → head_line_at (line (head_words (a_rule rule))) ≡ Some (a_rule rule)
 unfolding head_line_at
 rule_again rule h =
     line_again (one_of head_rows) (a_rule rule) (codes "rule") (dir_word rule.dir ∷ any_word rule.cpu ∷ any_word rule.inst ∷ any_word rule.nth ∷ decimal rule.code ∷ []) (rule_free rule h)
-    (rw (
-      direction_again rule.dir,
-      any_again 0 MAX_RULE_CPU rule.cpu (omega arith) (any_in rule.cpu MAX_RULE_CPU h.cpu_fits),
-      any_again 0 MAX_INSTANCE rule.inst (omega arith) (any_in rule.inst MAX_INSTANCE h.inst_fits),
-      any_again 1 MAX_EVENTS rule.nth (omega arith) (nth_in rule.nth MAX_EVENTS h.nth_above h.nth_fits),
-      from_below_again 1 (MAX_CODE + 1) rule.code (omega arith) (omega (arith, h.code_above), omega (arith, h.code_fits)),
-    ) refl)
+    (ap (λ r. option_map (λ x. a_rule x) (result_ok r)) (text.rule_again rule h))
 
 pub events_again : head_line_at (line (codes "events" ∷ [])) ≡ Some the_events
 unfolding head_line_at

@@ -1,5 +1,5 @@
 -- Whole inputs and what is answered to them: examples.
-use Rattle.std.proofs.Common.{◌≡◌, ℕ, true, false, List, [], ◌∷◌, ◌++◌, Some, None, refl, ap, ◌∙◌, arith}
+use Rattle.std.proofs.Common.{◌≡◌, ℕ, true, false, List, [], ◌∷◌, ◌++◌, map, Some, None, refl, ap, ◌∙◌, arith}
 use Rattle.std.specs.Prelude.{codes, decimal}
 use Rattle.std.proofs.lemmas.Fmt.{decimal_digit, decimal_step}
 use Rattle.hp_states.specs.declared.dir.Dir.TheVariants as dir
@@ -21,18 +21,16 @@ use Rattle.hp_text.specs.Flags.{flags, form}
 use Rattle.hp_text.specs.FirstWords.{op_word_of, file_of}
 use Rattle.hp_text.specs.Sets.{set}
 use Rattle.hp_text.specs.OpAt.{op_tail, op_at}
-use Rattle.hp_replay.specs.EventAt.{direction, role, how, answer, walk_answer, event, event_at}
+use Rattle.hp_replay.specs.EventAt.{role, how, answer, walk_answer, event, event_at}
 use Rattle.hp_replay.specs.EndAt.{any_number, end_at}
-use Rattle.hp_replay.specs.HeadWords.{from_below, any_within, name, calls, kind}
+use Rattle.hp_text.specs.Choices.{dir_of, calls_of, kind_of, name_of, any_from}
+use Rattle.hp_text.specs.Lists.{number_list_or_dash}
+use Rattle.hp_text.specs.Subs.{sub, rule}
 use Rattle.hp_replay.specs.HeadLines.{cpus_at, absent_at, head_line_at}
 use Rattle.hp_replay.specs.InputLines.{lines_of}
 use Rattle.hp_replay.specs.Stages.{begins, step}
-use Rattle.hp_replay.specs.Judged.{accepted, refused}
+use Rattle.hp_replay.specs.Judged.{Outcome, accepted, refused}
 use Rattle.hp_replay.specs.Judge.{Test, judge}
-
--- with its newline
-abbrev ended : List ℕ → List ℕ
-ended text = text ++ 10 ∷ []
 
 -- ---- whole inputs, where each event stands, or none
 
@@ -54,61 +52,27 @@ the_head = record {
 abbrev four : List Event
 four = Admit 0 (Ap 0) ∷ Admit 1 (Ap 1) ∷ Admit 2 Client ∷ RegBegin 2 120 (Setup 120 1 (flags false false)) ∷ []
 
-input_0 : judge always begins 1 (lines_of (codes "cpuhp journal 1" ++ (10 ∷ (codes "cpus 2" ++ (10 ∷ (codes "absent -" ++ (10 ∷ (codes "sub net:a both single" ++ (10 ∷ (codes "sub net:b both single" ++ (10 ∷ (codes "rule up 1 * * 5" ++ (10 ∷ (codes "events" ++ (10 ∷ (codes "admit 0 ap 0" ++ (10 ∷ (codes "admit 1 ap 1" ++ (10 ∷ (codes "admit 2 client" ++ (10 ∷ (codes "reg 2 120 setup 120 1" ++ (10 ∷ (codes "end 4" ++ (10 ∷ ([])))))))))))))))))))))))))) ≡ accepted the_head four
-unfolding step title_line lines_of event_at words_at event op_at op_tail op_word_of file_of set form number_below integer direction role how answer walk_answer end_at any_number cpus_at absent_at head_line_at name calls kind any_within from_below
-input_0 = refl
+abbrev inputs : List (Test × List ℕ × Outcome)
+inputs =
+    (always, codes "cpuhp journal 1" ++ (10 ∷ (codes "cpus 2" ++ (10 ∷ (codes "absent -" ++ (10 ∷ (codes "sub net:a both single" ++ (10 ∷ (codes "sub net:b both single" ++ (10 ∷ (codes "rule up 1 * * 5" ++ (10 ∷ (codes "events" ++ (10 ∷ (codes "admit 0 ap 0" ++ (10 ∷ (codes "admit 1 ap 1" ++ (10 ∷ (codes "admit 2 client" ++ (10 ∷ (codes "reg 2 120 setup 120 1" ++ (10 ∷ (codes "end 4" ++ (10 ∷ ([])))))))))))))))))))))))), accepted the_head four) ∷
+    (never, codes "cpuhp journal 1" ++ (10 ∷ (codes "cpus 2" ++ (10 ∷ (codes "absent -" ++ (10 ∷ (codes "sub net:a both single" ++ (10 ∷ (codes "sub net:b both single" ++ (10 ∷ (codes "rule up 1 * * 5" ++ (10 ∷ (codes "events" ++ (10 ∷ (codes "admit 0 ap 0" ++ (10 ∷ (codes "admit 1 ap 1" ++ (10 ∷ (codes "admit 2 client" ++ (10 ∷ (codes "reg 2 120 setup 120 1" ++ (10 ∷ (codes "end 4" ++ (10 ∷ ([])))))))))))))))))))))))), refused 8 Unlawful) ∷
+    (always, codes "cpuhp journal 1" ++ (10 ∷ (codes "cpus 2" ++ (10 ∷ (codes "absent -" ++ (10 ∷ (codes "sub net:a both single" ++ (10 ∷ (codes "sub net:b both single" ++ (10 ∷ (codes "rule up 1 * * 5" ++ (10 ∷ (codes "events" ++ (10 ∷ (codes "admit 0 ap 0" ++ (10 ∷ (codes "admit 1 ap 1" ++ (10 ∷ (codes "admit 2 client" ++ (10 ∷ (codes "reg 2 120 setup 120 1" ++ (10 ∷ (codes "end 4")))))))))))))))))))))), refused 12 Syntax) ∷
+    (always, codes "cpuhp journal 1" ++ (10 ∷ (codes "cpus 2" ++ (10 ∷ (codes "absent -" ++ (10 ∷ (codes "sub net:a both single" ++ (10 ∷ (codes "sub net:b both single" ++ (10 ∷ (codes "rule up 1 * * 5" ++ (10 ∷ (codes "events" ++ (10 ∷ (codes "admit 0 ap 0" ++ (10 ∷ (codes "admit 1 ap 1" ++ (10 ∷ (codes "admit 2 client" ++ (10 ∷ (codes "reg 2 120 setup 120 1" ++ (10 ∷ (codes "end 5" ++ (10 ∷ ([])))))))))))))))))))))))), refused 12 Count) ∷
+    (always, codes "cpuhp journal 1" ++ (10 ∷ (codes "cpus 2" ++ (10 ∷ (codes "absent -" ++ (10 ∷ (codes "sub net:a both single" ++ (10 ∷ (codes "sub net:b both single" ++ (10 ∷ (codes "rule up 1 * * 5" ++ (10 ∷ (codes "events" ++ (10 ∷ (codes "admit 0 ap 0" ++ (10 ∷ (codes "admit 1 ap 1" ++ (10 ∷ (codes "admit 2 client" ++ (10 ∷ (codes "reg 2 120 setup 120 1" ++ (10 ∷ ([])))))))))))))))))))))), refused 12 Missing) ∷
+    (always, codes "cpuhp journal 1" ++ (10 ∷ (codes "cpus 2" ++ (10 ∷ (codes "absent -" ++ (10 ∷ (codes "sub net:a both single" ++ (10 ∷ (codes "sub net:b both single" ++ (10 ∷ (codes "rule up 1 * * 5" ++ (10 ∷ (codes "events" ++ (10 ∷ (codes "admit 0 ap 0" ++ (10 ∷ (codes "admit 1 ap 1" ++ (10 ∷ (codes "admit 2 clients" ++ (10 ∷ (codes "reg 2 120 setup 120 1" ++ (10 ∷ (codes "end 4" ++ (10 ∷ ([])))))))))))))))))))))))), refused 10 Syntax) ∷
+    (always, codes "cpuhp journal 1" ++ (10 ∷ (codes "cpus 2" ++ (10 ∷ (codes "absent -" ++ (10 ∷ (codes "sub net:a both single" ++ (10 ∷ (codes "sub net:b both single" ++ (10 ∷ (codes "rule up 256 * * 5" ++ (10 ∷ (codes "events" ++ (10 ∷ (codes "admit 0 ap 0" ++ (10 ∷ (codes "admit 1 ap 1" ++ (10 ∷ (codes "admit 2 client" ++ (10 ∷ (codes "reg 2 120 setup 120 1" ++ (10 ∷ (codes "end 4" ++ (10 ∷ ([])))))))))))))))))))))))), refused 6 Header) ∷
+    (always, codes "cpuhp journal 1" ++ (10 ∷ (codes "cpus 2" ++ (10 ∷ (codes "absent -" ++ (10 ∷ (codes "sub net:a both single" ++ (10 ∷ (codes "sub net:b both single" ++ (10 ∷ (codes "rule up 1 * * 5" ++ (10 ∷ (codes "event" ++ (10 ∷ (codes "admit 0 ap 0" ++ (10 ∷ (codes "admit 1 ap 1" ++ (10 ∷ (codes "admit 2 client" ++ (10 ∷ (codes "reg 2 120 setup 120 1" ++ (10 ∷ (codes "end 4" ++ (10 ∷ ([])))))))))))))))))))))))), refused 7 Header) ∷
+    (always, [], refused 1 Missing) ∷
+    (always, codes "cpuhp journal 1", refused 1 Header) ∷
+    (always, codes "cpuhp journal 2" ++ (10 ∷ ([])), refused 1 Header) ∷
+    (always, codes "cpuhp journal 1" ++ (10 ∷ (codes "cpus 2" ++ (10 ∷ ([])))), refused 3 Missing) ∷
+    (always, codes "cpuhp journal 1" ++ (10 ∷ (codes "cpus 2" ++ (10 ∷ (codes "absent -" ++ (10 ∷ (codes "rule up * * * 5" ++ (10 ∷ ([])))))))), refused 4 Header) ∷
+    (always, codes "cpuhp journal 1" ++ (10 ∷ (codes "cpus 2" ++ (10 ∷ (codes "" ++ (10 ∷ (codes "absent -" ++ (10 ∷ ([])))))))), refused 3 Header) ∷
+    []
 
-input_1 : judge never begins 1 (lines_of (codes "cpuhp journal 1" ++ (10 ∷ (codes "cpus 2" ++ (10 ∷ (codes "absent -" ++ (10 ∷ (codes "sub net:a both single" ++ (10 ∷ (codes "sub net:b both single" ++ (10 ∷ (codes "rule up 1 * * 5" ++ (10 ∷ (codes "events" ++ (10 ∷ (codes "admit 0 ap 0" ++ (10 ∷ (codes "admit 1 ap 1" ++ (10 ∷ (codes "admit 2 client" ++ (10 ∷ (codes "reg 2 120 setup 120 1" ++ (10 ∷ (codes "end 4" ++ (10 ∷ ([])))))))))))))))))))))))))) ≡ refused 8 Unlawful
-unfolding step title_line lines_of event_at words_at event op_at op_tail op_word_of file_of set form number_below integer direction role how answer walk_answer end_at any_number cpus_at absent_at head_line_at name calls kind any_within from_below
-input_1 = refl
-
-input_2 : judge always begins 1 (lines_of (codes "cpuhp journal 1" ++ (10 ∷ (codes "cpus 2" ++ (10 ∷ (codes "absent -" ++ (10 ∷ (codes "sub net:a both single" ++ (10 ∷ (codes "sub net:b both single" ++ (10 ∷ (codes "rule up 1 * * 5" ++ (10 ∷ (codes "events" ++ (10 ∷ (codes "admit 0 ap 0" ++ (10 ∷ (codes "admit 1 ap 1" ++ (10 ∷ (codes "admit 2 client" ++ (10 ∷ (codes "reg 2 120 setup 120 1" ++ (10 ∷ (codes "end 4")))))))))))))))))))))))) ≡ refused 12 Syntax
-unfolding step title_line lines_of event_at words_at event op_at op_tail op_word_of file_of set form number_below integer direction role how answer walk_answer end_at any_number cpus_at absent_at head_line_at name calls kind any_within from_below
-input_2 = refl
-
-input_3 : judge always begins 1 (lines_of (codes "cpuhp journal 1" ++ (10 ∷ (codes "cpus 2" ++ (10 ∷ (codes "absent -" ++ (10 ∷ (codes "sub net:a both single" ++ (10 ∷ (codes "sub net:b both single" ++ (10 ∷ (codes "rule up 1 * * 5" ++ (10 ∷ (codes "events" ++ (10 ∷ (codes "admit 0 ap 0" ++ (10 ∷ (codes "admit 1 ap 1" ++ (10 ∷ (codes "admit 2 client" ++ (10 ∷ (codes "reg 2 120 setup 120 1" ++ (10 ∷ (codes "end 5" ++ (10 ∷ ([])))))))))))))))))))))))))) ≡ refused 12 Count
-unfolding step title_line lines_of event_at words_at event op_at op_tail op_word_of file_of set form number_below integer direction role how answer walk_answer end_at any_number cpus_at absent_at head_line_at name calls kind any_within from_below
-input_3 = refl
-
-input_4 : judge always begins 1 (lines_of (codes "cpuhp journal 1" ++ (10 ∷ (codes "cpus 2" ++ (10 ∷ (codes "absent -" ++ (10 ∷ (codes "sub net:a both single" ++ (10 ∷ (codes "sub net:b both single" ++ (10 ∷ (codes "rule up 1 * * 5" ++ (10 ∷ (codes "events" ++ (10 ∷ (codes "admit 0 ap 0" ++ (10 ∷ (codes "admit 1 ap 1" ++ (10 ∷ (codes "admit 2 client" ++ (10 ∷ (codes "reg 2 120 setup 120 1" ++ (10 ∷ ([])))))))))))))))))))))))) ≡ refused 12 Missing
-unfolding step title_line lines_of event_at words_at event op_at op_tail op_word_of file_of set form number_below integer direction role how answer walk_answer end_at any_number cpus_at absent_at head_line_at name calls kind any_within from_below
-input_4 = refl
-
-input_5 : judge always begins 1 (lines_of (codes "cpuhp journal 1" ++ (10 ∷ (codes "cpus 2" ++ (10 ∷ (codes "absent -" ++ (10 ∷ (codes "sub net:a both single" ++ (10 ∷ (codes "sub net:b both single" ++ (10 ∷ (codes "rule up 1 * * 5" ++ (10 ∷ (codes "events" ++ (10 ∷ (codes "admit 0 ap 0" ++ (10 ∷ (codes "admit 1 ap 1" ++ (10 ∷ (codes "admit 2 clients" ++ (10 ∷ (codes "reg 2 120 setup 120 1" ++ (10 ∷ (codes "end 4" ++ (10 ∷ ([])))))))))))))))))))))))))) ≡ refused 10 Syntax
-unfolding step title_line lines_of event_at words_at event op_at op_tail op_word_of file_of set form number_below integer direction role how answer walk_answer end_at any_number cpus_at absent_at head_line_at name calls kind any_within from_below
-input_5 = refl
-
-input_6 : judge always begins 1 (lines_of (codes "cpuhp journal 1" ++ (10 ∷ (codes "cpus 2" ++ (10 ∷ (codes "absent -" ++ (10 ∷ (codes "sub net:a both single" ++ (10 ∷ (codes "sub net:b both single" ++ (10 ∷ (codes "rule up 256 * * 5" ++ (10 ∷ (codes "events" ++ (10 ∷ (codes "admit 0 ap 0" ++ (10 ∷ (codes "admit 1 ap 1" ++ (10 ∷ (codes "admit 2 client" ++ (10 ∷ (codes "reg 2 120 setup 120 1" ++ (10 ∷ (codes "end 4" ++ (10 ∷ ([])))))))))))))))))))))))))) ≡ refused 6 Header
-unfolding step title_line lines_of event_at words_at event op_at op_tail op_word_of file_of set form number_below integer direction role how answer walk_answer end_at any_number cpus_at absent_at head_line_at name calls kind any_within from_below
-input_6 = refl
-
-input_7 : judge always begins 1 (lines_of (codes "cpuhp journal 1" ++ (10 ∷ (codes "cpus 2" ++ (10 ∷ (codes "absent -" ++ (10 ∷ (codes "sub net:a both single" ++ (10 ∷ (codes "sub net:b both single" ++ (10 ∷ (codes "rule up 1 * * 5" ++ (10 ∷ (codes "event" ++ (10 ∷ (codes "admit 0 ap 0" ++ (10 ∷ (codes "admit 1 ap 1" ++ (10 ∷ (codes "admit 2 client" ++ (10 ∷ (codes "reg 2 120 setup 120 1" ++ (10 ∷ (codes "end 4" ++ (10 ∷ ([])))))))))))))))))))))))))) ≡ refused 7 Header
-unfolding step title_line lines_of event_at words_at event op_at op_tail op_word_of file_of set form number_below integer direction role how answer walk_answer end_at any_number cpus_at absent_at head_line_at name calls kind any_within from_below
-input_7 = refl
-
-input_8 : judge always begins 1 (lines_of ([])) ≡ refused 1 Missing
-unfolding step title_line lines_of event_at words_at event op_at op_tail op_word_of file_of set form number_below integer direction role how answer walk_answer end_at any_number cpus_at absent_at head_line_at name calls kind any_within from_below
-input_8 = refl
-
-input_9 : judge always begins 1 (lines_of (codes "cpuhp journal 1")) ≡ refused 1 Header
-unfolding step title_line lines_of event_at words_at event op_at op_tail op_word_of file_of set form number_below integer direction role how answer walk_answer end_at any_number cpus_at absent_at head_line_at name calls kind any_within from_below
-input_9 = refl
-
-input_10 : judge always begins 1 (lines_of (codes "cpuhp journal 2" ++ (10 ∷ ([])))) ≡ refused 1 Header
-unfolding step title_line lines_of event_at words_at event op_at op_tail op_word_of file_of set form number_below integer direction role how answer walk_answer end_at any_number cpus_at absent_at head_line_at name calls kind any_within from_below
-input_10 = refl
-
-input_11 : judge always begins 1 (lines_of (codes "cpuhp journal 1" ++ (10 ∷ (codes "cpus 2" ++ (10 ∷ ([])))))) ≡ refused 3 Missing
-unfolding step title_line lines_of event_at words_at event op_at op_tail op_word_of file_of set form number_below integer direction role how answer walk_answer end_at any_number cpus_at absent_at head_line_at name calls kind any_within from_below
-input_11 = refl
-
-input_12 : judge always begins 1 (lines_of (codes "cpuhp journal 1" ++ (10 ∷ (codes "cpus 2" ++ (10 ∷ (codes "absent -" ++ (10 ∷ (codes "rule up * * * 5" ++ (10 ∷ ([])))))))))) ≡ refused 4 Header
-unfolding step title_line lines_of event_at words_at event op_at op_tail op_word_of file_of set form number_below integer direction role how answer walk_answer end_at any_number cpus_at absent_at head_line_at name calls kind any_within from_below
-input_12 = refl
-
-input_13 : judge always begins 1 (lines_of (codes "cpuhp journal 1" ++ (10 ∷ (codes "cpus 2" ++ (10 ∷ (codes "" ++ (10 ∷ (codes "absent -" ++ (10 ∷ ([])))))))))) ≡ refused 3 Header
-unfolding step title_line lines_of event_at words_at event op_at op_tail op_word_of file_of set form number_below integer direction role how answer walk_answer end_at any_number cpus_at absent_at head_line_at name calls kind any_within from_below
-input_13 = refl
+inputs_judged : map (λ row. judge row.0 begins 1 (lines_of row.1)) inputs ≡ map (λ row. row.2) inputs
+unfolding step title_line lines_of event_at words_at event op_at op_tail op_word_of file_of set form number_below integer dir_of role how answer walk_answer end_at any_number cpus_at absent_at head_line_at name_of calls_of kind_of any_from number_list_or_dash sub rule
+inputs_judged = refl
 
 -- ---- the summary of a journal without events
 
@@ -127,38 +91,19 @@ bare_summary : summary bare [] ≡ codes "cpu 0 present state 200 keys -" ++ (10
 unfolding summary cpu_lines cpu_line disabled_line recorded frozen_line sub_lines_below ops_line events_line answered_by entered keys_in_force settled registered disabled frozen
 bare_summary = rw (two_hundred_is, zero_is) refl
 
-summary_0 : judge always begins 1 (lines_of (codes "cpuhp journal 1" ++ (10 ∷ (codes "cpus 1" ++ (10 ∷ (codes "absent -" ++ (10 ∷ (codes "events" ++ (10 ∷ (codes "end 0" ++ (10 ∷ ([])))))))))))) ≡ accepted bare []
-unfolding step title_line lines_of event_at words_at event end_at any_number cpus_at absent_at head_line_at any_within from_below number_below
-summary_0 = refl
+abbrev summaries : List (Test × List ℕ × Outcome)
+summaries =
+    (always, codes "cpuhp journal 1" ++ (10 ∷ (codes "cpus 1" ++ (10 ∷ (codes "absent -" ++ (10 ∷ (codes "events" ++ (10 ∷ (codes "end 0" ++ (10 ∷ ([])))))))))), accepted bare []) ∷
+    (always, codes "cpuhp journal 1" ++ (10 ∷ (codes "cpus 1" ++ (10 ∷ (codes "absent -" ++ (10 ∷ (codes "events" ++ (10 ∷ (codes "end 0" ++ (10 ∷ (codes "cpu 0 present state 200 keys -" ++ (10 ∷ (codes "disabled 0" ++ (10 ∷ (codes "frozen -" ++ (10 ∷ (codes "ops ok 0 refused 0 fault 0 stuck 0 full 0" ++ (10 ∷ (codes "events 0" ++ (10 ∷ ([])))))))))))))))))))), accepted bare []) ∷
+    (always, codes "cpuhp journal 1" ++ (10 ∷ (codes "cpus 1" ++ (10 ∷ (codes "absent -" ++ (10 ∷ (codes "events" ++ (10 ∷ (codes "end 0" ++ (10 ∷ (codes "cpu 0 present state 199 keys -" ++ (10 ∷ (codes "disabled 0" ++ (10 ∷ (codes "frozen -" ++ (10 ∷ (codes "ops ok 0 refused 0 fault 0 stuck 0 full 0" ++ (10 ∷ (codes "events 0" ++ (10 ∷ ([])))))))))))))))))))), refused 6 Trailing) ∷
+    (always, codes "cpuhp journal 1" ++ (10 ∷ (codes "cpus 1" ++ (10 ∷ (codes "absent -" ++ (10 ∷ (codes "events" ++ (10 ∷ (codes "end 0" ++ (10 ∷ (codes "cpu 0 present state 200 keys -" ++ (10 ∷ (codes "disabled 0" ++ (10 ∷ (codes "frozen -" ++ (10 ∷ (codes "ops ok 0 refused 0 fault 0 stuck 0 full 0" ++ (10 ∷ (codes "events 0" ++ (10 ∷ (codes "events 0" ++ (10 ∷ ([])))))))))))))))))))))), refused 11 Trailing) ∷
+    (always, codes "cpuhp journal 1" ++ (10 ∷ (codes "cpus 1" ++ (10 ∷ (codes "absent -" ++ (10 ∷ (codes "events" ++ (10 ∷ (codes "end 0" ++ (10 ∷ (codes "cpu 0 present state 200 keys -" ++ (10 ∷ (codes "disabled 0" ++ (10 ∷ (codes "frozen -" ++ (10 ∷ (codes "ops ok 0 refused 0 fault 0 stuck 0 full 0" ++ (10 ∷ (codes "events 0")))))))))))))))))), refused 10 Trailing) ∷
+    (always, codes "cpuhp journal 1" ++ (10 ∷ (codes "cpus 1" ++ (10 ∷ (codes "absent -" ++ (10 ∷ (codes "events" ++ (10 ∷ (codes "end 0" ++ (10 ∷ (codes "cpu 0 present state 200 keys -" ++ (10 ∷ (codes "disabled 0" ++ (10 ∷ (codes "frozen -" ++ (10 ∷ (codes "ops ok 0 refused 0 fault 0 stuck 0 full 0" ++ (10 ∷ ([])))))))))))))))))), refused 10 Missing) ∷
+    (always, codes "cpuhp journal 1" ++ (10 ∷ (codes "cpus 1" ++ (10 ∷ (codes "absent -" ++ (10 ∷ (codes "events" ++ (10 ∷ (codes "end 0" ++ (10 ∷ (codes "" ++ (10 ∷ ([])))))))))))), refused 6 Trailing) ∷
+    (always, codes "cpuhp journal 1" ++ (10 ∷ (codes "cpus 1" ++ (10 ∷ (codes "absent -" ++ (10 ∷ (codes "events" ++ (10 ∷ (codes "end 0" ++ (10 ∷ (codes "leave 0" ++ (10 ∷ ([])))))))))))), refused 6 Trailing) ∷
+    (never, codes "cpuhp journal 1" ++ (10 ∷ (codes "cpus 1" ++ (10 ∷ (codes "absent -" ++ (10 ∷ (codes "events" ++ (10 ∷ (codes "leave 0" ++ (10 ∷ ([])))))))))), refused 5 Unlawful) ∷
+    []
 
-summary_1 : judge always begins 1 (lines_of (codes "cpuhp journal 1" ++ (10 ∷ (codes "cpus 1" ++ (10 ∷ (codes "absent -" ++ (10 ∷ (codes "events" ++ (10 ∷ (codes "end 0" ++ (10 ∷ (codes "cpu 0 present state 200 keys -" ++ (10 ∷ (codes "disabled 0" ++ (10 ∷ (codes "frozen -" ++ (10 ∷ (codes "ops ok 0 refused 0 fault 0 stuck 0 full 0" ++ (10 ∷ (codes "events 0" ++ (10 ∷ ([])))))))))))))))))))))) ≡ accepted bare []
-unfolding step title_line lines_of event_at words_at event end_at any_number cpus_at absent_at head_line_at any_within from_below number_below
-summary_1 = rw bare_summary refl
-
-summary_2 : judge always begins 1 (lines_of (codes "cpuhp journal 1" ++ (10 ∷ (codes "cpus 1" ++ (10 ∷ (codes "absent -" ++ (10 ∷ (codes "events" ++ (10 ∷ (codes "end 0" ++ (10 ∷ (codes "cpu 0 present state 199 keys -" ++ (10 ∷ (codes "disabled 0" ++ (10 ∷ (codes "frozen -" ++ (10 ∷ (codes "ops ok 0 refused 0 fault 0 stuck 0 full 0" ++ (10 ∷ (codes "events 0" ++ (10 ∷ ([])))))))))))))))))))))) ≡ refused 6 Trailing
-unfolding step title_line lines_of event_at words_at event end_at any_number cpus_at absent_at head_line_at any_within from_below number_below
-summary_2 = rw bare_summary refl
-
-summary_3 : judge always begins 1 (lines_of (codes "cpuhp journal 1" ++ (10 ∷ (codes "cpus 1" ++ (10 ∷ (codes "absent -" ++ (10 ∷ (codes "events" ++ (10 ∷ (codes "end 0" ++ (10 ∷ (codes "cpu 0 present state 200 keys -" ++ (10 ∷ (codes "disabled 0" ++ (10 ∷ (codes "frozen -" ++ (10 ∷ (codes "ops ok 0 refused 0 fault 0 stuck 0 full 0" ++ (10 ∷ (codes "events 0" ++ (10 ∷ (codes "events 0" ++ (10 ∷ ([])))))))))))))))))))))))) ≡ refused 11 Trailing
-unfolding step title_line lines_of event_at words_at event end_at any_number cpus_at absent_at head_line_at any_within from_below number_below
-summary_3 = rw bare_summary refl
-
-summary_4 : judge always begins 1 (lines_of (codes "cpuhp journal 1" ++ (10 ∷ (codes "cpus 1" ++ (10 ∷ (codes "absent -" ++ (10 ∷ (codes "events" ++ (10 ∷ (codes "end 0" ++ (10 ∷ (codes "cpu 0 present state 200 keys -" ++ (10 ∷ (codes "disabled 0" ++ (10 ∷ (codes "frozen -" ++ (10 ∷ (codes "ops ok 0 refused 0 fault 0 stuck 0 full 0" ++ (10 ∷ (codes "events 0")))))))))))))))))))) ≡ refused 10 Trailing
-unfolding step title_line lines_of event_at words_at event end_at any_number cpus_at absent_at head_line_at any_within from_below number_below
-summary_4 = rw bare_summary refl
-
-summary_5 : judge always begins 1 (lines_of (codes "cpuhp journal 1" ++ (10 ∷ (codes "cpus 1" ++ (10 ∷ (codes "absent -" ++ (10 ∷ (codes "events" ++ (10 ∷ (codes "end 0" ++ (10 ∷ (codes "cpu 0 present state 200 keys -" ++ (10 ∷ (codes "disabled 0" ++ (10 ∷ (codes "frozen -" ++ (10 ∷ (codes "ops ok 0 refused 0 fault 0 stuck 0 full 0" ++ (10 ∷ ([])))))))))))))))))))) ≡ refused 10 Missing
-unfolding step title_line lines_of event_at words_at event end_at any_number cpus_at absent_at head_line_at any_within from_below number_below
-summary_5 = rw bare_summary refl
-
-summary_6 : judge always begins 1 (lines_of (codes "cpuhp journal 1" ++ (10 ∷ (codes "cpus 1" ++ (10 ∷ (codes "absent -" ++ (10 ∷ (codes "events" ++ (10 ∷ (codes "end 0" ++ (10 ∷ (codes "" ++ (10 ∷ ([])))))))))))))) ≡ refused 6 Trailing
-unfolding step title_line lines_of event_at words_at event end_at any_number cpus_at absent_at head_line_at any_within from_below number_below
-summary_6 = rw bare_summary refl
-
-summary_7 : judge always begins 1 (lines_of (codes "cpuhp journal 1" ++ (10 ∷ (codes "cpus 1" ++ (10 ∷ (codes "absent -" ++ (10 ∷ (codes "events" ++ (10 ∷ (codes "end 0" ++ (10 ∷ (codes "leave 0" ++ (10 ∷ ([])))))))))))))) ≡ refused 6 Trailing
-unfolding step title_line lines_of event_at words_at event end_at any_number cpus_at absent_at head_line_at any_within from_below number_below
-summary_7 = rw bare_summary refl
-
-summary_8 : judge never begins 1 (lines_of (codes "cpuhp journal 1" ++ (10 ∷ (codes "cpus 1" ++ (10 ∷ (codes "absent -" ++ (10 ∷ (codes "events" ++ (10 ∷ (codes "leave 0" ++ (10 ∷ ([])))))))))))) ≡ refused 5 Unlawful
-unfolding step title_line lines_of event_at words_at event end_at any_number cpus_at absent_at head_line_at any_within from_below number_below
-summary_8 = refl
+summaries_judged : map (λ row. judge row.0 begins 1 (lines_of row.1)) summaries ≡ map (λ row. row.2) summaries
+unfolding step title_line lines_of event_at words_at event end_at any_number cpus_at absent_at head_line_at any_from number_below number_list_or_dash sub rule dir_of name_of calls_of kind_of
+summaries_judged = rw bare_summary refl

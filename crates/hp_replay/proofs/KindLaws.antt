@@ -11,6 +11,7 @@ use Rattle.hp_event.specs.declared.head.Head.{Head}
 use Rattle.hp_event.specs.declared.event.Event.{Event}
 use Rattle.hp_model.specs.JournalText.{title_line}
 use Rattle.hp_model.specs.Summary.{summary}
+use Rattle.hp_text.proofs.SubLaws.{other_word}
 use Rattle.hp_replay.specs.declared.error.ReplayKind.{ReplayKind}
 use Rattle.hp_replay.specs.declared.error.ReplayKind.TheVariants.{Header, Syntax, Unlawful, Count, Trailing}
 use Rattle.hp_replay.specs.InputLines.{lines_of}
@@ -22,7 +23,6 @@ use Rattle.hp_replay.specs.EndAt.{end_at}
 use Rattle.hp_replay.specs.Kinds.{is_there, is_events_line, is_end_line, kind_among_events, kind_of}
 use Rattle.hp_replay.specs.Stages.{Stage, begins, titled, counted, headed, ruled, among_events, whole, among_summary, Step, goes, asks, stops, with_sub, cpus_step, absent_step, headed_step, ruled_step, event_step, end_step, summary_step, step}
 use Rattle.hp_replay.proofs.ReaderLaws.{same_word}
-use Rattle.hp_replay.proofs.HeadFields.{other_word}
 use Rattle.hp_replay.proofs.HeadLaws.{head_takes, events_again, end_says}
 use Rattle.hp_replay.proofs.TextLines.{events_line}
 use Rattle.hp_replay.specs.Judged.{Leads}

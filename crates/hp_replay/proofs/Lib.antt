@@ -27,7 +27,6 @@ mod DigitWord
 mod Rows
 mod FirstWordLaws
 mod LineForms
-mod RisingLoop
 mod ReadingLaws
 mod HeadReading
 mod EventReading

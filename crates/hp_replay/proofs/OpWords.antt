@@ -18,24 +18,21 @@ use Rattle.hp_replay.specs.Numbers.{number, integer}
 use Rattle.hp_replay.specs.Tails.{op}
 use Rattle.hp_replay.proofs.AbsentLaws.{rise_free}
 use Rattle.hp_replay.proofs.LineLaws.{is_free, all_free, decimal_free, signed_free}
-use Rattle.hp_replay.proofs.NumberLaws.{ok_is, below_takes, below_again, integer_takes}
+use Rattle.hp_replay.proofs.NumberLaws.{ok_is, number_takes, integer_takes}
 use Rattle.hp_replay.proofs.ReaderLaws.{IsField, Spells}
 
 -- ---- what is read
 
 pub number_field : IsField number decimal IsU32
-number_field = record { takes = λ w a e. below_takes (2 ^ 32) w a (omega arith) e }
+number_field = record { takes = number_takes }
 
 pub integer_field : IsField integer signed_decimal IsI32
-integer_field = record { takes = λ w a e. integer_takes w a e }
+integer_field = record { takes = integer_takes }
 
 pub op_spells : Spells op_words IsSayable [] op
 op_spells = record { takes = λ ws o e. laws.op_takes ws o (ok_is (op_at ws) o e) }
 
 -- ---- what is read again
-
-pub number_again : (n : ℕ) → IsU32 n → number (decimal n) ≡ Some n
-number_again n lt = below_again (2 ^ 32) n (omega arith) lt
 
 pub op_again : (o : Op) → OpFits o → lists_one o ≡ true → op (op_words o) ≡ Some o
 op_again o fits one = ap (λ r. result_ok r) (laws.op_again o (fits, one))

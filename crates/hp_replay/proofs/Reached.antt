@@ -148,7 +148,7 @@ bare_is_head possible absent c a = record {
 
 absent_more : (possible : ℕ) (before : List (List ℕ)) (l : List ℕ) (o : Option (List ℕ)) (m : Stage) → Reached (counted possible) before → absent_at possible l ≡ o → Leads (absent_step possible o) m → Reached m (before ++ l ∷ [])
 absent_more possible before l (Some absent) m r t h =
-    let a = absent_takes possible l absent (omega (arith, r.0.1)) t in
+    let a = absent_takes possible l absent t in
     subst (λ (s : Stage). Reached s (before ++ l ∷ [])) h
     (record {
       is_head = bare_is_head possible absent r.0 a.1;

@@ -82,7 +82,7 @@ head_rise head h =
     let p = and_parts (ltb 0 head.possible) (not (among 0 head.absent)) h.first_present in
     absent_rise head.possible head.absent h.absent_rising h.absent_possible (not-true (among 0 head.absent) p.1)
 
-pub head_small : (head : Head) → IsHead head → head.possible ≤ 2 ^ 64
+pub head_small : (head : Head) → IsHead head → head.possible ≤ 2 ^ 32
 head_small head h = omega (arith, h.few_possible)
 
 title_has : IsLines title_line (title_line ∷ [])

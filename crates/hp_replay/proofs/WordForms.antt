@@ -1,13 +1,10 @@
 -- The words that are left, in the forms that code has them: the first word ends at the first space, and without a space
 -- there is one word.
 use Rattle.std.proofs.Common.{◌≡◌, ◌≢◌, ℕ, zero, suc, ◌+◌, ◌-◌, ◌<◌, length, get_or, take, drop, arith, Bool, true, false, cond, eqb, Option, List, [], ◌∷◌, Some, None, refl, sym, ap, ◌∙◌, length-drop}
-use Rattle.std.specs.Borrow.{Bor}
-use Rattle.std.specs.Option.{option_map}
 use Rattle.std.specs.List.{onto_first, slice_split}
 use Rattle.hp_model.specs.Lists.{is_empty}
 use Rattle.std.proofs.lemmas.Bool.{eq-eqb, ne_eqb}
 use Rattle.std.proofs.lemmas.List.{take_all}
-use Rattle.hp_replay.specs.WordsLeft.{first_of, others_of}
 use Rattle.hp_replay.specs.Readers.{done}
 use Rattle.hp_replay.proofs.CodeForms.{is_space}
 
@@ -60,16 +57,3 @@ more_words (b ∷ bs) = by_test (eqb b 32)
     by_test : (t : Bool) → false ≡ is_empty (cond t ([] ∷ slice_split is_space bs) (onto_first b (slice_split is_space bs)))
     by_test true = refl
     by_test false = onto_more b (slice_split is_space bs)
-
--- ---- a word taken from those that are left
-
--- a word that was taken, in front of those behind it
-abbrev pub with_next : Option (Bor (List ℕ)) → List (List ℕ) → List (List ℕ)
-with_next None ws = []
-with_next (Some w) ws = w.now ∷ ws
-
-pub taken_back : (next : Option (Bor (List ℕ))) (ws rest : List (List ℕ)) → option_map (λ w. w.now) next ≡ first_of ws → rest ≡ others_of ws → with_next next rest ≡ ws
-taken_back None [] rest e f = refl
-taken_back None (w ∷ ws) rest e f = absurd cc
-taken_back (Some b) [] rest e f = absurd cc
-taken_back (Some b) (w ∷ ws) rest e f = cc

@@ -1,9 +1,6 @@
 -- The event that a line says, by the table of the event lines. This project's own.
-use Rattle.std.specs.Prelude.{ℕ, if◌then◌else◌, List, [], ◌∷◌, Option, Some, None, codes, pos}
+use Rattle.std.specs.Prelude.{ℕ, map, List, [], ◌∷◌, Option, Some, None, codes, pos}
 use Rattle.std.specs.Option.{option_and_then}
-use Rattle.std.specs.Str.{bytes_eq}
-use Rattle.hp_states.specs.declared.dir.Dir.{Dir}
-use Rattle.hp_states.specs.declared.dir.Dir.TheVariants.{Up, Down}
 use Rattle.hp_event.specs.declared.how.How.{How}
 use Rattle.hp_event.specs.declared.how.How.TheVariants.{RanOk, RanFault, Injected, Empty, Presumed, Overruled}
 use Rattle.hp_event.specs.declared.answer.Answer.{Answer}
@@ -13,13 +10,14 @@ use Rattle.hp_event.specs.declared.event.Role.TheVariants.{Client, Ap}
 use Rattle.hp_event.specs.declared.event.File.TheVariants.{State, Target, Fail, States}
 use Rattle.hp_event.specs.declared.event.Event.{Event}
 use Rattle.hp_event.specs.declared.event.Event.TheVariants.{Admit, Leave, Enter, Refused, WalkBegin, Call, WalkEnd, OpEnd, RegBegin, RegEnd, ReadLock, ReadUnlock, Armed, Shown, Wakeup}
+use Rattle.hp_text.specs.Choices.{dir_of}
+use Rattle.hp_replay.specs.declared.first_word.EventWord.{EventWord}
+use Rattle.hp_replay.specs.declared.first_word.EventWord.TheVariants as word
+use Rattle.hp_replay.specs.FirstWords.{text_of_event, event_words}
 use Rattle.hp_replay.specs.Numbers.{number, integer}
 use Rattle.hp_replay.specs.LineWords.{words_at}
-use Rattle.hp_replay.specs.Readers.{Field, Tail, Row, ◌>>=◌, done, mapped, row, one_of}
+use Rattle.hp_replay.specs.Readers.{Tail, Row, ◌>>=◌, done, mapped, row, one_of}
 use Rattle.hp_replay.specs.Tails.{numbered, valued, op}
-
-unfoldable pub direction : Field Dir
-direction w = if bytes_eq w (codes "up") then Some Up else (if bytes_eq w (codes "down") then Some Down else None)
 
 abbrev pub role_rows : List (Row Role)
 role_rows = row (codes "client") (done Client) ∷ row (codes "ap") (numbered (λ cpu. Ap cpu)) ∷ []
@@ -101,7 +99,7 @@ walk_tail = do
 -- in which direction an entry goes, and how it was made
 abbrev pub made_tail : (seat cpu state inst : ℕ) → Tail Event
 made_tail seat cpu state inst = do
-  dir ← direction
+  dir ← dir_of
   mapped (λ h. Call seat cpu state inst dir h) how
 
 -- the key of an entry, and how it was made
@@ -163,22 +161,26 @@ shown_tail = do
   seat ← number
   file_tail seat
 
+-- what stands behind the first word
+abbrev pub event_tail : EventWord → Tail Event
+event_tail word.Admit = admit_tail
+event_tail word.Leave = numbered (λ seat. Leave seat)
+event_tail word.Enter = enter_tail
+event_tail word.Refused = refused_tail
+event_tail word.Walk = walk_tail
+event_tail word.Call = call_tail
+event_tail word.Walked = walked_tail
+event_tail word.Done = done_tail
+event_tail word.Reg = reg_tail
+event_tail word.Regged = regged_tail
+event_tail word.Lock = numbered (λ seat. ReadLock seat)
+event_tail word.Unlock = numbered (λ seat. ReadUnlock seat)
+event_tail word.Armed = armed_tail
+event_tail word.Shown = shown_tail
+event_tail word.Wakeup = numbered (λ seat. Wakeup seat)
+
 abbrev pub event_rows : List (Row Event)
-event_rows =
-    row (codes "admit") admit_tail
-    ∷ row (codes "leave") (numbered (λ seat. Leave seat))
-    ∷ row (codes "enter") enter_tail
-    ∷ row (codes "refused") refused_tail
-    ∷ row (codes "walk") walk_tail
-    ∷ row (codes "call") call_tail
-    ∷ row (codes "walked") walked_tail
-    ∷ row (codes "done") done_tail
-    ∷ row (codes "reg") reg_tail
-    ∷ row (codes "regged") regged_tail
-    ∷ row (codes "lock") (numbered (λ seat. ReadLock seat))
-    ∷ row (codes "unlock") (numbered (λ seat. ReadUnlock seat))
-    ∷ row (codes "armed") armed_tail
-    ∷ row (codes "shown") shown_tail ∷ row (codes "wakeup") (numbered (λ seat. Wakeup seat)) ∷ []
+event_rows = map (λ v. row (text_of_event v) (event_tail v)) event_words
 
 unfoldable pub event : Tail Event
 event words = one_of event_rows words

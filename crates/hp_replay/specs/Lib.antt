@@ -4,8 +4,6 @@ pub mod Readers
 pub mod Tails
 pub mod Fits
 pub mod Spelled
-pub mod HeadWords
-pub mod Rising
 pub mod EventAt
 pub mod HeadLines
 pub mod EndAt

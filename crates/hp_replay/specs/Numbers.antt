@@ -4,9 +4,6 @@ use Rattle.std.specs.Prelude.{ℕ, ◌^◌, nat_lt, if◌then◌else◌, List, O
 use Rattle.std.specs.Result.{result_ok}
 use Rattle.hp_text.specs.Numbers as text
 
-abbrev pub number_below : (limit : ℕ) → (word : List ℕ) → Option ℕ
-number_below limit word = result_ok (text.number_below limit word)
-
 -- a number of the type u32
 abbrev pub number : (word : List ℕ) → Option ℕ
 number word = result_ok (text.number word)

@@ -3,6 +3,7 @@
 use Rattle.std.specs.Prelude.{ℕ, ℤ}
 use Rattle.std.specs.Result.{result_ok}
 use Rattle.hp_event.specs.declared.op.Op.{Op}
+use Rattle.hp_text.specs.Readings as text
 use Rattle.hp_text.specs.OpAt.{op_at}
 use Rattle.hp_replay.specs.Numbers.{number, integer}
 use Rattle.hp_replay.specs.Readers.{Tail, ◌>>=◌, done}
@@ -19,6 +20,10 @@ valued make = do
   value ← integer
   done (make cpu value)
 
+-- what words say, as a script has them: a journal tells form and range not apart
+abbrev pub read : {A : Type 0} → text.Tail A → Tail A
+read tail words = result_ok (tail words)
+
 -- an operation, as the lines of a script have it
 abbrev pub op : Tail Op
-op words = result_ok (op_at words)
+op words = read op_at words

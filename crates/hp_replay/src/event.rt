@@ -5,28 +5,14 @@ ghost use Rattle.hp_event.specs.declared.event.Role.TheVariants as role;
 ghost use Rattle.hp_event.specs.declared.event.File.TheVariants as file;
 ghost use Rattle.hp_event.specs.declared.event.Event.TheVariants as event;
 ghost use Rattle.hp_replay.specs.Tails.{numbered, valued};
-ghost use Rattle.hp_replay.specs.EventAt.{direction as direction_at, role as role_at, admit_tail, enter_tail, refused_tail, way_tail, walk_tail, call_tail, walked_tail, done_tail, reg_tail, regged_tail, armed_tail, shown_states_tail, file_tail, shown_tail, event as event_tail, event_at};
+ghost use Rattle.hp_replay.specs.EventAt.{role as role_at, admit_tail, enter_tail, refused_tail, way_tail, walk_tail, call_tail, walked_tail, done_tail, reg_tail, regged_tail, armed_tail, shown_states_tail, file_tail, shown_tail, event as event_tail, event_at};
 
 use crate::answer::{answer, how, walk_answer};
 use crate::first_word::{EventWord, event_word};
 use crate::line::Line;
 use crate::words::Words;
 use hp_event::{Event, File, Role};
-use hp_states::Dir;
-use hp_text::{integer, read_op};
-
-/// The direction that a word says.
-#[tactic(auto, unfolding(crate::specs::EventAt::direction))]
-#[inline(always)]
-pub fn direction(word: &[u8]) -> Option<Dir>
-    ensures { result ≡ direction_at word.now }
-{
-    match word {
-        b"up" => Some(Dir::Up),
-        b"down" => Some(Dir::Down),
-        _ => None,
-    }
-}
+use hp_text::{dir_of, integer, read_op};
 
 /// The words behind `ap`.
 fn ap(words: &mut Words<'_>) -> Option<Role>
@@ -119,7 +105,7 @@ fn call(words: &mut Words<'_>) -> Option<Event>
     let cpu = words.number()?;
     let state = words.number()?;
     let inst = words.number()?;
-    let dir = direction(words.next()?)?;
+    let dir = dir_of(words.next()?)?;
     let how = how(words)?;
     Some(Event::Call {
         seat,

@@ -1,6 +1,6 @@
 //! The lines before the events, one after another: they say the head.
 
-ghost use Rattle.std.specs.Prelude.{◌≡◌, ◌<◌, [], OnOk, IfOk, IfErr};
+ghost use Rattle.std.specs.Prelude.{◌≡◌, [], OnOk, IfOk, IfErr};
 ghost use Rattle.hp_replay.specs.Stages.{begins, titled, counted, headed, among_events};
 ghost use Rattle.hp_replay.specs.Judged.{Leads};
 ghost use Rattle.hp_replay.specs.Reading.{GoesOver, RefusesLine, RefusedFrom, ended_head};
@@ -33,7 +33,6 @@ fn take_title(line: &Line<'_>) -> Result<(), ReplayError>
 #[tactic(auto, unfolding(crate::specs::Stages::step))]
 fn take_cpus(line: &Line<'_>) -> Result<u32, ReplayError>
     ensures ok { IfOk result (λ n. LineLeads titled line.now (counted n)) }
-    ensures some { IfOk result (λ n. 0 < n) }
     ensures bad { IfErr result (λ e. LineRefused titled line.now e) }
 {
     match cpus(line) {
@@ -45,7 +44,6 @@ fn take_cpus(line: &Line<'_>) -> Result<u32, ReplayError>
 /// Takes which of them are absent. The head is as yet without subsystems.
 #[tactic(auto, unfolding(crate::specs::Stages::step))]
 fn take_absent(alloc: Global, possible: u32, line: &Line<'_>) -> Result<Head, ReplayError>
-    requires { 0 < possible }
     ensures ok { IfOk result (λ head. LineLeads (counted possible) line.now (headed head)) }
     ensures bad { IfErr result (λ e. LineRefused (counted possible) line.now e) }
 {

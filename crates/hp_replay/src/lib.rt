@@ -5,7 +5,7 @@
 //! is decided here. Lines are slices of the input, and nothing is copied but the head and the events.
 //!
 //! To read the definitions, take `specs/Numbers.antt`, `LineWords`, `Readers`, `Tails` and `EventAt`,
-//! which read a line by the grammar, apart from how it is printed; `HeadWords`, `HeadLines` and
+//! which read a line by the grammar, apart from how it is printed; `HeadLines` and
 //! `EndAt` for the lines round the events. `Verdict` says the answer in the grammar's own words: a
 //! lawful journal, where the bytes are its text or its text and its summary, or the first line that
 //! can't stand, with its kind (`Kinds`); which lines can stand says `CanStand`. `Judged` says the
@@ -27,7 +27,6 @@ mod first_word;
 mod fits;
 mod head;
 mod head_lines;
-mod head_words;
 mod laws;
 mod line;
 mod replay;

@@ -1,14 +1,10 @@
 -- A text that pieces were appended to one after another, as one text behind the first.
-use Rattle.std.proofs.Common.{◌≡◌, ℕ, List, [], ◌∷◌, ◌++◌, refl, sym, ap, ◌∙◌}
+use Rattle.std.proofs.Common.{◌≡◌, ℕ, List, [], ◌∷◌, ◌++◌, refl, sym, ap, ◌∙◌, append_assoc}
 use Rattle.std.proofs.lemmas.List.{append-nil}
-
-pub assoc : (xs ys zs : List ℕ) → (xs ++ ys) ++ zs ≡ xs ++ (ys ++ zs)
-assoc [] ys zs = refl
-assoc (x ∷ xs) ys zs = ap (λ (w : List ℕ). x ∷ w) (assoc xs ys zs)
 
 -- one piece more in front of those behind it
 pub push : (p q a rest all : List ℕ) → q ≡ p ++ a → all ≡ q ++ rest → all ≡ p ++ (a ++ rest)
-push p q a rest all e more = more ∙ ap (λ (w : List ℕ). w ++ rest) e ∙ assoc p a rest
+push p q a rest all e more = more ∙ ap (λ (w : List ℕ). w ++ rest) e ∙ append_assoc p a rest
 
 pub last : (p q a : List ℕ) → q ≡ p ++ a → q ≡ p ++ (a ++ [])
 last p q a e = e ∙ ap (λ (w : List ℕ). p ++ w) (sym (append-nil a))

@@ -1,5 +1,5 @@
 -- A line of words without spaces and other bytes that aren't graphic: its words are these, and it is one line.
-use Rattle.std.proofs.Common.{◌≡◌, ℕ, ◌^◌, ◌<◌, Bool, true, false, not, ◌&&◌, leb, List, [], ◌∷◌, ◌++◌, refl, ap, ◌∙◌, arith}
+use Rattle.std.proofs.Common.{◌≡◌, ℕ, ◌^◌, ◌<◌, Bool, true, false, not, ◌&&◌, leb, List, [], ◌∷◌, ◌++◌, refl, ap, ◌∙◌, append_assoc, arith}
 use Rattle.std.specs.Prelude.{nat_le, filter}
 use Rattle.std.specs.Fmt.{decimal}
 use Rattle.std.specs.List.{list_all, list_any}
@@ -12,7 +12,6 @@ use Rattle.hp_text.specs.Numbers.{is_digit, is_number}
 use Rattle.hp_text.proofs.NumberLaws.{decimal_written}
 use Rattle.hp_script.specs.Pieces.{onto_first, pieces}
 use Rattle.hp_script.specs.Words.{words, is_bad_byte, has_bad_byte}
-use Rattle.hp_script.proofs.Appended.{assoc}
 use Rattle.hp_script.proofs.PieceLoops.{at_end, in_piece}
 
 abbrev pub is_graphic : ℕ → Bool
@@ -124,5 +123,5 @@ pub line_parts : (w : List ℕ) (ws : List (List ℕ)) (rest : List ℕ) → is_
     → pieces 10 (line (w ∷ ws) ++ rest) ≡ joined (w ∷ ws) ∷ pieces 10 rest
 line_parts w ws rest h hs =
     let q = and_parts (not (is_empty w)) (list_all is_graphic w) h in
-    ap (pieces 10) (assoc (joined (w ∷ ws)) (10 ∷ []) rest)
+    ap (pieces 10) (append_assoc (joined (w ∷ ws)) (10 ∷ []) rest)
     ∙ piece_ends 10 (joined (w ∷ ws)) rest (free_append 10 w (spaced ws) (graphic_free 10 w (omega arith) q.1) (spaced_free ws hs))

@@ -1,8 +1,8 @@
 -- Lines of clean words of which none is refused, each after those before it, as they stand in a text.
-use Rattle.std.proofs.Common.{◌≡◌, ℕ, ◌+◌, ◌≤◌, Bool, true, false, cond, not, ◌&&◌, List, [], ◌∷◌, ◌++◌, length, map, Option, Some, None, Ok, refl, sym, ap, subst, ◌∙◌, arith}
+use Rattle.std.proofs.Common.{◌≡◌, ℕ, ◌+◌, ◌≤◌, Bool, true, false, cond, not, ◌&&◌, List, [], ◌∷◌, ◌++◌, length, map, Option, Some, None, Ok, refl, sym, ap, subst, ◌∙◌, append_assoc, arith}
 use Rattle.std.specs.Result.{result_ok}
 use Rattle.std.specs.List.{flat_map}
-use Rattle.std.proofs.lemmas.List.{append-nil, length-append}
+use Rattle.std.proofs.lemmas.List.{append-nil, length-append, map-append}
 use Rattle.std.proofs.lemmas.List.Concat.{flat_map-append}
 use Rattle.hp_model.specs.Words.{joined, line}
 use Rattle.hp_text.specs.Readings.{Reading}
@@ -18,7 +18,6 @@ use Rattle.hp_script.specs.Ranges.{is_in_range}
 use Rattle.hp_script.specs.Before.{after, after_line, after_lines, after_maybe, statement_of}
 use Rattle.hp_script.specs.Refusals.{is_first, is_cpus, is_actor, can_stand, names_no_sub, is_too_many, first_of, wrongs, refusal_of_words, refusal}
 use Rattle.hp_script.specs.Judged.{AreFine}
-use Rattle.hp_script.proofs.Appended.{assoc}
 use Rattle.hp_script.proofs.CleanLines.{is_clean, are_clean, words_again, line_good, line_parts}
 
 -- a line of these words says this, and isn't long
@@ -106,27 +105,19 @@ after_append : (b : Before) (xs ys : List (List ℕ)) → after_lines b (xs ++ y
 after_append b [] ys = refl
 after_append b (x ∷ xs) ys = after_append (after_line b x) xs ys
 
-pub map_append : (xs ys : List (List (List ℕ))) → map joined (xs ++ ys) ≡ map joined xs ++ map joined ys
-map_append [] ys = refl
-map_append (x ∷ xs) ys = ap (λ (zs : List (List ℕ)). joined x ∷ zs) (map_append xs ys)
-
-assoc_lines : (xs ys zs : List (List ℕ)) → (xs ++ ys) ++ zs ≡ xs ++ (ys ++ zs)
-assoc_lines [] ys zs = refl
-assoc_lines (x ∷ xs) ys zs = ap (λ (ws : List (List ℕ)). x ∷ ws) (assoc_lines xs ys zs)
-
 pub both : (hooks : ℕ) (b c d : Before) (xs ys : List (List (List ℕ))) (m n : ℕ) → FineTo hooks b xs m c → FineTo hooks c ys n d → FineTo hooks b (xs ++ ys) (m + n) d
 both hooks b c d xs ys m n f g = record {
   parts = λ rest.
       ap (λ (w : List ℕ). pieces 10 (w ++ rest)) (flat_map-append line xs ys)
-      ∙ ap (pieces 10) (assoc (flat_map line xs) (flat_map line ys) rest)
+      ∙ ap (pieces 10) (append_assoc (flat_map line xs) (flat_map line ys) rest)
       ∙ f.parts (flat_map line ys ++ rest)
       ∙ ap (λ (ps : List (List ℕ)). map joined xs ++ ps) (g.parts rest)
-      ∙ sym (assoc_lines (map joined xs) (map joined ys) (pieces 10 rest))
-      ∙ ap (λ (ps : List (List ℕ)). ps ++ pieces 10 rest) (sym (map_append xs ys));
+      ∙ sym (append_assoc (map joined xs) (map joined ys) (pieces 10 rest))
+      ∙ ap (λ (ps : List (List ℕ)). ps ++ pieces 10 rest) (sym (map-append joined xs ys));
   short = omega (arith, f.short, g.short, ap length (flat_map-append line xs ys), length-append (flat_map line xs) (flat_map line ys));
-  fine = subst (AreFine hooks b) (sym (map_append xs ys))
+  fine = subst (AreFine hooks b) (sym (map-append joined xs ys))
       (fine_append hooks b (map joined xs) (map joined ys) f.fine (subst (λ (x : Before). AreFine hooks x (map joined ys)) (sym f.ends) g.fine));
-  ends = ap (after_lines b) (map_append xs ys)
+  ends = ap (after_lines b) (map-append joined xs ys)
       ∙ after_append b (map joined xs) (map joined ys)
       ∙ ap (λ (x : Before). after_lines x (map joined ys)) f.ends
       ∙ g.ends;

@@ -1,13 +1,12 @@
 -- The loops of the generator: what is written, in front of what is left.
-use Rattle.std.proofs.Common.{◌≡◌, ℕ, suc, ◌+◌, ◌-◌, ◌<◌, List, [], ◌∷◌, ◌++◌, map, refl, sym, ap, ◌∙◌, arith}
+use Rattle.std.proofs.Common.{◌≡◌, ℕ, suc, ◌+◌, ◌-◌, ◌<◌, List, [], ◌∷◌, ◌++◌, map, refl, sym, ap, ◌∙◌, append_assoc, arith}
 use Rattle.std.specs.List.{flat_map}
-use Rattle.std.proofs.lemmas.List.{append-nil}
+use Rattle.std.proofs.lemmas.List.{append-nil, map-append}
 use Rattle.std.proofs.lemmas.List.Concat.{flat_map-append}
 use Rattle.hp_model.specs.Words.{line}
 use Rattle.hp_model.specs.EventLine.{op_words}
 use Rattle.hp_script.specs.declared.drawn.Drawn.{Drawn}
 use Rattle.hp_script.specs.Generated.{one_drawn, state_behind_one, all_drawn, state_behind_all, ops_drawn, drawn_lines, setup_lines, actor_words, actors_from, actors}
-use Rattle.hp_script.proofs.Appended.{assoc}
 
 abbrev text_of : List (List (List ℕ)) → List ℕ
 text_of lines = flat_map line lines
@@ -16,13 +15,9 @@ text_of lines = flat_map line lines
 abbrev lines_of : Drawn → List (List (List ℕ))
 lines_of drawn = map op_words (ops_drawn drawn)
 
-map_append : {A B : Type 0} (f : A → B) (xs ys : List A) → map f (xs ++ ys) ≡ map f xs ++ map f ys
-map_append f [] ys = refl
-map_append {B = B} f (x ∷ xs) ys = ap (λ (zs : List B). f x ∷ zs) (map_append f xs ys)
-
 pub drawn_more : (n x : ℕ) → drawn_lines (suc n) x ≡ lines_of (one_drawn x) ++ drawn_lines n (state_behind_one x)
 unfolding drawn_lines
-drawn_more n x = map_append op_words (ops_drawn (one_drawn x)) (flat_map ops_drawn (all_drawn n (state_behind_one x)))
+drawn_more n x = map-append op_words (ops_drawn (one_drawn x)) (flat_map ops_drawn (all_drawn n (state_behind_one x)))
 
 left_is : (i size : ℕ) → i < size → size - i ≡ suc (size - (i + 1))
 left_is i size lt = omega arith
@@ -35,7 +30,7 @@ drawn_next size i x all old new lt e so_far =
     ∙ ap (λ (n : ℕ). old ++ text_of (drawn_lines n x)) (left_is i size lt)
     ∙ ap (λ (ls : List (List (List ℕ))). old ++ text_of ls) (drawn_more (size - (i + 1)) x)
     ∙ ap (λ (w : List ℕ). old ++ w) (flat_map-append line (lines_of (one_drawn x)) (drawn_lines (size - (i + 1)) (state_behind_one x)))
-    ∙ sym (assoc old (text_of (lines_of (one_drawn x))) rest)
+    ∙ sym (append_assoc old (text_of (lines_of (one_drawn x))) rest)
     ∙ ap (λ (w : List ℕ). w ++ rest) (sym e)
 
 -- one more is written of what is drawn
@@ -72,9 +67,9 @@ actor_goes_on size n x y all old named new lt next e f so_far =
     so_far
     ∙ ap (λ (c : ℕ). old ++ text_of (actors_from c n size x)) (left_is n 7 lt)
     ∙ ap (λ (w : List ℕ). old ++ (line (actor_words n) ++ w)) (flat_map-append line (drawn_lines size x) more)
-    ∙ sym (assoc old (line (actor_words n)) (text_of (drawn_lines size x) ++ text_of more))
+    ∙ sym (append_assoc old (line (actor_words n)) (text_of (drawn_lines size x) ++ text_of more))
     ∙ ap (λ (w : List ℕ). w ++ (text_of (drawn_lines size x) ++ text_of more)) (sym e)
-    ∙ sym (assoc named (text_of (drawn_lines size x)) (text_of more))
+    ∙ sym (append_assoc named (text_of (drawn_lines size x)) (text_of more))
     ∙ ap (λ (w : List ℕ). w ++ text_of more) (sym f)
     ∙ ap (λ (y : ℕ). new ++ text_of (actors_from (7 - (n + 1)) (n + 1) size y)) (sym next)
 
@@ -90,10 +85,10 @@ actors_begun size x y old named set new next e f g =
     let more = actors_from 5 2 size (state_behind_all size x) in
     ap (λ (w : List ℕ). old ++ (line (actor_words 1) ++ w))
     (flat_map-append line setup_lines (drawn_lines size x ++ more) ∙ ap (λ (w : List ℕ). text_of setup_lines ++ w) (flat_map-append line (drawn_lines size x) more))
-    ∙ sym (assoc old (line (actor_words 1)) (text_of setup_lines ++ (text_of (drawn_lines size x) ++ text_of more)))
+    ∙ sym (append_assoc old (line (actor_words 1)) (text_of setup_lines ++ (text_of (drawn_lines size x) ++ text_of more)))
     ∙ ap (λ (w : List ℕ). w ++ (text_of setup_lines ++ (text_of (drawn_lines size x) ++ text_of more))) (sym e)
-    ∙ sym (assoc named (text_of setup_lines) (text_of (drawn_lines size x) ++ text_of more))
+    ∙ sym (append_assoc named (text_of setup_lines) (text_of (drawn_lines size x) ++ text_of more))
     ∙ ap (λ (w : List ℕ). w ++ (text_of (drawn_lines size x) ++ text_of more)) (sym f)
-    ∙ sym (assoc set (text_of (drawn_lines size x)) (text_of more))
+    ∙ sym (append_assoc set (text_of (drawn_lines size x)) (text_of more))
     ∙ ap (λ (w : List ℕ). w ++ text_of more) (sym g)
     ∙ ap (λ (y : ℕ). new ++ text_of (actors_from 5 2 size y)) (sym next)

@@ -2,7 +2,7 @@
 use Rattle.std.proofs.Common.{◌≡◌, ℕ, ◌+◌, ◌*◌, ◌^◌, ◌<◌, ◌≤◌, Bool, true, false, ◌&&◌, leb, List, [], ◌∷◌, length, map, None, refl, sym, ap, subst, ◌∙◌, arith}
 use Rattle.std.specs.Prelude.{codes, decimal}
 use Rattle.std.specs.List.{flat_map, list_all}
-use Rattle.std.proofs.lemmas.Bool.{and_parts, or_from, leb-true, lt-leb, le-ltb}
+use Rattle.std.proofs.lemmas.Bool.{and_parts, and_from, or_from, leb-true, lt-leb, le-ltb}
 use Rattle.hp_states.specs.declared.limits.TheConstants.{MAX_OPERATIONS, MAX_SUBS, MAX_SCRIPT_BYTES, MAX_GENERATED_SIZE}
 use Rattle.hp_event.specs.declared.op.Op.TheVariants as op
 use Rattle.hp_model.specs.Words.{joined, line}
@@ -42,6 +42,15 @@ twelve_are = refl
 abbrev pub is_setup_pair : Pair → Bool
 is_setup_pair p = leb p.0 1000 && (leb 1 p.1 && leb p.1 12)
 
+abbrev pub Goods : Pair → Type 0
+Goods p = (p.0 ≤ 1000) × (1 ≤ p.1) × (p.1 ≤ 12)
+
+pub goods : (p : Pair) → is_setup_pair p ≡ true → Goods p
+goods p good =
+    let t = and_parts (leb p.0 1000) (leb 1 p.1 && leb p.1 12) good in
+    let u = and_parts (leb 1 p.1) (leb p.1 12) t.1 in
+    (leb-true p.0 1000 t.0, leb-true 1 p.1 u.0, leb-true p.1 12 u.1)
+
 pub setup_says : (s u : ℕ) → s ≤ 1000 → u ≤ 12 → Says (codes "setup") (decimal s ∷ decimal u ∷ []) (verb.Operation word.Setup) (says.Operation (op.Setup s u plain))
 setup_says s u le few = setup_line s u (omega (arith, le)) (omega (arith, few))
 
@@ -53,14 +62,9 @@ setup_stands i s u le some few =
       first = refl;
       stands = refl;
       unlocked = refl;
-      range = both_true (is_within 0 MAX_NAMED_STATE s) (is_within 1 MAX_SUBS u) state sub;
+      range = and_from (is_within 0 MAX_NAMED_STATE s) (is_within 1 MAX_SUBS u) state sub;
       sub = le-ltb 12 u few;
     }
-  where
-    both_true : (x y : Bool) → x ≡ true → y ≡ true → (x && y) ≡ true
-    both_true true true e f = refl
-    both_true true false e f = absurd cc
-    both_true false y e f = absurd cc
 
 pub setup_fine : (hooks i s u : ℕ) → i < hooks → i < MAX_OPERATIONS → s ≤ 1000 → 1 ≤ u → u ≤ 12
     → FineTo hooks (among 1 i i false) (setup_words s u ∷ []) 64 (among 1 (i + 1) (i + 1) false)
@@ -78,13 +82,12 @@ setups_fine hooks i [] good enough few =
     all_of i = omega arith
 setups_fine hooks i (p ∷ ps) good enough few =
     let g = and_parts (is_setup_pair p) (list_all is_setup_pair ps) good in
-    let t = and_parts (leb p.0 1000) (leb 1 p.1 && leb p.1 12) g.0 in
-    let u = and_parts (leb 1 p.1) (leb p.1 12) t.1 in
+    let t = goods p g.0 in
     let moved : i + 1 + length ps ≡ i + length (p ∷ ps) = omega arith in
     subst (λ (k : ℕ). FineTo hooks (among 1 i i false) (setups_of (p ∷ ps)) (64 * length (p ∷ ps)) (among 1 k k false)) moved
     (longer hooks _ _ _ (64 + 64 * length ps) (64 * length (p ∷ ps)) (omega arith)
     (both hooks (among 1 i i false) (among 1 (i + 1) (i + 1) false) (among 1 (i + 1 + length ps) (i + 1 + length ps) false) (setup_words p.0 p.1 ∷ []) (setups_of ps) 64 (64 * length ps)
-    (setup_fine hooks i p.0 p.1 (omega (arith, enough)) (omega (arith, few)) (leb-true p.0 1000 t.0) (leb-true 1 p.1 u.0) (leb-true p.1 12 u.1))
+    (setup_fine hooks i p.0 p.1 (omega (arith, enough)) (omega (arith, few)) t.0 t.1 t.2)
     (setups_fine hooks (i + 1) ps g.1 (omega (arith, enough)) (omega (arith, few)))))
 
 -- ---- the whole script

@@ -1,9 +1,9 @@
 -- A generated script is refused where there are fewer than twelve hooks: at the first setup that finds none.
-use Rattle.std.proofs.Common.{◌≡◌, ℕ, ◌+◌, ◌^◌, ◌<◌, ◌≤◌, ◌⊎◌, inl, inr, true, false, ◌&&◌, leb, List, [], ◌∷◌, ◌++◌, length, map, Some, refl, sym, ap, subst, ◌∙◌, arith}
+use Rattle.std.proofs.Common.{◌≡◌, ℕ, ◌+◌, ◌^◌, ◌<◌, ◌≤◌, ◌⊎◌, inl, inr, true, false, ◌&&◌, leb, List, [], ◌∷◌, ◌++◌, length, map, Some, refl, sym, ap, subst, ◌∙◌, append_assoc, arith}
 use Rattle.std.specs.Prelude.{codes, decimal}
 use Rattle.std.specs.List.{flat_map, list_all}
 use Rattle.std.proofs.lemmas.Bool.{and_parts, or_right, leb-true, le-leb, cases_lt}
-use Rattle.std.proofs.lemmas.List.{length-append, length-map}
+use Rattle.std.proofs.lemmas.List.{length-append, length-map, map-append}
 use Rattle.hp_states.specs.declared.limits.TheConstants.{MAX_OPERATIONS, MAX_SCRIPT_BYTES, MAX_GENERATED_SIZE}
 use Rattle.hp_event.specs.declared.op.Op.TheVariants as op
 use Rattle.hp_model.specs.Words.{joined, line}
@@ -18,9 +18,9 @@ use Rattle.hp_script.specs.Before.{start}
 use Rattle.hp_script.specs.Refusals.{refusal}
 use Rattle.hp_script.specs.Judged.{IsRefused, at_line}
 use Rattle.hp_script.specs.Generated.{state_behind, state_behind_all, plain, three_subs, heading, actor_words, setup_words, setup_lines, drawn_lines, actors_from, actors, generated_lines, generated}
-use Rattle.hp_script.proofs.FineLines.{FineTo, none, both, lines_are, line_too_many, map_append}
+use Rattle.hp_script.proofs.FineLines.{FineTo, none, both, lines_are, line_too_many}
 use Rattle.hp_script.proofs.GeneratedFine.{upper, among, heading_fine, first_actor_fine, Ends}
-use Rattle.hp_script.proofs.GeneratedScripts.{Pair, setups_of, twelve, twelve_are, is_setup_pair, setup_says, setup_stands, setup_fine, whole}
+use Rattle.hp_script.proofs.GeneratedScripts.{Pair, setups_of, twelve, twelve_are, is_setup_pair, Goods, goods, setup_says, setup_stands, setup_fine, whole}
 
 -- the first setup of some that finds no hook, where so many stood before them
 record FirstWithout (hooks i : ℕ) (ps : List Pair) : Type 0 where
@@ -38,15 +38,6 @@ unfolding setup_words
 without hooks s u le some few =
     line_too_many hooks (among 1 hooks hooks false) (codes "setup") (decimal s ∷ decimal u ∷ []) (verb.Operation word.Setup) (says.Operation (op.Setup s u plain)) (setup_says s u le few) (setup_stands hooks s u le some few)
     (or_right (leb MAX_OPERATIONS hooks) (leb hooks hooks) (le-leb hooks hooks (omega arith)))
-
-abbrev Goods : Pair → Type 0
-Goods p = (p.0 ≤ 1000) × (1 ≤ p.1) × (p.1 ≤ 12)
-
-goods : (p : Pair) → is_setup_pair p ≡ true → Goods p
-goods p good =
-    let t = and_parts (leb p.0 1000) (leb 1 p.1 && leb p.1 12) good in
-    let u = and_parts (leb 1 p.1) (leb p.1 12) t.1 in
-    (leb-true p.0 1000 t.0, leb-true 1 p.1 u.0, leb-true p.1 12 u.1)
 
 here : (hooks i : ℕ) (p : Pair) (ps : List Pair) → Goods p → i ≡ hooks → FirstWithout hooks i (p ∷ ps)
 here hooks i p ps good same = record {
@@ -88,10 +79,6 @@ first_without hooks i (p ∷ ps) good le lt few =
 abbrev Lines : Type 0
 Lines = List (List (List ℕ))
 
-assoc_lines : (xs ys zs : Lines) → (xs ++ ys) ++ zs ≡ xs ++ (ys ++ zs)
-assoc_lines [] ys zs = refl
-assoc_lines (x ∷ xs) ys zs = ap (λ (ws : Lines). x ∷ ws) (assoc_lines xs ys zs)
-
 -- what stands behind the setups
 abbrev behind_setups : (size x : ℕ) → Lines
 behind_setups size x = drawn_lines size x ++ actors_from 5 2 size (state_behind_all size x)
@@ -102,8 +89,8 @@ unfolding actors
 split seed size front w back e =
     let rest = behind_setups size (state_behind 4 seed) in
     ap (λ (ls : Lines). heading seed ++ actor_words 1 ∷ (ls ++ rest)) e
-    ∙ ap (λ (ls : Lines). heading seed ++ actor_words 1 ∷ ls) (assoc_lines front (w ∷ back) rest)
-    ∙ sym (assoc_lines (heading seed) (actor_words 1 ∷ front) (w ∷ (back ++ rest)))
+    ∙ ap (λ (ls : Lines). heading seed ++ actor_words 1 ∷ ls) (append_assoc front (w ∷ back) rest)
+    ∙ sym (append_assoc (heading seed) (actor_words 1 ∷ front) (w ∷ (back ++ rest)))
 
 heading_length : (seed : ℕ) → length (heading seed) ≡ 18
 unfolding heading three_subs
@@ -125,7 +112,7 @@ wants_hooks hooks seed size less lt few =
       back = map joined back;
       parts = are
           ∙ ap (map joined) (split seed size (setups_of f.front) (setup_words f.pair.0 f.pair.1) (setups_of f.back) (twelve_are ∙ f.parts))
-          ∙ map_append front (setup_words f.pair.0 f.pair.1 ∷ back);
+          ∙ map-append joined front (setup_words f.pair.0 f.pair.1 ∷ back);
       count = omega (arith, length-map front joined, length-append (heading seed) (actor_words 1 ∷ setups_of f.front), heading_length seed, f.count);
       fine = fine.fine;
       refused = ap (λ (b : Before). refusal hooks b (joined (setup_words f.pair.0 f.pair.1))) fine.ends ∙ f.refused;

@@ -27,20 +27,8 @@ pub struct Draft {
 fn add_sub(subs: &mut Vec<Sub>, sub: Sub) -> Result<(), NoMemory>
     ensures { OnOk result (subs.new.items ≡ subs_and subs.old.items (says.Sub sub)) }
 {
-    let Sub {
-        name,
-        up,
-        down,
-        multi,
-        plan: _,
-    } = sub;
-    subs.push(Sub {
-        name,
-        up,
-        down,
-        multi,
-        plan: HookPlan::none(),
-    })?;
+    let plan = HookPlan::none();
+    subs.push(Sub { plan, ..sub })?;
     Ok(())
 }
 

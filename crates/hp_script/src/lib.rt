@@ -2,8 +2,8 @@
 //! generated.
 //!
 //! [`parse`] reads a script whole, or says which line is refused first, and why. What that means is
-//! in `specs/`, to be read in this order: `Pieces` (lines), `Words`, `Numbers`, `Verbs` (first
-//! words), `Statements` (what a line says, by its form), `Ranges`, `Before` (what stood before a
+//! in `specs/`, to be read in this order: `Pieces` (lines), `Words`, `Verbs` (first words),
+//! `Statements` (what a line says: most of it as hp_text reads it), `Ranges`, `Before` (what stood before a
 //! line), `Refusals` (the conditions of a line in their order, and those at the end), `Script` (the
 //! script that lines say), `Judged` (what `parse` answers), `Playable` (what holds of each script
 //! that is read) and `Schedules` (a schedule as the run of a script takes it). [`one_refusal`] is the
@@ -16,8 +16,8 @@
 //! [`generated_scripts_want_hooks`] says at which line it is refused where there are fewer; both are
 //! stated in `GeneratedJudged`.
 //!
-//! The code goes the same way: `words` and `numbers`, `fields`, the lines of each kind in `heading`
-//! and `operation`, `statement` for any line, `before` for what may stand, `line` for one line,
+//! The code goes the same way: `words`, `verb`, `statement` for what a line says, `ranges` for its
+//! numbers, `before` for what may stand, `line` for one line,
 //! `draft` for the script that grows, `reader` for all lines; then `draws`, `drawn` for what is drawn
 //! for an actor, and `generator` for the lines that are written. Small scripts, judged by computing
 //! the definitions alone, stand beside the lemmas, in `Cases.antt`.

@@ -69,9 +69,8 @@ fn is_op(op: &Op) -> bool
         }
         Op::Freeze(primary) => is_signed_within(1, MAX_NAMED_CPU, primary),
         Op::UpMany(set) => lists_one(&set),
-        Op::ShowStates | Op::Lock | Op::Unlock | Op::Disable | Op::Enable | Op::Thaw | Op::Wakeup => {
-            true
-        }
+        Op::ShowStates | Op::Lock | Op::Unlock | Op::Disable | Op::Enable | Op::Thaw | Op::Wakeup =>
+            { true }
     }
 }
 

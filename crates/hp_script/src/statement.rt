@@ -15,8 +15,8 @@ use crate::words::LineWords;
 use hp_event::{Numbers, Op, Sub};
 use hp_states::{NoMemory, Rule};
 use hp_text::{
-    Unread, Words, both, done, is_name, long_number, number_alone, number_list, read_op_behind, rule,
-    sub,
+    Unread, Words, both, done, is_name, long_number, number_alone, number_list, read_op_behind,
+    rule, sub,
 };
 use std::alloc::Global;
 
@@ -80,10 +80,7 @@ fn schedule_of_kind(
 
 /// The words behind `schedule`: `rounds`, `turns S S ..` or `mix SEED N`.
 #[tactic(auto, unfolding(crate::specs::Statements::schedule))]
-fn schedule(
-    alloc: Global,
-    words: &mut LineWords<'_>,
-) -> Result<Result<Schedule, Unread>, NoMemory>
+fn schedule(alloc: Global, words: &mut LineWords<'_>) -> Result<Result<Schedule, Unread>, NoMemory>
     ensures { IfOk result (λ r. r ≡ schedule_at words.old) }
 {
     match words.next_word() {

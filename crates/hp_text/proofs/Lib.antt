@@ -6,6 +6,7 @@ pub mod SetLoop
 pub mod ListLoop
 pub mod OpLaws
 pub mod SubLaws
+pub mod ListLaws
 pub mod SmallDecimals
 pub mod SpacedWords
 pub mod SetText

@@ -24,7 +24,7 @@ rises low limit (n ∷ ns) e =
     let q = and_parts (leb low n) (ltb n limit) p.0 in
     (leb-true low n q.0, ltb-true n limit q.1, rises (n + 1) limit ns p.1)
 
-tested : (low limit : ℕ) (ns : List ℕ) → Rise low limit ns → rise_from low limit ns ≡ true
+pub tested : (low limit : ℕ) (ns : List ℕ) → Rise low limit ns → rise_from low limit ns ≡ true
 tested low limit [] h = refl
 tested low limit (n ∷ ns) h =
     and_from (leb low n && ltb n limit) (rise_from (n + 1) limit ns)

@@ -24,7 +24,7 @@ use Rattle.hp_text.specs.Subs.{name, calls, kind, dir, fresh_sub, calls_and_kind
 use Rattle.hp_text.proofs.NumberLaws.{decimal_written, from_takes, from_again}
 use Rattle.hp_text.proofs.Readings.{IsField, IsTail, same_ok, said_ok, alone_is, in_front_is}
 
-same_word : (w v : List ℕ) → bytes_eq w v ≡ true → w ≡ v
+pub same_word : (w v : List ℕ) → bytes_eq w v ≡ true → w ≡ v
 same_word w v h = (bytes_eq-Decides w v).0 h
 
 pub other_word : (w v : List ℕ) (t : Bool) → bytes_eq w v ≡ t → w ≢ v → t ≡ false
@@ -184,7 +184,7 @@ InRange low limit n = (low ≤ n) × (n < limit)
 abbrev AnyInRange : (low limit : ℕ) → Option ℕ → Type 0
 AnyInRange low limit o = IfSome o (InRange low limit)
 
-range_field : (low limit : ℕ) → limit ≤ 2 ^ 64 → IsField (number_from low limit) decimal (InRange low limit)
+pub range_field : (low limit : ℕ) → limit ≤ 2 ^ 64 → IsField (number_from low limit) decimal (InRange low limit)
 range_field low limit le = record { takes = λ w n e. from_takes low limit w n le e }
 
 star_takes : (low limit : ℕ) (w : List ℕ) (o : Option ℕ) (t : Bool) → limit ≤ 2 ^ 64 → bytes_eq w (codes "*") ≡ t →

@@ -19,7 +19,7 @@ none_among ns h = rw h refl
 spelled : (l : List ℕ) (possible : ℕ) (absent : List ℕ) → possible ≤ MAX_CPUS → absent_at possible l ≡ Some absent →
     IsStrictlyIncreasing absent × All (λ c. c < possible) absent × (among 0 absent ≡ false) × (l ≡ line (codes "absent" ∷ list_words (map decimal absent)))
 spelled l possible absent le h =
-    let t = absent_takes possible l absent (omega arith) h in
+    let t = absent_takes possible l absent h in
     (rise_increases 1 possible absent t.1, rise_below 1 possible absent t.1, none_among absent (zero_not_among 1 possible absent (omega arith) t.1), t.0)
 
 read : (l : List ℕ) (head : Head) → IsHead head → l ≡ line (codes "absent" ∷ list_words (map decimal head.absent)) → absent_at head.possible l ≡ Some head.absent
