@@ -2,7 +2,7 @@
 
 ghost use Rattle.std.specs.Prelude.{◌≡◌, ℕ, ◌<◌, ◌^◌, IfSome, IfNone, decimal};
 
-use itoa::Buffer;
+use hp_text::long_number;
 
 /// The number that a word is the digits of: without a sign, and without zeros before others.
 ///
@@ -11,13 +11,5 @@ pub fn number_of(word: &str) -> Option<u64>
     ensures some { IfSome result (λ n. word.now ≡ decimal n) }
     ensures none { IfNone result ((n : ℕ) → n < 2 ^ 64 → word.now ≡ decimal n → ⊥) }
 {
-    let Ok(number) = word.parse::<u64>() else {
-        return None;
-    };
-    let mut buffer = Buffer::new();
-    if buffer.format(number) == word {
-        Some(number)
-    } else {
-        None
-    }
+    long_number(word.as_bytes()).ok()
 }
