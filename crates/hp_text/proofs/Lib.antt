@@ -10,3 +10,4 @@ pub mod ListLaws
 pub mod SmallDecimals
 pub mod SpacedWords
 pub mod SetText
+mod OpCases

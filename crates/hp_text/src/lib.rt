@@ -5,7 +5,8 @@
 //! text's own rule.
 //!
 //! To read the definitions, take `specs/Numbers.antt` and `Readings`, which say what a word and all
-//! the words that are left say; `Flags`, `Sets` and `FirstWords`, and `OpAt` for operations. `Fits`
+//! the words that are left say; `Choices` and `FirstWords` for words of which each is one of a few;
+//! `Flags`, `Sets` and `Lists`, and then `OpAt` for operations and `Subs` for subsystems and rules. `Fits`
 //! has the values that words can say, and `Appends` what is spelled. What is read is defined apart
 //! from how it is spelled (`EventLine.antt` of hp_model), and that both are inverse to each other
 //! is a part of the readers' contracts.
