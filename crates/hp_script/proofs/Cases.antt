@@ -71,7 +71,6 @@ cases =
     (of_one (codes "actor a" ∷ codes "upmost 1" ∷ []), Some (3, BadWord)) ∷
     (acting (codes "upmany" ∷ []), Some (4, BadForm)) ∷
     (acting (codes "upmany 256 x" ∷ []), Some (4, BadForm)) ∷
-    (acting (codes "upmany 2 1" ∷ []), Some (4, BadNumber)) ∷
     -- the order of lines
     (of_one (codes "cpus 1" ∷ []), Some (2, BadOrder)) ∷
     (of_one (codes "cpus x y" ∷ []), Some (2, BadOrder)) ∷
@@ -142,18 +141,13 @@ cases =
     (acting (codes "lock now" ∷ []), Some (4, BadForm)) ∷
     (acting (codes "target 1 200" ∷ []), None) ∷
     (acting (codes "fail" ∷ []), Some (4, BadForm)) ∷
-    (acting (codes "fail 0 +1" ∷ []), Some (4, BadForm)) ∷
-    (acting (codes "target 4096 -0" ∷ []), Some (4, BadForm)) ∷
-    (acting (codes "target 4095 -2147483649" ∷ []), Some (4, BadNumber)) ∷
     (acting (codes "target 4095 -2147483648" ∷ []), None) ∷
-    (acting (codes "show other 1" ∷ []), Some (4, BadForm)) ∷
     (acting (codes "show states" ∷ []), None) ∷
     (acting (codes "boot x" ∷ []), Some (4, BadForm)) ∷
     (acting (codes "disable" ∷ []), None) ∷
     (acting (codes "enable now" ∷ []), Some (4, BadForm)) ∷
     (acting (codes "freeze 4096" ∷ []), Some (4, BadNumber)) ∷
     (acting (codes "freeze -2" ∷ []), Some (4, BadNumber)) ∷
-    (acting (codes "freeze -0" ∷ []), Some (4, BadForm)) ∷
     (acting (codes "freeze -1" ∷ codes "freeze 4095" ∷ []), None) ∷
     (acting (codes "thaw" ∷ []), None) ∷
     (acting (codes "wakeup" ∷ []), None) ∷
