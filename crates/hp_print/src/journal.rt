@@ -1,8 +1,7 @@
 //! The text of a journal.
 
-ghost use Rattle.std.specs.Prelude.{◌≡◌, ◌∷◌, OnOk, IfOk};
+ghost use Rattle.std.specs.Prelude.{◌≡◌, OnOk, IfOk};
 ghost use Rattle.std.specs.List.{flat_map};
-ghost use Rattle.hp_model.specs.Words.{calls_word, kind_word};
 ghost use Rattle.hp_model.specs.EventLine.{event_line as line_of};
 ghost use Rattle.hp_model.specs.JournalText.{rule_line, sub_lines, title_line, processor_lines, head_text, journal_text as text_of};
 ghost use Rattle.hp_print.specs.Appends.{Appends};
@@ -11,21 +10,16 @@ use crate::event::append_event;
 use hp_event::{Event, Head, Journal, Sub};
 use hp_states::{NoMemory, Rule};
 use hp_text::{
-    append, append_any, append_count, append_dir, append_name, append_number, append_numbers,
-    end_line,
+    append, append_count, append_number, append_numbers, append_rule, append_sub, end_line,
 };
 use std::alloc::{AllocError, Global};
 
 /// Appends the line of a rule.
-fn append_rule(out: &mut Vec<u8>, rule: &Rule) -> Result<(), AllocError>
+fn append_rule_line(out: &mut Vec<u8>, rule: &Rule) -> Result<(), AllocError>
     ensures { OnOk result (Appends out.old out.new (rule_line rule.now)) }
 {
     append(out, b"rule")?;
-    append_dir(out, rule.dir)?;
-    append_any(out, rule.cpu)?;
-    append_any(out, rule.inst)?;
-    append_any(out, rule.nth)?;
-    append_number(out, rule.code)?;
+    append_rule(out, rule)?;
     end_line(out)
 }
 
@@ -34,42 +28,17 @@ fn append_rules(out: &mut Vec<u8>, rules: &[Rule]) -> Result<(), AllocError>
     ensures { OnOk result (Appends out.old out.new (flat_map rule_line rules.now)) }
 {
     for rule in rules {
-        append_rule(out, rule)?;
+        append_rule_line(out, rule)?;
     }
     Ok(())
 }
 
-/// Appends which callbacks a subsystem has.
-fn append_calls(out: &mut Vec<u8>, up: bool, down: bool) -> Result<(), AllocError>
-    ensures { OnOk result (Appends out.old out.new (32 ∷ calls_word up down)) }
-{
-    match (up, down) {
-        (true, true) => append(out, b" both"),
-        (true, false) => append(out, b" up"),
-        (false, true) => append(out, b" down"),
-        (false, false) => append(out, b" none"),
-    }
-}
-
-/// Appends whether a subsystem's states have instance lists.
-fn append_kind(out: &mut Vec<u8>, multi: bool) -> Result<(), AllocError>
-    ensures { OnOk result (Appends out.old out.new (32 ∷ kind_word multi)) }
-{
-    if multi {
-        append(out, b" multi")
-    } else {
-        append(out, b" single")
-    }
-}
-
 /// Appends the line of a subsystem, and those of its rules.
-fn append_sub(out: &mut Vec<u8>, sub: &Sub) -> Result<(), AllocError>
+fn append_sub_lines(out: &mut Vec<u8>, sub: &Sub) -> Result<(), AllocError>
     ensures { OnOk result (Appends out.old out.new (sub_lines sub.now)) }
 {
     append(out, b"sub")?;
-    append_name(out, sub.name.as_slice())?;
-    append_calls(out, sub.up, sub.down)?;
-    append_kind(out, sub.multi)?;
+    append_sub(out, sub)?;
     end_line(out)?;
     append_rules(out, sub.plan.rules())
 }
@@ -79,7 +48,7 @@ fn append_subs(out: &mut Vec<u8>, subs: &[Sub]) -> Result<(), AllocError>
     ensures { OnOk result (Appends out.old out.new (flat_map sub_lines subs.now)) }
 {
     for sub in subs {
-        append_sub(out, sub)?;
+        append_sub_lines(out, sub)?;
     }
     Ok(())
 }

@@ -22,6 +22,7 @@ mod op;
 mod set;
 mod spell;
 mod spell_op;
+mod spell_sub;
 mod subs;
 mod tails;
 mod unread;
@@ -34,10 +35,11 @@ pub use lists::{number_list, number_list_or_dash, rise_from};
 pub use numbers::{integer, long_number, number, number_from};
 pub use op::{read_op, read_op_behind};
 pub use spell::{
-    append, append_any, append_behind_dot, append_count, append_dir, append_name, append_number,
+    append, append_behind_dot, append_count, append_dir, append_name, append_number,
     append_numbers, append_of, append_signed, end_line,
 };
 pub use spell_op::append_op;
+pub use spell_sub::{append_rule, append_sub};
 pub use subs::{rule, sub};
 pub use tails::{both, done, number_alone};
 pub use unread::Unread;
