@@ -18,6 +18,8 @@ mod summary_lines;
 mod suspend_tally;
 mod tally;
 
-pub use event::{event_line, has_line};
+pub use event::{append_event, event_line, has_line};
+pub use instance_list::InstanceList;
 pub use journal::journal_text;
+pub use state_tally::{Asked, StateTally};
 pub use summary_lines::{journal_and_summary, summary};

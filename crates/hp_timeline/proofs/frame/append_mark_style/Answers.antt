@@ -1,0 +1,13 @@
+use Rattle.std.proofs.Common.{append_assoc}
+use Rattle.hp_timeline.specs.Frame.{mark_style}
+use Rattle.hp_timeline.proofs.frame.append_mark_style.Goals as goal
+
+pub returns : goal.returns
+unfolding mark_style
+returns c =
+    simp (
+      c.in_ok-append-3.ensures,
+      c.in_ok-append-2.ensures,
+      c.in_ok-append.ensures,
+      append_assoc,
+    ) at c.append-4.ensures

@@ -1,0 +1,15 @@
+use Rattle.std.proofs.Common.{◌≡◌, ◌<◌, ◌≤◌, length, sym, append_assoc, arith}
+use Rattle.std.proofs.lemmas.List.{append-nil}
+use Rattle.hp_timeline.proofs.Events.{got, past}
+use Rattle.hp_timeline.proofs.span_text.append_numbered.Goals as goal
+
+pub returns-in_ok-append_event : goal.returns-in_ok-append_event
+returns-in_ok-append_event c =
+    let low : c.args.place < length c.args.events.now = omega arith in
+    rw (got c.args.events.now c.args.place low)
+    (simp (c.in_ok-append.ensures, c.in_ok-append_decimal.ensures, append_assoc) at c.in_ok-append_event.ensures)
+
+pub returns-else-at-events : goal.returns-else-at-events
+returns-else-at-events c =
+    let high : length c.args.events.now ≤ c.args.place = omega arith in
+    rw (past c.args.events.now c.args.place high) (sym (append-nil c.args.out.now.items))

@@ -1,0 +1,9 @@
+pub mod Windows
+pub mod Sheet
+pub mod Spans
+pub mod Tracks
+pub mod Marks
+pub mod Frame
+pub mod Picture
+pub mod Scenes
+pub mod Laws
