@@ -15,4 +15,5 @@ mod texts;
 
 pub use command::{Command, command_of};
 pub use law::words_determine_the_command;
+pub use number::number_of;
 pub use options::Options;

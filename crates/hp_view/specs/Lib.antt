@@ -1,0 +1,6 @@
+pub mod Options
+pub mod TextsFound
+pub mod Chosen
+pub mod Main
+pub mod Stops
+pub mod Calls
