@@ -1,0 +1,191 @@
+-- An operation from section to section: what holds of its pass while it goes on, and where it ends. `start` is the pass as the
+-- operation was taken up, `now` as it stands before a section, `next` after it.
+use Rattle.std.proofs.Common.{◌≡◌, ℕ, Bool, true, false, ◌&&◌, Option, Some, None, List, [], ◌∷◌, ◌++◌, refl, sym, ap, ◌∙◌, subst}
+use Rattle.std.proofs.lemmas.Bool.{false≢true}
+use Rattle.hp_event.specs.declared.answer.Answer.{Answer}
+use Rattle.hp_event.specs.declared.op.Op.{Op}
+use Rattle.hp_event.specs.declared.head.Head.{Head}
+use Rattle.hp_event.specs.declared.event.Event.{Event}
+use Rattle.hp_locks.specs.declared.why.Why.{Why}
+use Rattle.hp_model.specs.Front.{StandsFor}
+use Rattle.hp_model.specs.Lawful.{IsLawful}
+use Rattle.hp_model.specs.Seats.{is_busy}
+use Rattle.hp_board.specs.Turns.{goes_on}
+use Rattle.hp_board.specs.declared.turn.Turn.{Turn}
+use Rattle.hp_board.specs.declared.turn.Turn.TheVariants.{Made, Answered, NotYet}
+use Rattle.hp_live.specs.declared.tried.Tried.{Tried}
+use Rattle.hp_live.specs.declared.tried.Tried.TheVariants.{Busy, Turned, Lent}
+use Rattle.hp_live.specs.Grew.{Grew}
+use Rattle.hp_live.specs.Known.{IsSamePass, Seated, Stays}
+use Rattle.hp_live.specs.Runs.{IsAnswered, Halted, SteppedIn}
+use Rattle.hp_live.specs.Sections.{CanAsk, TurnedIn, WantedIn, LentIn}
+use Rattle.hp_live.proofs.Clients.{stays_self, stays_on, stays_seen, stays_turned}
+use Rattle.hp_live.proofs.Growing.{grew_self, grew_seen, grew_on}
+use Rattle.hp_live.proofs.Idle.{answered_idle}
+use Rattle.hp_live.proofs.Running.{Going, going_self, going_seen, going_more, going_answered, going_halted, turned_as, wanted_as}
+use Rattle.hp_live.proofs.Turning.{asks_turned, asks_seen}
+
+pub record RunsOn (start now : Seated) (op asked : Op) (hook : Bool) : Type 0 where
+  pub same : IsSamePass start now
+  pub op_is : asked ≡ op
+  pub asks : CanAsk now.head now.front now.seat asked hook
+  pub going : Going start.head start.seat op start.front now.front
+  pub stays : Stays start.seat op start.front now.front
+
+pub same_self : (s : Seated) → IsSamePass s s
+same_self s = record { lock = refl; head = refl; seat = refl }
+
+pub same_on : (a b c : Seated) → IsSamePass a b → IsSamePass b c → IsSamePass a c
+same_on a b c s t = record { lock = t.lock ∙ s.lock; head = t.head ∙ s.head; seat = t.seat ∙ s.seat }
+
+pub runs_self : (start : Seated) (op : Op) (hook : Bool) → CanAsk start.head start.front start.seat op hook → RunsOn start start op op hook
+runs_self start op hook asks =
+    record {
+      same = same_self start;
+      op_is = refl;
+      asks = asks;
+      going = going_self start.head start.seat op start.front;
+      stays = stays_self start.seat op start.front;
+    }
+
+can_ask_as : (h g : Head) (front : List Event) (k j : ℕ) (o p : Op) (b : Bool) → g ≡ h → j ≡ k → p ≡ o → CanAsk h front k o b →
+    CanAsk g front j p b
+can_ask_as h g front k j o p b e s f a =
+    subst (λ (x : Op). CanAsk g front j x b) (sym f)
+    (subst (λ (x : ℕ). CanAsk g front x o b) (sym s) (subst (λ (x : Head). CanAsk x front k o b) (sym e) a))
+
+lent_as : (h g : Head) (k j : ℕ) (old new : List Event) → h ≡ g → k ≡ j → LentIn h k old new → LentIn g j old new
+lent_as h g k j old new e s l =
+    subst (λ (x : ℕ). LentIn g x old new) s (subst (λ (x : Head). LentIn x k old new) e l)
+
+pub runs_more : (start now next : Seated) (op asked again : Op) (had has : Bool) (turn : Turn) → RunsOn start now op asked had →
+    IsSamePass now next → again ≡ asked → TurnedIn now.head now.seat asked had has now.front next.front turn → goes_on turn ≡ true →
+    RunsOn start next op again has
+runs_more start now next op asked again had has turn r same is t on =
+    let u = turned_as start.head now.head op asked start.seat now.seat had has now.front next.front turn turn r.same.head r.same.seat
+    r.op_is refl t in
+    record {
+      same = same_on start now next r.same same;
+      op_is = is ∙ r.op_is;
+      asks =
+          can_ask_as now.head next.head next.front now.seat next.seat asked again has same.head same.seat is
+          (asks_turned now.head now.seat asked had has now.front next.front turn t on);
+      going = going_more start.head start.seat op had has start.front now.front next.front turn r.going u on;
+      stays =
+          stays_on start.seat op start.front now.front next.front r.stays
+          (stays_turned start.head start.seat op had has now.front next.front turn u);
+    }
+
+pub runs_lent : (start now next : Seated) (op asked again : Op) (had has : Bool) → RunsOn start now op asked had →
+    IsSamePass now next → again ≡ asked → LentIn now.head now.seat now.front next.front → has ≡ had → RunsOn start next op again has
+runs_lent start now next op asked again had has r same is l hook =
+    let m = lent_as now.head start.head now.seat start.seat now.front next.front r.same.head r.same.seat l in
+    record {
+      same = same_on start now next r.same same;
+      op_is = is ∙ r.op_is;
+      asks =
+          can_ask_as now.head next.head next.front now.seat next.seat asked again has same.head same.seat is
+          (asks_seen now.head now.seat asked had has now.front next.front l.seen l.lawful hook r.asks);
+      going = going_seen start.head start.seat op start.front now.front next.front r.going m.seen m.lawful;
+      stays =
+          stays_on start.seat op start.front now.front next.front r.stays
+          (stays_seen start.head start.seat op now.front next.front m.seen m.lawful);
+    }
+
+pub runs_ends : (start now next : Seated) (op asked : Op) (had has : Bool) (at : Option ℕ) (answer : Answer) →
+    RunsOn start now op asked had → TurnedIn now.head now.seat asked had has now.front next.front (Answered at answer) →
+    IsAnswered start.head start.seat op start.front next.front answer
+runs_ends start now next op asked had has at answer r t =
+    going_answered start.head start.seat op had has start.front now.front next.front at answer r.going
+    (turned_as start.head now.head op asked start.seat now.seat had has now.front next.front (Answered at answer) (Answered at answer)
+    r.same.head r.same.seat r.op_is refl t)
+
+pub runs_idle : (start now next : Seated) (op asked : Op) (had has : Bool) (at : Option ℕ) (answer : Answer) →
+    RunsOn start now op asked had → IsSamePass now next → TurnedIn now.head now.seat asked had has now.front next.front (Answered at answer) →
+    is_busy next.seat next.front ≡ false
+runs_idle start now next op asked had has at answer r same t =
+    subst (λ (n : ℕ). is_busy n next.front ≡ false) (sym (same.seat ∙ r.same.seat))
+    (answered_idle start.head start.seat op start.front next.front answer (runs_ends start now next op asked had has at answer r t))
+
+pub runs_stays : (start now next : Seated) (op asked : Op) (had has : Bool) (turn : Turn) → RunsOn start now op asked had →
+    TurnedIn now.head now.seat asked had has now.front next.front turn → Stays start.seat op start.front next.front
+runs_stays start now next op asked had has turn r t =
+    stays_on start.seat op start.front now.front next.front r.stays
+    (stays_turned start.head start.seat op had has now.front next.front turn
+    (turned_as start.head now.head op asked start.seat now.seat had has now.front next.front turn turn r.same.head r.same.seat r.op_is
+    refl t))
+
+wanted_start : (start now next : Seated) (op asked : Op) (had has : Bool) → RunsOn start now op asked had →
+    WantedIn now.head now.seat asked had has now.front next.front → WantedIn start.head start.seat op had has now.front next.front
+wanted_start start now next op asked had has r w =
+    wanted_as start.head now.head op asked start.seat now.seat had has now.front next.front r.same.head r.same.seat r.op_is w
+
+pub runs_halts : (start now next : Seated) (op asked : Op) (had has : Bool) → RunsOn start now op asked had →
+    WantedIn now.head now.seat asked had has now.front next.front → Halted start.head start.seat op start.front next.front
+runs_halts start now next op asked had has r w =
+    let v = wanted_start start now next op asked had has r w in
+    going_halted start.head start.seat op had has start.front now.front next.front v.lawful r.going v
+
+pub halts_stays : (start now next : Seated) (op asked : Op) (had has : Bool) → RunsOn start now op asked had →
+    WantedIn now.head now.seat asked had has now.front next.front → Stays start.seat op start.front next.front
+halts_stays start now next op asked had has r w =
+    let v = wanted_start start now next op asked had has r w in
+    stays_on start.seat op start.front now.front next.front r.stays
+    (stays_seen start.head start.seat op now.front next.front v.seen v.lawful)
+
+pub halts_asks : (start now next : Seated) (op asked again : Op) (had has : Bool) → RunsOn start now op asked had →
+    IsSamePass now next → again ≡ asked → WantedIn now.head now.seat asked had has now.front next.front →
+    CanAsk next.head next.front next.seat again has
+halts_asks start now next op asked again had has r same is w =
+    can_ask_as now.head next.head next.front now.seat next.seat asked again has same.head same.seat is
+    (asks_seen now.head now.seat asked had has now.front next.front w.seen w.lawful w.hook r.asks)
+
+-- and waits for memory
+pub wants_more : (start now next : Seated) (op asked again : Op) (had has : Bool) → RunsOn start now op asked had →
+    IsSamePass now next → again ≡ asked → WantedIn now.head now.seat asked had has now.front next.front → RunsOn start next op again has
+wants_more start now next op asked again had has r same is w =
+    runs_lent start now next op asked again had has r same is (record { seen = w.seen; lawful = w.lawful }) w.hook
+
+-- the same of a step by what it did
+
+pub stepped_turn : (head : Head) (k : ℕ) (op : Op) (had has : Bool) (old new : List Event) (tried : Tried) (turn : Turn) →
+    tried ≡ Turned turn → SteppedIn head k op had has old new tried → TurnedIn head k op had has old new turn
+stepped_turn head k op had has old new tried turn is s = subst (SteppedIn head k op had has old new) is s
+
+pub stepped_lent : (head : Head) (k : ℕ) (op : Op) (had has : Bool) (old new : List Event) (tried : Tried) (state : ℕ) →
+    tried ≡ Lent state → SteppedIn head k op had has old new tried → LentIn head k old new × (has ≡ had)
+stepped_lent head k op had has old new tried state is s = subst (SteppedIn head k op had has old new) is s
+
+pub never_busy : (head : Head) (k : ℕ) (op : Op) (had has : Bool) (old new : List Event) (tried : Tried) →
+    tried ≡ Busy → SteppedIn head k op had has old new tried → ⊥
+never_busy head k op had has old new tried is s = subst (SteppedIn head k op had has old new) is s
+
+-- ---- while nothing was made
+
+pub fresh_self : (start : Seated) → Grew start.seat start.front start.front []
+fresh_self start = grew_self start.seat start.front
+
+fresh_seen : (start now next : Seated) → IsSamePass start now → Grew start.seat start.front now.front [] →
+    StandsFor (Some now.seat) now.front next.front → Grew start.seat start.front next.front []
+fresh_seen start now next same g seen =
+    grew_on start.seat start.front now.front next.front [] [] g
+    (grew_seen start.seat now.front next.front (subst (λ (n : ℕ). StandsFor (Some n) now.front next.front) same.seat seen))
+
+pub fresh_waits : (start now next : Seated) (op : Op) (had has : Bool) (why : Why) → IsSamePass start now →
+    Grew start.seat start.front now.front [] → TurnedIn now.head now.seat op had has now.front next.front (NotYet why) →
+    Grew start.seat start.front next.front []
+fresh_waits start now next op had has why same g t =
+    fresh_seen start now next same g (subst (λ (w : List Event). StandsFor (Some now.seat) now.front w) (sym t.turned) t.seen)
+
+pub fresh_lent : (start now next : Seated) → IsSamePass start now → Grew start.seat start.front now.front [] →
+    LentIn now.head now.seat now.front next.front → Grew start.seat start.front next.front []
+fresh_lent start now next same g l = fresh_seen start now next same g l.seen
+
+pub fresh_wants : (start now next : Seated) (op : Op) (had has : Bool) → IsSamePass start now →
+    Grew start.seat start.front now.front [] → WantedIn now.head now.seat op had has now.front next.front →
+    Grew start.seat start.front next.front []
+fresh_wants start now next op had has same g w = fresh_seen start now next same g w.seen
+
+pub not_begun : (finishes begun : Bool) → (finishes && begun) ≡ false → finishes ≡ true → begun ≡ false
+not_begun true begun waits is = waits
+not_begun false begun waits is = absurd (false≢true is)

@@ -1,0 +1,242 @@
+-- What a step of the board is of its events, by a client's seat.
+use Rattle.std.proofs.Common.{◌≡◌, ◌≢◌, ℕ, Bool, true, false, All, Option, Some, None, List, [], ◌∷◌, ◌++◌, refl, sym, ap, ◌∙◌, subst}
+use Rattle.std.proofs.lemmas.Bool.{false≢true}
+use Rattle.hp_event.specs.declared.answer.Answer.{Answer}
+use Rattle.hp_event.specs.declared.op.Op.{Op}
+use Rattle.hp_event.specs.declared.head.Head.{Head}
+use Rattle.hp_event.specs.declared.event.Event.{Event}
+use Rattle.hp_event.specs.declared.event.Event.TheVariants.{Admit, Call}
+use Rattle.hp_model.specs.Events.{seat_of, answer_by, BelongsTo, is_call}
+use Rattle.hp_model.specs.Front.{StandsFor}
+use Rattle.hp_model.specs.Lawful.{IsLawful}
+use Rattle.hp_model.specs.NextEvent.{next_event, due_entry}
+use Rattle.hp_model.specs.Pending.{Pending, IsAllowed}
+use Rattle.hp_model.proofs.DueGives.{due_stands, call_belongs}
+use Rattle.hp_model.proofs.NextGives.{next_exactly}
+use Rattle.hp_model.proofs.NextStands.{next_stands, next_belongs}
+use Rattle.hp_turn.specs.Pass.{Pass, Knew}
+use Rattle.hp_turn.specs.Story.{IsOwn, IsNoAdmit}
+use Rattle.hp_board.specs.Contents.{Contents, with_event}
+use Rattle.hp_board.specs.Hooks.{has_hook, has_hook_after}
+use Rattle.hp_board.specs.Loans.{loan}
+use Rattle.hp_board.specs.Turns.{IsTurn, Makes, goes_on}
+use Rattle.hp_board.specs.declared.turn.Turn.{Turn}
+use Rattle.hp_board.specs.declared.turn.Turn.TheVariants.{Made, Answered, NotYet}
+use Rattle.hp_board.proofs.AskAgain.{own_after}
+use Rattle.hp_board.proofs.Busy.{hook_again}
+use Rattle.hp_live.specs.Known.{Stays}
+use Rattle.hp_live.specs.declared.step.Step.{Step}
+use Rattle.hp_live.specs.declared.step.Step.TheVariants.{Turned, NoMemory, Lent}
+use Rattle.hp_live.specs.Runs.{SteppedIn}
+use Rattle.hp_live.specs.Sections.{Adds, CanAsk, TurnOn, TurnedIn, WantedIn, LentIn}
+use Rattle.hp_live.specs.Steps.{StepsOn, StepsTo, StepsIn, Finds, HasSeen, GivesIn, lent_by}
+use Rattle.hp_live.proofs.Finding.{Puts, puts_one, puts_none, seen_by, lawful_found}
+use Rattle.hp_live.proofs.Others.{asks_later}
+
+adds : (next : Option Event) (at : ℕ) (answer : Option Answer) (old new : Contents) → Makes next at answer old new →
+    Adds next at answer old.events new.events
+adds next at answer old new m =
+    record {
+      event = m.event;
+      next_is = m.next_is;
+      new_is = ap (λ (b : Contents). b.events) m.new_is;
+      place_is = m.place_is;
+      answer_is = m.answer_is;
+    }
+
+pub turn_on : (k : ℕ) (op : Op) (old new : Contents) (turn : Turn) → IsTurn k op old new turn →
+    TurnOn old.head k op old.events new.events turn
+turn_on k op old new (Made at) t = adds _ at None old new t
+turn_on k op old new (Answered (Some at) answer) t = adds _ at (Some answer) old new t
+turn_on k op old new (Answered None answer) t =
+    record { full = t.full; answer_is = t.answer_is; same = ap (λ (b : Contents). b.events) t.same }
+turn_on k op old new (NotYet why) t = ap (λ (b : Contents). b.events) t.1
+
+head_turned : (k : ℕ) (op : Op) (old new : Contents) (turn : Turn) → IsTurn k op old new turn → new.head ≡ old.head
+head_turned k op old new (Made at) t = ap (λ (b : Contents). b.head) t.new_is
+head_turned k op old new (Answered (Some at) answer) t = ap (λ (b : Contents). b.head) t.new_is
+head_turned k op old new (Answered None answer) t = ap (λ (b : Contents). b.head) t.same
+head_turned k op old new (NotYet why) t = ap (λ (b : Contents). b.head) t.1
+
+no_admit : (op : Op) (e : Event) → BelongsTo op e → IsNoAdmit e
+no_admit op (Admit seat role) of = absurd of
+no_admit op e of = refl
+
+-- what an operation's next event is of
+own_next : (head : Head) (xs : List Event) (p : Pending) (e : Event) → IsLawful head xs → IsAllowed head xs p →
+    next_event head xs p.seat p.op ≡ Some e → IsOwn (Some p.seat) e
+own_next head xs p e lawful a next =
+    (ap (λ (n : ℕ). Some n) (sym (next_stands head xs p.seat p.op e next).1), no_admit p.op e (next_belongs head xs p e lawful a next))
+
+call_no_admit : (e : Event) → is_call e ≡ true → IsNoAdmit e
+call_no_admit (Admit seat role) is = absurd (false≢true is)
+call_no_admit e is = refl
+
+pub own_due : (head : Head) (xs : List Event) (k : ℕ) (e : Event) → due_entry head xs k ≡ Some e → IsOwn (Some k) e
+own_due head xs k e due =
+    let s = due_stands head xs k e due in (ap (λ (n : ℕ). Some n) (sym s.2), call_no_admit e s.1)
+
+turn_puts : (head : Head) (p : Pending) (old new : List Event) (turn : Turn) → IsLawful head old → IsAllowed head old p →
+    TurnOn head p.seat p.op old new turn → Puts p.seat old new
+turn_puts head p old new (Made at) lawful a t = puts_one p.seat old new t.event t.new_is (own_next head old p t.event lawful a t.next_is)
+turn_puts head p old new (Answered (Some at) answer) lawful a t =
+    puts_one p.seat old new t.event t.new_is (own_next head old p t.event lawful a t.next_is)
+turn_puts head p old new (Answered None answer) lawful a t = puts_none p.seat old new t.same
+turn_puts head p old new (NotYet why) lawful a t = puts_none p.seat old new t
+
+-- ---- a step
+
+pub step_puts : {H : Type 0} (k : ℕ) (op : Op) (had has : Bool) (old new : Contents) (step : Step H) → IsLawful old.head old.events →
+    CanAsk old.head old.events k op had → StepsOn k op had has old new step → Puts k old.events new.events
+step_puts k op had has old new (Turned turn) lawful asked s =
+    turn_puts old.head (record { seat = k; op = op }) old.events new.events turn lawful asked.allowed (turn_on k op old new turn s.1)
+step_puts k op had has old new NoMemory lawful asked s =
+    puts_none k old.events new.events (ap (λ (b : Contents). b.events) s.1)
+step_puts k op had has old new (Lent a) lawful asked s = puts_none k old.events new.events s.2
+
+pub step_head : {H : Type 0} (k : ℕ) (op : Op) (had has : Bool) (old new : Contents) (step : Step H) →
+    StepsOn k op had has old new step → new.head ≡ old.head
+step_head k op had has old new (Turned turn) s = head_turned k op old new turn s.1
+step_head k op had has old new NoMemory s = ap (λ (b : Contents). b.head) s.1
+step_head k op had has old new (Lent a) s = s.1
+
+pub step_lends : {H : Type 0} (k : ℕ) (op : Op) (had has : Bool) (old new : Contents) (step : Step H) → loan old k ≡ None →
+    StepsOn k op had has old new step → loan new k ≡ lent_by step
+step_lends k op had has old new (Turned turn) none s = s.2
+step_lends k op had has old new NoMemory none s = ap (λ (b : Contents). loan b k) s.1 ∙ none
+step_lends k op had has old new (Lent a) none s = s.3
+
+-- ---- a section
+
+pub asks_found : (p : Pass) (k : ℕ) (op : Op) (had : Bool) (found : Contents) → Finds p found → p.seat ≡ Some k →
+    CanAsk p.head p.front k op had → CanAsk found.head found.events k op had
+asks_found p k op had found f own asked =
+    subst (λ (h : Head). CanAsk h found.events k op had) (sym f.head_is)
+    (asks_later p.head k op had p.front found.events (seen_by p k found.events own f.knew) (lawful_found p found f) asked)
+
+-- of a turn
+section_turned : (p after : Pass) (k : ℕ) (op : Op) (had has : Bool) (found new : Contents) (turn : Turn) → Finds p found →
+    p.seat ≡ Some k → CanAsk found.head found.events k op had → TurnOn found.head k op found.events new.events turn →
+    has ≡ has_hook_after found.events (next_event found.head found.events k op) had →
+    (goes_on turn ≡ true → has ≡ has_hook new.events k op) → HasSeen after new → TurnedIn p.head k op had has p.front after.front turn
+section_turned p after k op had has found new turn f own asked t hook again seen =
+    subst (λ (h : Head). TurnedIn h k op had has p.front after.front turn) f.head_is
+    (subst (λ (w : List Event). TurnedIn found.head k op had has p.front w turn) (sym seen.front_is)
+    (record {
+      found = found.events;
+      seen = seen_by p k found.events own f.knew;
+      lawful = f.board.lawful;
+      asked = asked;
+      turned = t;
+      hook = hook;
+      again = again;
+    }))
+
+pub steps_turned : {H : Type 0} (p after : Pass) (k : ℕ) (op : Op) (had has : Bool) (step : Step H) (turn : Turn) →
+    p.seat ≡ Some k → StepsIn k op had has p after step → step ≡ Turned turn → TurnedIn p.head k op had has p.front after.front turn
+steps_turned p after k op had has step turn own s is =
+    let on = subst (StepsOn k op had has s.found s.to.new) is s.to.steps in
+    section_turned p after k op had has s.found s.to.new turn s.finds own s.asked (turn_on k op s.found s.to.new turn on.1) on.3
+    on.4 s.to.seen
+
+pub steps_wanted : {H : Type 0} (p after : Pass) (k : ℕ) (op : Op) (had has : Bool) (step : Step H) →
+    p.seat ≡ Some k → StepsIn k op had has p after step → step ≡ NoMemory → WantedIn p.head k op had has p.front after.front
+steps_wanted p after k op had has step own s is =
+    let on = subst (StepsOn k op had has s.found s.to.new) is s.to.steps in
+    let front : after.front ≡ s.found.events = s.to.seen.front_is ∙ ap (λ (b : Contents). b.events) on.1 in
+    subst (λ (h : Head). WantedIn h k op had has p.front after.front) s.finds.head_is
+    (subst (λ (w : List Event). WantedIn s.found.head k op had has p.front w) (sym front)
+    (record {
+      seen = seen_by p k s.found.events own s.finds.knew;
+      lawful = s.finds.board.lawful;
+      takes_room = on.2;
+      hook = on.3;
+    }))
+
+pub steps_lent : {H : Type 0} (p after : Pass) (k : ℕ) (op : Op) (had has : Bool) (step : Step H) (a : _) →
+    p.seat ≡ Some k → StepsIn k op had has p after step → step ≡ Lent a →
+    LentIn p.head k p.front after.front × (has ≡ had)
+steps_lent p after k op had has step a own s is =
+    let on = subst (StepsOn k op had has s.found s.to.new) is s.to.steps in
+    let front : after.front ≡ s.found.events = s.to.seen.front_is ∙ on.2 in (
+      subst (λ (w : List Event). LentIn p.head k p.front w) (sym front)
+          (record { seen = seen_by p k s.found.events own s.finds.knew; lawful = lawful_found p s.found s.finds }),
+      on.4,
+    )
+
+-- ---- a hook that comes back
+
+-- the entry that is due from a client's seat is what comes next of its operation
+pub due_next : (head : Head) (xs : List Event) (k : ℕ) (op : Op) (e : Event) → IsLawful head xs →
+    IsAllowed head xs (record { seat = k; op = op }) → due_entry head xs k ≡ Some e → next_event head xs k op ≡ Some e
+due_next head xs k op e lawful a due =
+    let s = due_stands head xs k e due in
+    (next_exactly head xs (record { seat = k; op = op }) e lawful a).1 (s.0, s.2, call_belongs op e s.1)
+
+call_keeps_hook : (xs : List Event) (e : Event) (had : Bool) → is_call e ≡ true → has_hook_after xs (Some e) had ≡ had
+call_keeps_hook xs e had call = call_hook e call had
+  where
+    call_hook : (x : Event) → is_call x ≡ true → (b : Bool) → has_hook_after xs (Some x) b ≡ b
+    call_hook (Call seat cpu state inst dir how) c true = refl
+    call_hook (Call seat cpu state inst dir how) c false = refl
+    call_hook x c b = absurd (false≢true c)
+
+-- the hook that the next ask has
+hook_made : (head : Head) (found new : List Event) (k : ℕ) (op : Op) (had : Bool) (at : ℕ) →
+    Adds (next_event head found k op) at None found new → had ≡ has_hook found k op →
+    has_hook_after found (next_event head found k op) had ≡ has_hook new k op
+hook_made head found new k op had at a is =
+    ap (λ (o : Option Event). has_hook_after found o had) a.next_is ∙ ap (λ b. has_hook_after found (Some a.event) b) is
+    ∙ hook_again head found k op a.event a.next_is a.answer_is ∙ ap (λ (w : List Event). has_hook w k op) (sym a.new_is)
+
+pub gives_turned : (p after : Pass) (k : ℕ) (op : Op) (had : Bool) (at : ℕ) → p.seat ≡ Some k → CanAsk p.head p.front k op had →
+    GivesIn k p after at → TurnedIn p.head k op had had p.front after.front (Made at)
+gives_turned p after k op had at own asked g =
+    let found = g.found in
+    let ask = asks_found p k op had found g.finds own asked in
+    let m = g.to.served in
+    let call = (due_stands found.head found.events k m.event m.next_is).1 in
+    let next = due_next found.head found.events k op m.event g.finds.board.lawful ask.allowed m.next_is in
+    let made : Adds (next_event found.head found.events k op) at None found.events g.to.new.events =
+    record {
+      event = m.event;
+      next_is = next;
+      new_is = ap (λ (b : Contents). b.events) m.new_is;
+      place_is = m.place_is;
+      answer_is = m.answer_is;
+    } in
+    let keeps : had ≡ has_hook_after found.events (next_event found.head found.events k op) had =
+    sym (ap (λ (o : Option Event). has_hook_after found.events o had) next ∙ call_keeps_hook found.events m.event had call) in
+    section_turned p after k op had had found g.to.new (Made at) g.finds own ask made keeps
+    (λ on. keeps ∙ hook_made found.head found.events g.to.new.events k op had at made ask.hook_is) g.to.seen
+
+-- ---- what may be asked then
+
+asks_on : (head : Head) (k : ℕ) (op : Op) (had has : Bool) (found new : List Event) (turn : Turn) → IsLawful head found →
+    CanAsk head found k op had → TurnOn head k op found new turn → goes_on turn ≡ true → has ≡ has_hook new k op →
+    CanAsk head new k op has
+asks_on head k op had has found new (Made at) lawful asked t on again =
+    subst (λ (w : List Event). CanAsk head w k op has) (sym t.new_is)
+    (record {
+      allowed =
+          own_after head found t.event (record { seat = k; op = op })
+          (next_belongs head found (record { seat = k; op = op }) t.event lawful asked.allowed t.next_is) asked.allowed;
+      hook_is = again ∙ ap (λ (w : List Event). has_hook w k op) t.new_is;
+    })
+asks_on head k op had has found new (Answered at answer) lawful asked t on again = absurd (false≢true on)
+asks_on head k op had has found new (NotYet why) lawful asked t on again =
+    record {
+      allowed = subst (λ (w : List Event). IsAllowed head w (record { seat = k; op = op })) (sym t) asked.allowed;
+      hook_is = again;
+    }
+
+pub asks_turned : (head : Head) (k : ℕ) (op : Op) (had has : Bool) (old new : List Event) (turn : Turn) →
+    TurnedIn head k op had has old new turn → goes_on turn ≡ true → CanAsk head new k op has
+asks_turned head k op had has old new turn t on =
+    asks_on head k op had has t.found new turn t.lawful t.asked t.turned on (t.again on)
+
+-- where nothing was made
+pub asks_seen : (head : Head) (k : ℕ) (op : Op) (had has : Bool) (old new : List Event) → StandsFor (Some k) old new →
+    IsLawful head new → has ≡ had → CanAsk head old k op had → CanAsk head new k op has
+asks_seen head k op had has old new seen lawful same asked =
+    subst (λ (b : Bool). CanAsk head new k op b) (sym same) (asks_later head k op had old new seen lawful asked)

@@ -1,0 +1,8 @@
+use denote.Exit.{no}
+use denote.Param.Send.{param_send, arg_send}
+use Rattle.std.proofs.Common.{◌≡◌}
+use Rattle.hp_live.proofs.Sending.{live_send}
+use Rattle.hp_live.proofs.hotplug.Hotplug.split.Goals as goal
+
+pub split-turn-requires-send-V : goal.split-turn-requires-send-V
+split-turn-requires-send-V g c κs within = param_send 0 _ (arg_send _ no _ (live_send _ _ c.type_bounds.send-H))

@@ -1,0 +1,17 @@
+-- What the pass hears are events of others.
+use Rattle.std.proofs.Common.{◌≡◌, sym, subst}
+use Rattle.hp_event.specs.declared.head.Head.{Head}
+use Rattle.hp_model.specs.Lawful.{IsLawful}
+use Rattle.hp_live.specs.Known.{IsOut}
+use Rattle.hp_live.proofs.Coming.{client_told}
+use Rattle.hp_live.proofs.Finding.{seen_by}
+use Rattle.hp_live.proofs.hotplug.Hotplug.tell.Goals as goal
+
+pub invariant_of-pass : goal.invariant_of-pass
+invariant_of-pass g c =
+    let own = c.pass-inside.inside.0.0 in
+    let front = c.tell_sight.new.sight.front in
+    client_told own.sight.head own.number own.sight.front front
+    (seen_by own.sight own.number front c.pass-inside.invariant.own c.tell_sight.ensures.knew)
+    (subst (λ (h : Head). IsLawful h front) c.tell_sight.ensures.still.head c.sound.ensures)
+    (subst (λ p. IsOut p.own.seat p.own.front) (sym c.pass-inside.view_is) c.pass.invariant)

@@ -1,0 +1,63 @@
+-- What an operation made of the front of its pass, from its first turn on. This project's own.
+use Rattle.std.specs.Prelude.{◌≡◌, ◌⊎◌, ℕ, Bool, true, false, Some, None, List, [], ◌∷◌, ◌++◌, All}
+use Rattle.hp_event.specs.declared.answer.Answer.{Answer}
+use Rattle.hp_event.specs.declared.answer.Answer.TheVariants.{LogFull}
+use Rattle.hp_event.specs.declared.event.Event.{Event}
+use Rattle.hp_event.specs.declared.head.Head.{Head}
+use Rattle.hp_event.specs.declared.op.Op.{Op}
+use Rattle.hp_model.specs.Events.{answer_by, BelongsTo}
+use Rattle.hp_model.specs.Lawful.{IsLawful}
+use Rattle.hp_model.specs.Seats.{is_busy}
+use Rattle.hp_model.specs.NextEvent.{next_event, is_full}
+use Rattle.hp_board.specs.Turns.{TakesRoom}
+use Rattle.hp_live.specs.Grew.{Grew}
+use Rattle.hp_live.specs.Sections.{LentIn, TurnedIn}
+use Rattle.hp_live.specs.declared.tried.Tried.{Tried}
+use Rattle.hp_live.specs.declared.tried.Tried.TheVariants.{Busy, Turned, Lent}
+
+-- an event of the operation that doesn't answer it
+abbrev pub GoesOn : Op → Event → Type 0
+GoesOn op e = BelongsTo op e × (answer_by e ≡ None)
+
+-- the operation was answered by an event, the last of the new front. Past the old front its seat has this event and, before
+-- it, others of the operation, none of which answers it
+pub record AnsweredBy (head : Head) (seat : ℕ) (op : Op) (old new : List Event) (answer : Answer) : Type 0 where
+  pub earlier : List Event
+  pub before : List Event
+  pub event : Event
+  pub grew : Grew seat old before earlier
+  pub lawful : IsLawful head before
+  pub goes_on : All (GoesOn op) earlier
+  pub next_is : next_event head before seat op ≡ Some event
+  pub belongs : BelongsTo op event
+  pub new_is : new ≡ before ++ event ∷ []
+  pub answers : answer_by event ≡ Some answer
+
+-- it was answered LogFull without an event: there was no room for its first at the end of the new front
+pub record FullFor (head : Head) (seat : ℕ) (op : Op) (old new : List Event) (answer : Answer) : Type 0 where
+  pub grew : Grew seat old new []
+  pub full : is_full head new seat op ≡ true
+  pub answer_is : answer ≡ LogFull
+
+abbrev pub IsAnswered : Head → (seat : ℕ) → Op → (old new : List Event) → Answer → Type 0
+IsAnswered head k op old new answer = AnsweredBy head k op old new answer ⊎ FullFor head k op old new answer
+
+-- memory was wanting for an event of it, and what it made doesn't answer it: with any event made it is in flight
+pub record Halted (head : Head) (seat : ℕ) (op : Op) (old new : List Event) : Type 0 where
+  pub made : List Event
+  pub grew : Grew seat old new made
+  pub goes_on : All (GoesOn op) made
+  pub busy : (made ≡ []) ⊎ (is_busy seat new ≡ true)
+  pub takes_room : TakesRoom head new (next_event head new seat op)
+
+-- ---- one section of an operation
+
+abbrev pub is_lent : Tried → Bool
+is_lent (Lent state) = true
+is_lent _ = false
+
+-- what one section of a client's seat, which had the lock, made of its front
+abbrev pub SteppedIn : Head → (seat : ℕ) → Op → (had has : Bool) → (old new : List Event) → Tried → Type 0
+SteppedIn head k op had has old new Busy = ⊥
+SteppedIn head k op had has old new (Turned turn) = TurnedIn head k op had has old new turn
+SteppedIn head k op had has old new (Lent state) = LentIn head k old new × (has ≡ had)

@@ -1,0 +1,47 @@
+//! The machine of CPU hotplug behind a lock that threads take in turn: a caller on any thread can rely on
+//! what it has seen.
+//!
+//! A `Hotplug` is shared by `&`. Its `Root` lets seats in: a client gets a `Pass`, the hotplug thread of a
+//! processor an `ApPass`. A pass carries a front, the journal as it last saw it. `run` takes turns until an operation is answered;
+//! `ap_loop` makes the entries that are due from a thread; each turn is one lock section, and hooks are
+//! called between two sections, outside the lock. `leave` and `leave_ap` end a pass, and the root meets what it had
+//! seen; `tell` lets a pass hear what the root has seen; `close` ends the machine and hands the board back.
+//!
+//! Every front is a lawful journal. A call's new front has the old one as its beginning, and past it of the caller's seat
+//! just the events of this call. Who has nothing to do sleeps until another made an event.
+//!
+//! To read the specs: `Known` says what contracts see of passes, `Grew` how a front grows, `Sections` what one
+//! lock section makes of it, `Runs` and `Threads` what an operation and a thread make of it. `Steps` and `Lending` say the same of the
+//! board under the lock. Lock, passes and gates are this project's own.
+#![tactic(auto)]
+
+mod admission;
+mod ap_pass;
+mod forms;
+mod gate;
+mod hotplug;
+mod leaving;
+mod left;
+mod live;
+mod pass;
+mod root;
+mod run;
+mod seat;
+mod section;
+mod seen;
+mod serving;
+mod sight;
+mod sights;
+mod start;
+mod step;
+mod telling;
+mod tried;
+
+pub use ap_pass::ApPass;
+pub use forms::{Done, HookBack};
+pub use gate::{FreeGate, Gate};
+pub use hotplug::Hotplug;
+pub use left::Left;
+pub use pass::Pass;
+pub use root::Root;
+pub use tried::Tried;

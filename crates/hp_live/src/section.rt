@@ -1,0 +1,180 @@
+//! The end of a lock section, and sections of a client's and a thread's seat.
+
+ghost use Rattle.std.specs.Prelude.{◌≡◌, ◌≤◌, ℕ, Some, None, is_some};
+ghost use Rattle.hp_board.specs.Loans.{loan};
+ghost use Rattle.hp_live.specs.Known.{IsOf, IsSight, IsStill};
+ghost use Rattle.hp_live.specs.Sections.{CanAsk};
+ghost use Rattle.hp_live.specs.Steps.{CanPut, IsInside, IsPut, StepsTo, StepsIn, ServesTo, ServesIn, GivesTo, GivesIn, lent_by};
+ghost use Rattle.hp_machine.specs.Clients.{clients};
+ghost use Rattle.hp_turn.specs.Passes.{IsPassOf};
+
+use crate::hotplug::Hotplug;
+use crate::live::Live;
+use crate::sight::Sight;
+use crate::step::{Step, lend_or_serve, lend_or_turn};
+use hp_board::{Ask, Back};
+use hp_hook::Hook;
+use hp_turn::{Grown, TurnPass};
+use std::sync::Wait;
+
+impl<H: Hook + Send> Hotplug<H> {
+    /// Puts the board back, ends the section, and answers how many events the journal has.
+    pub(crate) fn put_back(&self, pass: &mut TurnPass<Live<H>>, live: Live<H>) -> u64
+        requires own { IsPassOf self.now.lock pass.old }
+        requires put { CanPut pass.old live.board }
+        ensures put { IsPut pass.old pass.new live.board }
+        ensures sight { IsSight pass.new result }
+    {
+        live.board.sound();
+        let seen = live.length();
+        self.lock.unlock(pass, live);
+        seen
+    }
+
+    /// One lock section of a client's seat: a hook is lent, or a turn is taken.
+    pub(crate) fn turn_section<R: Wait>(
+        &self,
+        rt: &R,
+        sight: &mut Sight<H>,
+        seat: u32,
+        ask: &mut Ask<H>,
+    ) -> Step<H>
+        requires own { IsOf self.now sight.old.lock }
+        requires seat { sight.old.seat ≡ Some seat }
+        requires nothing { sight.old.aside ≡ None }
+        requires asked { CanAsk sight.old.head sight.old.front seat ask.old.op (is_some ask.old.hook) }
+        ensures still { IsStill sight.old sight.new }
+        ensures steps { StepsIn seat ask.old.op (is_some ask.old.hook) (is_some ask.new.hook)
+            sight.old sight.new result }
+        ensures lent { sight.new.aside ≡ lent_by result }
+        ensures op { ask.new.op ≡ ask.old.op }
+    {
+        let live = self.lock.lock(rt, &mut sight.turn);
+        live.board.sound();
+        let (step, seen) = self.turn_held(&mut sight.turn, live, seat, ask);
+        sight.seen = seen;
+        step
+    }
+
+    /// A section of a client's seat on a board that its pass holds.
+    fn turn_held(
+        &self,
+        pass: &mut TurnPass<Live<H>>,
+        live: Live<H>,
+        seat: u32,
+        ask: &mut Ask<H>,
+    ) -> (Step<H>, u64)
+        requires own { IsPassOf self.now.lock pass.old }
+        requires inside { IsInside pass.old live.board }
+        requires seat { pass.old.seat ≡ Some seat }
+        requires nothing { loan live.board seat ≡ None }
+        requires asked { CanAsk live.board.head live.board.events seat ask.old.op (is_some ask.old.hook) }
+        ensures still { IsStill pass.old pass.new }
+        ensures sight { IsSight pass.new result.1 }
+        ensures steps { StepsTo seat ask.old.op (is_some ask.old.hook) (is_some ask.new.hook)
+            live.board pass.new result.0 }
+        ensures lent { pass.new.aside ≡ lent_by result.0 }
+        ensures op { ask.new.op ≡ ask.old.op }
+    {
+        let mut live = live;
+        live.board.sound();
+        let step = lend_or_turn(&mut live.board, seat, ask);
+        let seen = self.put_back(pass, live);
+        (step, seen)
+    }
+
+    /// One lock section of a thread's seat: a hook is lent, or a turn is taken. And how many clients are in
+    /// then.
+    pub(crate) fn serve_section<R: Wait>(
+        &self,
+        rt: &R,
+        sight: &mut Sight<H>,
+        seat: u32,
+    ) -> (Step<H>, u32)
+        requires own { IsOf self.now sight.old.lock }
+        requires seat { sight.old.seat ≡ Some seat }
+        requires nothing { sight.old.aside ≡ None }
+        ensures still { IsStill sight.old sight.new }
+        ensures serves { ServesIn seat sight.old sight.new result.0 }
+        ensures lent { sight.new.aside ≡ lent_by result.0 }
+        ensures clients { result.1 ≡ clients sight.new.front }
+    {
+        let live = self.lock.lock(rt, &mut sight.turn);
+        live.board.sound();
+        let (step, count, seen) = self.serve_held(&mut sight.turn, live, seat);
+        sight.seen = seen;
+        (step, count)
+    }
+
+    /// A section of a thread's seat on a board that its pass holds.
+    fn serve_held(
+        &self,
+        pass: &mut TurnPass<Live<H>>,
+        live: Live<H>,
+        seat: u32,
+    ) -> (Step<H>, u32, u64)
+        requires own { IsPassOf self.now.lock pass.old }
+        requires inside { IsInside pass.old live.board }
+        requires seat { pass.old.seat ≡ Some seat }
+        requires nothing { loan live.board seat ≡ None }
+        ensures still { IsStill pass.old pass.new }
+        ensures sight { IsSight pass.new result.2 }
+        ensures serves { ServesTo seat live.board pass.new result.0 }
+        ensures lent { pass.new.aside ≡ lent_by result.0 }
+        ensures clients { result.1 ≡ clients pass.new.front }
+    {
+        let mut live = live;
+        live.board.sound();
+        let step = lend_or_serve(&mut live.board, seat);
+        let count = live.board.clients();
+        let seen = self.put_back(pass, live);
+        (step, count, seen)
+    }
+
+    /// One lock section in which the hook that was lent to a seat comes home and its entry is made, at the
+    /// place that is answered.
+    pub(crate) fn give_section<R: Wait>(
+        &self,
+        rt: &R,
+        sight: &mut Sight<H>,
+        seat: u32,
+        back: Back<H>,
+    ) -> u32
+        requires own { IsOf self.now sight.old.lock }
+        requires seat { sight.old.seat ≡ Some seat }
+        requires lent { sight.old.aside ≡ Some back }
+        ensures still { IsStill sight.old sight.new }
+        ensures gives { GivesIn seat sight.old sight.new result }
+        ensures nothing { sight.new.aside ≡ None }
+    {
+        let live = self.lock.lock(rt, &mut sight.turn);
+        live.board.sound();
+        let (at, seen) = self.give_held(&mut sight.turn, live, seat, back);
+        sight.seen = seen;
+        at
+    }
+
+    /// The hook comes home to a board that the seat's pass holds.
+    fn give_held(
+        &self,
+        pass: &mut TurnPass<Live<H>>,
+        live: Live<H>,
+        seat: u32,
+        back: Back<H>,
+    ) -> (u32, u64)
+        requires own { IsPassOf self.now.lock pass.old }
+        requires inside { IsInside pass.old live.board }
+        requires seat { pass.old.seat ≡ Some seat }
+        requires lent { loan live.board seat ≡ Some back }
+        ensures still { IsStill pass.old pass.new }
+        ensures sight { IsSight pass.new result.1 }
+        ensures gives { GivesTo seat live.board pass.new result.0 }
+        ensures nothing { pass.new.aside ≡ None }
+    {
+        let mut live = live;
+        live.board.sound();
+        let at = live.board.give(seat, back);
+        let seen = self.put_back(pass, live);
+        (at, seen)
+    }
+}
