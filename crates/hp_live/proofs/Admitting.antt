@@ -22,12 +22,10 @@ use Rattle.hp_turn.specs.Views.{held_of}
 use Rattle.hp_turn.proofs.Stories.{all_right, gets_seat, keeps_seat}
 use Rattle.hp_board.specs.Contents.{Contents, with_event}
 use Rattle.hp_board.specs.Loans.{loan}
-use Rattle.hp_live.specs.Grew.{Grew}
 use Rattle.hp_live.specs.Known.{IsRoot}
 use Rattle.hp_live.specs.Lending.{lent_pairs}
 use Rattle.hp_live.specs.Sections.{AdmitsIn, RefusesIn}
 use Rattle.hp_live.specs.Steps.{CanPut, Finds, IsInside, IsPut}
-use Rattle.hp_live.proofs.Finding.{lawful_found}
 use Rattle.hp_live.proofs.Growing.{grew_on, grew_seen, grew_event}
 use Rattle.hp_live.proofs.Pairs.{loan_above}
 

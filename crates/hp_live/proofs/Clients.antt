@@ -4,12 +4,11 @@ use Rattle.std.proofs.lemmas.Bool.{eqb-true}
 use Rattle.hp_event.specs.declared.answer.Answer.{Answer}
 use Rattle.hp_event.specs.declared.op.Op.{Op}
 use Rattle.hp_event.specs.declared.op.Op.TheVariants.{Lock, Unlock}
-use Rattle.hp_event.specs.declared.event.Role.{Role}
 use Rattle.hp_event.specs.declared.event.Role.TheVariants.{Client}
 use Rattle.hp_event.specs.declared.head.Head.{Head}
 use Rattle.hp_event.specs.declared.event.Event.{Event}
 use Rattle.hp_event.specs.declared.event.Event.TheVariants.{Admit, Leave, ReadLock, ReadUnlock}
-use Rattle.hp_model.specs.Events.{BelongsTo, seat_of}
+use Rattle.hp_model.specs.Events.{BelongsTo}
 use Rattle.hp_model.specs.Front.{StandsFor}
 use Rattle.hp_model.specs.Lawful.{IsLawful, Stands}
 use Rattle.hp_model.specs.NextEvent.{next_event}

@@ -1,5 +1,5 @@
 -- A seat that came in, and one that heard what another had seen.
-use Rattle.std.proofs.Common.{◌≡◌, ◌≢◌, ℕ, All, Option, Some, None, false, List, [], ◌∷◌, ◌++◌, refl, sym, ap, ◌∙◌, subst}
+use Rattle.std.proofs.Common.{◌≡◌, ◌≢◌, ℕ, All, Some, None, false, List, [], ◌∷◌, ◌++◌, refl, sym, ◌∙◌, subst}
 use Rattle.std.proofs.lemmas.Bool.{eq-eqb}
 use Rattle.std.proofs.lemmas.List.Elements.{All-weaker}
 use Rattle.hp_event.specs.declared.event.Role.{Role}
@@ -15,7 +15,7 @@ use Rattle.hp_board.proofs.Busy.{busy_push}
 use Rattle.hp_model.specs.MapLock.{operation}
 use Rattle.hp_model.specs.Readers.{reading_since}
 use Rattle.hp_model.specs.Registrations.{registration}
-use Rattle.hp_model.specs.Seats.{admits, is_busy, role_of}
+use Rattle.hp_model.specs.Seats.{is_busy, role_of}
 use Rattle.hp_model.proofs.Laws.{role_push, reading_since_push}
 use Rattle.hp_model.proofs.ReadersKept.{none_reads_at_first}
 use Rattle.hp_live.specs.Known.{IsThread, IsOut}

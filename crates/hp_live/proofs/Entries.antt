@@ -1,18 +1,13 @@
 -- Sections of a thread's seat.
-use Rattle.std.proofs.Common.{◌≡◌, ◌≢◌, ℕ, Bool, true, false, All, Option, Some, None, List, [], ◌∷◌, ◌++◌, refl, sym, ap, ◌∙◌, subst}
+use Rattle.std.proofs.Common.{◌≡◌, ℕ, true, Some, None, List, [], ◌∷◌, ◌++◌, refl, sym, ap, ◌∙◌, subst}
 use Rattle.std.proofs.lemmas.Bool.{false≢true}
-use Rattle.std.proofs.lemmas.List.{append-nil}
 use Rattle.std.proofs.lemmas.List.Elements.{All-nil, All-cons, All-append}
-use Rattle.hp_event.specs.declared.event.Role.{Role}
-use Rattle.hp_event.specs.declared.event.Role.TheVariants.{Client, Ap}
 use Rattle.hp_event.specs.declared.head.Head.{Head}
 use Rattle.hp_event.specs.declared.event.Event.{Event}
 use Rattle.hp_event.specs.declared.event.Event.TheVariants.{Admit, Leave, ReadLock, ReadUnlock}
-use Rattle.hp_locks.specs.declared.why.Why.{Why}
 use Rattle.hp_locks.specs.declared.why.Why.TheVariants.{Idle, HookOut}
-use Rattle.hp_model.specs.Events.{seat_of, is_call}
+use Rattle.hp_model.specs.Events.{is_call}
 use Rattle.hp_model.specs.Front.{StandsFor}
-use Rattle.hp_model.specs.Lawful.{IsLawful, Stands}
 use Rattle.hp_model.specs.NextEvent.{due_entry}
 use Rattle.hp_model.specs.Readers.{reading_since, reading_since_step}
 use Rattle.hp_model.specs.Seats.{role_of, role_step}
@@ -23,12 +18,11 @@ use Rattle.hp_board.specs.Contents.{Contents}
 use Rattle.hp_board.specs.Loans.{loan}
 use Rattle.hp_board.specs.Turns.{IsServed}
 use Rattle.hp_board.specs.declared.turn.Turn.{Turn}
-use Rattle.hp_board.specs.declared.turn.Turn.TheVariants.{Made, Answered, NotYet}
+use Rattle.hp_board.specs.declared.turn.Turn.TheVariants.{Made, NotYet}
 use Rattle.hp_live.specs.declared.step.Step.{Step}
 use Rattle.hp_live.specs.declared.step.Step.TheVariants.{Turned, NoMemory, Lent}
-use Rattle.hp_live.specs.Grew.{Grew}
 use Rattle.hp_live.specs.Known.{IsSamePass, IsThread, Seated}
-use Rattle.hp_live.specs.Sections.{Adds, ServedOn, EntersIn}
+use Rattle.hp_live.specs.Sections.{Adds, ServedOn}
 use Rattle.hp_live.specs.Steps.{ServesOn, ServesIn, GivesIn, lent_by}
 use Rattle.hp_live.specs.Threads.{IsCall, Enters, Rests}
 use Rattle.hp_machine.specs.Clients.{clients}

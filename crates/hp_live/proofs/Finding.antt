@@ -1,11 +1,9 @@
 -- A pass that takes the lock, and gives the board back: `given` is the pass as it was handed in, `inside` the same as it stands in
 -- its struct, `held` as it holds the lock, and `after` as it has put the board back.
-use Rattle.std.proofs.Common.{◌≡◌, ◌≢◌, ◌≤◌, ℕ, ◌+◌, All, Option, Some, None, List, [], ◌∷◌, ◌++◌, length, inl, refl, sym, ap, ◌∙◌, subst, arith}
+use Rattle.std.proofs.Common.{◌≡◌, ◌≢◌, ◌≤◌, ℕ, All, Option, Some, None, List, [], ◌∷◌, ◌++◌, length, inl, sym, ap, ◌∙◌, subst, arith}
 use Rattle.std.proofs.lemmas.List.{append-nil}
 use Rattle.std.proofs.lemmas.List.Elements.{All-nil, All-cons}
-use Rattle.atomic_table.specs.Seated.{TableId}
 use Rattle.hp_states.specs.declared.limits.TheConstants.{MAX_EVENTS}
-use Rattle.hp_event.specs.declared.aside.Aside.{Aside}
 use Rattle.hp_event.specs.declared.head.Head.{Head}
 use Rattle.hp_event.specs.declared.event.Event.{Event}
 use Rattle.hp_model.specs.Front.{StandsFor}
@@ -13,9 +11,9 @@ use Rattle.hp_model.specs.Lawful.{IsLawful}
 use Rattle.hp_model.proofs.RoomKept.{promises_fit}
 use Rattle.hp_account.specs.Table.{IsTableOf}
 use Rattle.hp_turn.specs.declared.view.Held.{Held}
-use Rattle.hp_turn.specs.Asides.{KeepsOthers, seat_aside}
+use Rattle.hp_turn.specs.Asides.{seat_aside}
 use Rattle.hp_turn.specs.Pass.{Pass, IsSame, Knew, MayPutBack}
-use Rattle.hp_turn.specs.Story.{IsOwn, Knows, new_seat}
+use Rattle.hp_turn.specs.Story.{IsOwn, new_seat}
 use Rattle.hp_turn.specs.Views.{held_of}
 use Rattle.hp_turn.proofs.Stories.{keeps_seat}
 use Rattle.hp_board.specs.Contents.{Contents}

@@ -1,5 +1,5 @@
 -- One whole operation of a client that has none in flight.
-use Rattle.std.proofs.Common.{◌≡◌, ℕ, Bool, true, false, not, ◌&&◌, eqb, Result, Ok, Err, OnOk, OnErr, Some, List, [], inl, inr, ◌⊎◌, refl, sym, ap, ◌∙◌, subst, ◌||◌}
+use Rattle.std.proofs.Common.{◌≡◌, ℕ, Bool, true, false, not, ◌&&◌, Result, Ok, Err, OnOk, OnErr, Some, List, [], inl, inr, refl, sym, ap, ◌∙◌, subst}
 use Rattle.std.proofs.lemmas.Bool.{eq-eqb, true≢false}
 use Rattle.hp_states.proofs.Basics.{and_true, or_true}
 use Rattle.hp_event.specs.declared.event.Event.{Event}
@@ -10,7 +10,6 @@ use Rattle.hp_event.specs.declared.op.Op.TheVariants as op
 use Rattle.hp_model.specs.Lawful.{IsLawful}
 use Rattle.hp_model.specs.MapLock.{operation}
 use Rattle.hp_model.specs.Pending.{IsInFlight}
-use Rattle.hp_model.specs.Registrations.{registration}
 use Rattle.hp_model.specs.Seats.{holds_map, is_busy, role_of}
 use Rattle.hp_model.specs.Subsystems.{names_sub}
 use Rattle.hp_account.specs.TableChanges.{is_setup}

@@ -1,6 +1,6 @@
 -- The hook that an operation leaves its ask with at its answer.
-use Rattle.std.proofs.Common.{◌≡◌, ℕ, Bool, true, false, not, ◌&&◌, ◌||◌, Option, Some, None, List, [], ◌∷◌, ◌++◌, inl, inr, refl, sym, ap, ◌∙◌, subst}
-use Rattle.std.proofs.lemmas.Bool.{true≢false, false≢true, eq-eqb}
+use Rattle.std.proofs.Common.{◌≡◌, ℕ, Bool, true, false, not, ◌&&◌, ◌||◌, Option, Some, None, List, inr, refl, sym, ap, ◌∙◌, subst}
+use Rattle.std.proofs.lemmas.Bool.{false≢true, eq-eqb}
 use Rattle.hp_states.proofs.Basics.{and_false, none_some, or_true, same_some}
 use Rattle.hp_event.specs.declared.answer.Answer.{Answer}
 use Rattle.hp_event.specs.declared.answer.Answer.TheVariants as answered
@@ -12,9 +12,9 @@ use Rattle.hp_event.specs.declared.head.Head.{Head}
 use Rattle.hp_event.specs.declared.op.Op.{Op}
 use Rattle.hp_event.specs.declared.op.Op.TheVariants.{Setup, Remove}
 use Rattle.hp_model.specs.Events.{answer_by, BelongsTo, seat_of, showing}
-use Rattle.hp_model.specs.Lawful.{Comes, IsLawful, Stands}
+use Rattle.hp_model.specs.Lawful.{Comes, IsLawful}
 use Rattle.hp_model.specs.MapLock.{is_map_op, operation}
-use Rattle.hp_model.specs.NextEvent.{next_event, is_full}
+use Rattle.hp_model.specs.NextEvent.{next_event}
 use Rattle.hp_model.specs.Pending.{IsAllowed}
 use Rattle.hp_model.specs.Registrations.{registration}
 use Rattle.hp_model.specs.Seats.{holds_map, is_busy}

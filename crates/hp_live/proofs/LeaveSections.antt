@@ -1,25 +1,16 @@
 -- Sections in which a seat leaves.
-use Rattle.std.proofs.Common.{◌≡◌, ◌≢◌, ℕ, false, Option, Some, None, IfSome, IfNone, List, [], ◌∷◌, ◌++◌, refl, sym, ap, ◌∙◌, subst}
-use Rattle.hp_event.specs.declared.event.Role.TheVariants.{Ap}
-use Rattle.hp_event.specs.declared.head.Head.{Head}
+use Rattle.std.proofs.Common.{◌≡◌, ℕ, false, Option, Some, None, IfSome, IfNone, List, [], ◌∷◌, ◌++◌, refl, ap, ◌∙◌}
 use Rattle.hp_event.specs.declared.event.Event.{Event}
 use Rattle.hp_event.specs.declared.event.Event.TheVariants.{Leave}
-use Rattle.hp_locks.specs.declared.why.Why.TheVariants.{Idle}
-use Rattle.hp_model.specs.Lawful.{IsLawful, Stands}
+use Rattle.hp_model.specs.Lawful.{Stands}
 use Rattle.hp_model.specs.NextEvent.{due_entry}
 use Rattle.hp_model.specs.Seats.{is_busy}
 use Rattle.hp_turn.specs.Pass.{Pass}
 use Rattle.hp_board.specs.Contents.{Contents, with_event}
-use Rattle.hp_board.specs.Loans.{loan}
-use Rattle.hp_board.specs.Turns.{IsServed}
-use Rattle.hp_board.specs.declared.turn.Turn.{Turn}
-use Rattle.hp_board.specs.declared.turn.Turn.TheVariants.{NotYet}
 use Rattle.hp_live.specs.declared.step.Step.{Step}
-use Rattle.hp_live.specs.declared.step.Step.TheVariants.{Turned}
 use Rattle.hp_live.specs.Known.{IsOut, IsThread}
 use Rattle.hp_live.specs.Sections.{LeavesIn}
-use Rattle.hp_live.specs.Steps.{Finds, ServesOn, ServesTo, ServesIn, HasSeen, lent_if}
-use Rattle.hp_live.specs.Threads.{Enters, LeavesAfter}
+use Rattle.hp_live.specs.Steps.{Finds, ServesOn, ServesIn, HasSeen}
 use Rattle.hp_live.proofs.Clients.{out_later}
 use Rattle.hp_live.proofs.Coming.{thread_told}
 use Rattle.hp_live.proofs.Finding.{Puts, puts_one, seen_by, lawful_found}

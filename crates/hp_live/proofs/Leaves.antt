@@ -1,21 +1,20 @@
 -- A seat can leave where its front says so.
-use Rattle.std.proofs.Common.{◌≡◌, ◌≢◌, ℕ, Bool, true, false, cond, ◌||◌, ◌⊎◌, ⊎_elim, inl, inr, eqb, Option, Some, None, List, [], ◌∷◌, ◌++◌, refl, sym, ap, ◌∙◌, subst, is_some}
+use Rattle.std.proofs.Common.{◌≡◌, ℕ, Bool, true, false, cond, ◌⊎◌, ⊎_elim, inl, inr, eqb, Option, Some, None, List, refl, sym, ap, ◌∙◌, is_some}
 use Rattle.std.proofs.lemmas.Bool.{eqb-true, eq-eqb, false≢true}
-use Rattle.hp_event.specs.declared.event.Role.{Role}
 use Rattle.hp_event.specs.declared.event.Role.TheVariants.{Client, Ap}
 use Rattle.hp_event.specs.declared.head.Head.{Head}
 use Rattle.hp_event.specs.declared.how.How.{How}
 use Rattle.hp_event.specs.declared.event.Event.{Event}
 use Rattle.hp_event.specs.declared.event.Event.TheVariants.{Leave}
 use Rattle.hp_states.specs.declared.dir.Dir.{Dir}
-use Rattle.hp_model.specs.Caller.{caller, is_made_by_ap}
+use Rattle.hp_model.specs.Caller.{is_made_by_ap}
 use Rattle.hp_model.specs.Lawful.{IsLawful, Stands}
 use Rattle.hp_model.specs.MapLock.{Operation, operation}
 use Rattle.hp_model.specs.NextEvent.{due_entry}
 use Rattle.hp_model.specs.Readers.{reading_since}
 use Rattle.hp_model.specs.Registrations.{Registration, registration}
 use Rattle.hp_model.specs.Seats.{ap_seat, holds_map, registers, is_busy, role_of}
-use Rattle.hp_model.specs.StandsCalls.{Calls, InWalk, InRegistration, IsIdle}
+use Rattle.hp_model.specs.StandsCalls.{InWalk, InRegistration, IsIdle}
 use Rattle.hp_model.proofs.DueGives.{due_nothing}
 use Rattle.hp_model.proofs.OneNext.{owners}
 use Rattle.hp_states.proofs.Basics.{same_some}

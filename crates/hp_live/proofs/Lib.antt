@@ -16,7 +16,7 @@ pub mod Leaves
 pub mod Entries
 pub mod Fronts
 pub mod LeaveSections
-pub mod Locking
-pub mod Reading
+pub mod StandsStill
 pub mod HooksLeft
 pub mod Finishing
+pub mod Sharing

@@ -13,7 +13,7 @@ use Rattle.hp_model.specs.NextEvent.{due_entry}
 use Rattle.hp_model.specs.Seats.{admits}
 use Rattle.hp_model.proofs.DueGives.{due_stands}
 use Rattle.hp_model.proofs.OneNext.{owners}
-use Rattle.hp_turn.specs.Asides.{aside_of, seat_aside}
+use Rattle.hp_turn.specs.Asides.{aside_of}
 use Rattle.hp_board.specs.Contents.{Contents}
 use Rattle.hp_board.specs.Loans.{loan, loan_of}
 use Rattle.hp_live.specs.Lending.{pair_of, lent_pairs}

@@ -7,12 +7,12 @@ use Rattle.hp_event.specs.declared.answer.Answer.{Answer}
 use Rattle.hp_event.specs.declared.op.Op.{Op}
 use Rattle.hp_event.specs.declared.head.Head.{Head}
 use Rattle.hp_event.specs.declared.event.Event.{Event}
-use Rattle.hp_model.specs.Events.{seat_of, answer_by, BelongsTo}
+use Rattle.hp_model.specs.Events.{BelongsTo}
 use Rattle.hp_model.specs.Front.{StandsFor}
 use Rattle.hp_model.specs.Lawful.{IsLawful}
 use Rattle.hp_model.specs.NextEvent.{next_event, is_full, lacks_room}
 use Rattle.hp_model.specs.FirstEvent.{first_event}
-use Rattle.hp_model.specs.Pending.{Pending, IsAllowed}
+use Rattle.hp_model.specs.Pending.{IsAllowed}
 use Rattle.hp_model.specs.Seats.{is_busy}
 use Rattle.hp_model.proofs.NextStands.{next_stands, next_belongs}
 use Rattle.hp_board.specs.Turns.{goes_on}

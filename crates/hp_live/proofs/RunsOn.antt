@@ -1,6 +1,6 @@
 -- An operation from section to section: what holds of its pass while it goes on, and where it ends. `start` is the pass as the
 -- operation was taken up, `now` as it stands before a section, `next` after it.
-use Rattle.std.proofs.Common.{◌≡◌, ℕ, Bool, true, false, ◌&&◌, Option, Some, None, List, [], ◌∷◌, ◌++◌, refl, sym, ap, ◌∙◌, subst}
+use Rattle.std.proofs.Common.{◌≡◌, ℕ, Bool, true, false, ◌&&◌, Option, Some, List, [], refl, sym, ◌∙◌, subst}
 use Rattle.std.proofs.lemmas.Bool.{false≢true}
 use Rattle.hp_event.specs.declared.answer.Answer.{Answer}
 use Rattle.hp_event.specs.declared.op.Op.{Op}
@@ -8,11 +8,10 @@ use Rattle.hp_event.specs.declared.head.Head.{Head}
 use Rattle.hp_event.specs.declared.event.Event.{Event}
 use Rattle.hp_locks.specs.declared.why.Why.{Why}
 use Rattle.hp_model.specs.Front.{StandsFor}
-use Rattle.hp_model.specs.Lawful.{IsLawful}
 use Rattle.hp_model.specs.Seats.{is_busy}
 use Rattle.hp_board.specs.Turns.{goes_on}
 use Rattle.hp_board.specs.declared.turn.Turn.{Turn}
-use Rattle.hp_board.specs.declared.turn.Turn.TheVariants.{Made, Answered, NotYet}
+use Rattle.hp_board.specs.declared.turn.Turn.TheVariants.{Answered, NotYet}
 use Rattle.hp_live.specs.declared.tried.Tried.{Tried}
 use Rattle.hp_live.specs.declared.tried.Tried.TheVariants.{Busy, Turned, Lent}
 use Rattle.hp_live.specs.Grew.{Grew}

@@ -1,12 +1,12 @@
 -- What a step of the board is of its events, by a client's seat.
-use Rattle.std.proofs.Common.{◌≡◌, ◌≢◌, ℕ, Bool, true, false, All, Option, Some, None, List, [], ◌∷◌, ◌++◌, refl, sym, ap, ◌∙◌, subst}
+use Rattle.std.proofs.Common.{◌≡◌, ℕ, Bool, true, false, Option, Some, None, List, refl, sym, ap, ◌∙◌, subst}
 use Rattle.std.proofs.lemmas.Bool.{false≢true}
 use Rattle.hp_event.specs.declared.answer.Answer.{Answer}
 use Rattle.hp_event.specs.declared.op.Op.{Op}
 use Rattle.hp_event.specs.declared.head.Head.{Head}
 use Rattle.hp_event.specs.declared.event.Event.{Event}
 use Rattle.hp_event.specs.declared.event.Event.TheVariants.{Admit, Call}
-use Rattle.hp_model.specs.Events.{seat_of, answer_by, BelongsTo, is_call}
+use Rattle.hp_model.specs.Events.{BelongsTo, is_call}
 use Rattle.hp_model.specs.Front.{StandsFor}
 use Rattle.hp_model.specs.Lawful.{IsLawful}
 use Rattle.hp_model.specs.NextEvent.{next_event, due_entry}
@@ -14,9 +14,9 @@ use Rattle.hp_model.specs.Pending.{Pending, IsAllowed}
 use Rattle.hp_model.proofs.DueGives.{due_stands, call_belongs}
 use Rattle.hp_model.proofs.NextGives.{next_exactly}
 use Rattle.hp_model.proofs.NextStands.{next_stands, next_belongs}
-use Rattle.hp_turn.specs.Pass.{Pass, Knew}
+use Rattle.hp_turn.specs.Pass.{Pass}
 use Rattle.hp_turn.specs.Story.{IsOwn, IsNoAdmit}
-use Rattle.hp_board.specs.Contents.{Contents, with_event}
+use Rattle.hp_board.specs.Contents.{Contents}
 use Rattle.hp_board.specs.Hooks.{has_hook, has_hook_after}
 use Rattle.hp_board.specs.Loans.{loan}
 use Rattle.hp_board.specs.Turns.{IsTurn, Makes, goes_on}
@@ -24,12 +24,10 @@ use Rattle.hp_board.specs.declared.turn.Turn.{Turn}
 use Rattle.hp_board.specs.declared.turn.Turn.TheVariants.{Made, Answered, NotYet}
 use Rattle.hp_board.proofs.AskAgain.{own_after}
 use Rattle.hp_board.proofs.Busy.{hook_again}
-use Rattle.hp_live.specs.Known.{Stays}
 use Rattle.hp_live.specs.declared.step.Step.{Step}
 use Rattle.hp_live.specs.declared.step.Step.TheVariants.{Turned, NoMemory, Lent}
-use Rattle.hp_live.specs.Runs.{SteppedIn}
 use Rattle.hp_live.specs.Sections.{Adds, CanAsk, TurnOn, TurnedIn, WantedIn, LentIn}
-use Rattle.hp_live.specs.Steps.{StepsOn, StepsTo, StepsIn, Finds, HasSeen, GivesIn, lent_by}
+use Rattle.hp_live.specs.Steps.{StepsOn, StepsIn, Finds, HasSeen, GivesIn, lent_by}
 use Rattle.hp_live.proofs.Finding.{Puts, puts_one, puts_none, seen_by, lawful_found}
 use Rattle.hp_live.proofs.Others.{asks_later}
 

@@ -15,7 +15,6 @@ use Rattle.hp_board.specs.Contents.{Contents}
 use Rattle.hp_board.specs.Hooks.{has_hook, has_hook_after}
 use Rattle.hp_board.specs.Loans.{loan, AreOut, CanLendTo}
 use Rattle.hp_board.specs.Turns.{IsTurn, IsServed, NextTakesRoom, goes_on}
-use Rattle.hp_board.specs.declared.turn.Turn.{Turn}
 use Rattle.hp_board.specs.declared.turn.Turn.TheVariants.{Made}
 use Rattle.hp_live.specs.declared.step.Step.{Step}
 use Rattle.hp_live.specs.declared.step.Step.TheVariants.{Turned, NoMemory, Lent}

@@ -1,5 +1,5 @@
 -- What the thread of a processor makes of its front: entries that are due from it. This project's own.
-use Rattle.std.specs.Prelude.{◌≡◌, ℕ, None, true, List, [], ◌∷◌, ◌++◌, All}
+use Rattle.std.specs.Prelude.{◌≡◌, ℕ, None, true, List, All}
 use Rattle.hp_event.specs.declared.event.Event.{Event}
 use Rattle.hp_event.specs.declared.head.Head.{Head}
 use Rattle.hp_machine.specs.Clients.{clients}

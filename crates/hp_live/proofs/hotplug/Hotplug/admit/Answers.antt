@@ -1,4 +1,3 @@
-use Rattle.std.proofs.Common.{◌≡◌}
 use Rattle.hp_event.specs.declared.event.Role.TheVariants.{Client}
 use Rattle.hp_live.proofs.Coming.{client_new, new_idle}
 use Rattle.hp_live.proofs.hotplug.Hotplug.admit.Goals as goal

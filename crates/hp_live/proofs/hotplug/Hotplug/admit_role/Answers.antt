@@ -1,5 +1,5 @@
 -- A new pass has the right to admit, and gives it back to the root.
-use Rattle.std.proofs.Common.{◌≡◌, refl, sym, ap, ◌∙◌, subst}
+use Rattle.std.proofs.Common.{ap}
 use Rattle.hp_turn.specs.Pass.{Pass}
 use Rattle.hp_live.proofs.Fronts.{told_back, admitted_prefix}
 use Rattle.hp_live.proofs.hotplug.Hotplug.admit_role.Goals as goal

@@ -2,7 +2,7 @@
 use denote.Exit.{no}
 use denote.Param.Send.{param_send, arg_send}
 use Rattle.hp_live.proofs.Sending.{live_send}
-use Rattle.std.proofs.Common.{◌≡◌, Some, sym, ap, ◌∙◌}
+use Rattle.std.proofs.Common.{ap, ◌∙◌}
 use Rattle.hp_turn.specs.Pass.{Pass}
 use Rattle.hp_live.specs.Known.{IsRoot}
 use Rattle.hp_live.specs.Steps.{Finds, IsInside}

@@ -1,5 +1,5 @@
 -- A hook comes home to a board that the seat's pass holds.
-use Rattle.std.proofs.Common.{◌≡◌, sym, ap, ◌∙◌}
+use Rattle.std.proofs.Common.{ap, ◌∙◌}
 use Rattle.hp_board.specs.Contents.{Contents}
 use Rattle.hp_live.proofs.Finding.{Puts, puts_one, can_put, still_put, lent_put}
 use Rattle.hp_live.proofs.Turning.{own_due}

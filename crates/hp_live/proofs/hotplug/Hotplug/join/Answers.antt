@@ -1,6 +1,5 @@
 use denote.Exit.{no}
 use denote.Param.Send.{param_send, arg_send}
-use Rattle.std.proofs.Common.{◌≡◌}
 use Rattle.hp_live.proofs.Sending.{live_send}
 use Rattle.hp_live.proofs.hotplug.Hotplug.join.Goals as goal
 

@@ -2,8 +2,7 @@
 use denote.Exit.{no}
 use denote.Param.Send.{param_send, arg_send}
 use Rattle.hp_live.proofs.Sending.{live_send}
-use Rattle.std.proofs.Common.{◌≡◌, Some, sym, ap, ◌∙◌}
-use Rattle.hp_board.specs.Contents.{Contents}
+use Rattle.std.proofs.Common.{◌≡◌, Some, ◌∙◌}
 use Rattle.hp_live.specs.Steps.{Finds, IsInside}
 use Rattle.hp_live.proofs.Finding.{Puts, is_board, finds, inside_held, seat_held, lent_found, still_given, can_put, still_put, lent_put}
 use Rattle.hp_live.proofs.LeaveSections.{LeftOr, left_or, left_puts, left_head, left_leaves, left_serves, thread_may_leave}

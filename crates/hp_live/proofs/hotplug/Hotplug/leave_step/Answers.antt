@@ -1,5 +1,5 @@
 -- The hook that the seat carries comes home, or its next step is made: past its old front it has entries alone.
-use Rattle.std.proofs.Common.{◌≡◌, sym, subst}
+use Rattle.std.proofs.Common.{sym, subst}
 use Rattle.hp_live.specs.Known.{Seated, IsThread}
 use Rattle.hp_live.specs.Threads.{Enters}
 use Rattle.hp_live.proofs.Entries.{gives_enters, gives_thread, serves_enters, serves_thread}

@@ -1,5 +1,4 @@
 -- Entries, one after another, and then the leave.
-use Rattle.std.proofs.Common.{◌≡◌}
 use Rattle.hp_live.proofs.Entries.{enters_more, thread_more}
 use Rattle.hp_live.proofs.RunsOn.{same_on}
 use Rattle.hp_live.proofs.hotplug.Hotplug.leave_thread.Goals as goal

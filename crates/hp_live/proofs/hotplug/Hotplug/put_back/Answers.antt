@@ -2,7 +2,7 @@
 use denote.Exit.{no}
 use denote.Param.Send.{param_send, arg_send}
 use Rattle.hp_live.proofs.Sending.{live_send}
-use Rattle.std.proofs.Common.{◌≡◌, sym, ◌∙◌}
+use Rattle.std.proofs.Common.{sym, ◌∙◌}
 use Rattle.hp_live.proofs.Finding.{may_put_back, room, lent_then, nothing_then, sight_put}
 use Rattle.hp_live.proofs.hotplug.Hotplug.put_back.Goals as goal
 

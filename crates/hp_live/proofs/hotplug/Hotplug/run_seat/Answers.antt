@@ -1,5 +1,5 @@
 -- An operation goes on from section to section, until it is answered or memory is wanting.
-use Rattle.std.proofs.Common.{◌≡◌, true, false, refl, ap, ◌∙◌, is_some}
+use Rattle.std.proofs.Common.{refl, ap, ◌∙◌, is_some}
 use Rattle.std.proofs.lemmas.Bool.{true≢false}
 use Rattle.hp_event.specs.declared.op.Op.{Op}
 use Rattle.hp_account.specs.TableChanges.{hands_out}
@@ -7,7 +7,7 @@ use Rattle.hp_board.specs.declared.turn.Turn.TheVariants.{Made, Answered, NotYet
 use Rattle.hp_live.specs.declared.tried.Tried.TheVariants.{Turned}
 use Rattle.hp_live.specs.Sections.{TurnedIn}
 use Rattle.hp_live.proofs.HooksLeft.{hook_left}
-use Rattle.hp_live.proofs.RunsOn.{runs_self, runs_more, runs_lent, runs_ends, runs_idle, runs_stays, runs_halts, halts_stays, halts_asks, stepped_turn, stepped_lent, never_busy, fresh_self, fresh_waits, fresh_lent, fresh_wants, not_begun, wants_more}
+use Rattle.hp_live.proofs.RunsOn.{runs_self, runs_more, runs_lent, runs_ends, runs_idle, runs_stays, runs_halts, halts_stays, halts_asks, stepped_turn, stepped_lent, fresh_self, fresh_waits, fresh_lent, fresh_wants, not_begun, wants_more}
 use Rattle.hp_live.proofs.hotplug.Hotplug.run_seat.Given as given
 use Rattle.hp_live.proofs.hotplug.Hotplug.run_seat.Goals as goal
 use Rattle.hp_live.proofs.hotplug.Hotplug.run_seat.Goals.{In-Ok-Turned-Answered}

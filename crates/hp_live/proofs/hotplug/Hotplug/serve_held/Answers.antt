@@ -1,5 +1,5 @@
 -- A step of a thread's seat on a board that its pass holds.
-use Rattle.std.proofs.Common.{◌≡◌, sym, ap, ◌∙◌, List}
+use Rattle.std.proofs.Common.{sym, ap, ◌∙◌, List}
 use Rattle.hp_event.specs.declared.event.Event.{Event}
 use Rattle.hp_machine.specs.Clients.{clients}
 use Rattle.hp_live.proofs.Finding.{Puts, can_put, still_put, lent_put}

@@ -1,5 +1,4 @@
 -- Entries, one after another, until nothing is due and no client is in.
-use Rattle.std.proofs.Common.{◌≡◌}
 use Rattle.hp_live.proofs.Entries.{enters_more, thread_more, rests_as}
 use Rattle.hp_live.proofs.RunsOn.{same_on}
 use Rattle.hp_live.proofs.hotplug.Hotplug.serve_seat.Goals as goal

@@ -1,4 +1,3 @@
-use Rattle.std.proofs.Common.{◌≡◌}
 use Rattle.hp_live.specs.Known.{IsSamePass, IsThread}
 use Rattle.hp_live.specs.Threads.{Enters}
 use Rattle.hp_live.proofs.hotplug.Hotplug.serve_seat.Given as goal

@@ -2,7 +2,7 @@
 use denote.Exit.{no}
 use denote.Param.Send.{param_send, arg_send}
 use Rattle.hp_live.proofs.Sending.{live_send}
-use Rattle.std.proofs.Common.{◌≡◌, sym, ◌∙◌}
+use Rattle.std.proofs.Common.{◌∙◌}
 use Rattle.hp_live.specs.Steps.{Finds}
 use Rattle.hp_live.proofs.Finding.{is_board, finds, inside_held, seat_held, lent_found, still_given}
 use Rattle.hp_live.proofs.hotplug.Hotplug.serve_section.Given as given

@@ -1,5 +1,5 @@
 -- The hook that the seat carries comes home: its entry is what comes next of the operation.
-use Rattle.std.proofs.Common.{◌≡◌, sym, subst, is_some}
+use Rattle.std.proofs.Common.{sym, subst, is_some}
 use Rattle.hp_board.specs.declared.turn.Turn.TheVariants.{Made}
 use Rattle.hp_live.specs.Known.{Seated}
 use Rattle.hp_live.specs.Sections.{CanAsk, TurnedIn}

@@ -1,5 +1,5 @@
 -- What the pass hears are events of others.
-use Rattle.std.proofs.Common.{◌≡◌, sym, subst}
+use Rattle.std.proofs.Common.{sym, subst}
 use Rattle.hp_event.specs.declared.head.Head.{Head}
 use Rattle.hp_model.specs.Lawful.{IsLawful}
 use Rattle.hp_live.specs.Known.{IsThread}

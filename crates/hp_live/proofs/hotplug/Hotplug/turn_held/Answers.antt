@@ -1,5 +1,5 @@
 -- A step of a client's seat on a board that its pass holds.
-use Rattle.std.proofs.Common.{◌≡◌, sym, ◌∙◌, is_some}
+use Rattle.std.proofs.Common.{◌∙◌, is_some}
 use Rattle.hp_live.proofs.Finding.{Puts, can_put, still_put, lent_put}
 use Rattle.hp_live.proofs.Turning.{step_puts, step_head, step_lends}
 use Rattle.hp_live.proofs.hotplug.Hotplug.turn_held.Given as given

@@ -2,8 +2,7 @@
 use denote.Exit.{no}
 use denote.Param.Send.{param_send, arg_send}
 use Rattle.hp_live.proofs.Sending.{live_send}
-use Rattle.std.proofs.Common.{◌≡◌, sym, ◌∙◌, is_some, ap}
-use Rattle.hp_turn.specs.Pass.{Pass}
+use Rattle.std.proofs.Common.{◌∙◌, is_some}
 use Rattle.hp_live.specs.Steps.{Finds}
 use Rattle.hp_live.proofs.Finding.{is_board, finds, inside_held, seat_held, lent_found, still_given}
 use Rattle.hp_live.proofs.Turning.{asks_found}
