@@ -37,6 +37,8 @@ mod sights;
 mod start;
 mod step;
 mod telling;
+#[cfg(test)]
+mod tests;
 mod tried;
 
 pub use ap_pass::ApPass;
