@@ -12,11 +12,11 @@ const THREE: &str = "cpuhp journal 1\ncpus 1\nabsent -\nevents\nadmit 0 ap 0\nad
 
 /// The words, what is read, and what is to come of it.
 #[derive(Clone, Copy)]
-struct Row {
-    words: &'static [&'static str],
-    input: &'static str,
+struct Row<'a> {
+    words: &'a [&'a str],
+    input: &'a str,
     status: u8,
-    output: &'static str,
+    output: &'a str,
 }
 
 /// Runs each row, and compares its status and what is written.
@@ -36,15 +36,39 @@ const USAGE: &str = "usage: hpview [--from N] [--to M]\n";
 
 const NO_WINDOW: &str = "error: 3 events: choose a window of at most 20000 with --from and --to\n";
 
-#[test]
-fn other_words(rt: HostRuntime) -> Result<(), Fail> {
-    let alloc = rt.alloc();
-    let usage = |words| Row {
+/// Words that are none of the program's.
+fn usage<'a>(words: &'a [&'a str]) -> Row<'a> {
+    Row {
         words,
         input: THREE,
         status: 1,
         output: USAGE,
-    };
+    }
+}
+
+/// A window that three events don't have.
+fn no_window<'a>(words: &'a [&'a str]) -> Row<'a> {
+    Row {
+        words,
+        input: THREE,
+        status: 2,
+        output: NO_WINDOW,
+    }
+}
+
+/// A journal that is refused so.
+fn bad_journal<'a>(input: &'a str, output: &'a str) -> Row<'a> {
+    Row {
+        words: &[],
+        input,
+        status: 6,
+        output,
+    }
+}
+
+#[test]
+fn other_words(rt: HostRuntime) -> Result<(), Fail> {
+    let alloc = rt.alloc();
     check(
         &rt,
         alloc,
@@ -63,22 +87,16 @@ fn other_words(rt: HostRuntime) -> Result<(), Fail> {
 #[test]
 fn other_windows(rt: HostRuntime) -> Result<(), Fail> {
     let alloc = rt.alloc();
-    let refused = |words| Row {
-        words,
-        input: THREE,
-        status: 2,
-        output: NO_WINDOW,
-    };
     check(
         &rt,
         alloc,
         &[
-            refused(&["--from", "0"]),
-            refused(&["--from=3", "--to=2"]),
-            refused(&["--from", "4"]),
-            refused(&["--to", "4"]),
-            refused(&["--to", "0"]),
-            refused(&["--to", "18446744073709551615"]),
+            no_window(&["--from", "0"]),
+            no_window(&["--from=3", "--to=2"]),
+            no_window(&["--from", "4"]),
+            no_window(&["--to", "4"]),
+            no_window(&["--to", "0"]),
+            no_window(&["--to", "18446744073709551615"]),
         ],
     )
 }
@@ -86,19 +104,13 @@ fn other_windows(rt: HostRuntime) -> Result<(), Fail> {
 #[test]
 fn other_journals(rt: HostRuntime) -> Result<(), Fail> {
     let alloc = rt.alloc();
-    let refused = |input, output| Row {
-        words: &[],
-        input,
-        status: 6,
-        output,
-    };
     check(
         &rt,
         alloc,
         &[
-            refused("", "error: line 1: missing\n"),
-            refused("cpuhp journal 2\n", "error: line 1: header\n"),
-            refused(
+            bad_journal("", "error: line 1: missing\n"),
+            bad_journal("cpuhp journal 2\n", "error: line 1: header\n"),
+            bad_journal(
                 "cpuhp journal 1\ncpus 1\nabsent -\nevents\nadmit 1 client\n",
                 "error: line 5: unlawful\n",
             ),
