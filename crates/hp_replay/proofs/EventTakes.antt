@@ -114,34 +114,34 @@ shown_say seat s = one_spells (shown_rows seat) (
 
 rows_say : Says [] (one_of event_rows)
 rows_say = one_spells event_rows (
-  bind_spells number_field (λ seat a. mapped_spells (λ r. Admit seat r) role_spells (λ r f. (refl, ((a, f), tt)))),
+  bind_spells number_field (λ seat a. mapped_spells (λ o. Enter seat o) op_spells (λ o f. (refl, ((a, f.0), f.1)))),
   (
-    bind_spells number_field (λ seat a. done_spells (Leave seat) refl (a, tt)),
+    bind_spells number_field (λ seat a. mapped_spells (λ x. OpEnd seat x) answer_spells (λ x f. (refl, ((a, f), tt)))),
     (
-      bind_spells number_field (λ seat a. mapped_spells (λ o. Enter seat o) op_spells (λ o f. (refl, ((a, f.0), f.1)))),
+      bind_spells number_field (λ seat a. bind_spells number_field (λ cpu b. mapped_spells (λ x. WalkEnd seat cpu x) walk_answer_spells (λ x f. (refl, ((a, b, f.0), f.1))))),
       (
-        bind_spells number_field (λ seat a. bind_spells number_field (λ errno b. mapped_spells (λ o. Refused seat errno o) op_spells (λ o f. (refl, ((a, b, f.0), f.1))))),
+        bind_spells number_field (λ seat a. bind_spells number_field (λ cpu b. bind_spells number_field (λ from c. bind_spells number_field (λ to d. done_spells (WalkBegin seat cpu from to) refl ((a, b, c, d), tt))))),
         (
-          bind_spells number_field (λ seat a. bind_spells number_field (λ cpu b. bind_spells number_field (λ from c. bind_spells number_field (λ to d. done_spells (WalkBegin seat cpu from to) refl ((a, b, c, d), tt))))),
+          bind_spells number_field (λ seat a. bind_spells number_field (λ errno b. mapped_spells (λ o. Refused seat errno o) op_spells (λ o f. (refl, ((a, b, f.0), f.1))))),
           (
-            bind_spells number_field (λ seat a. bind_spells number_field (λ cpu b. bind_spells number_field (λ state c. bind_spells number_field (λ inst d. bind_spells direction_field (λ dir u. mapped_spells (λ h. Call seat cpu state inst dir h) how_spells (λ h f. (refl, ((a, b, c, d, f), tt)))))))),
+            bind_spells number_field (λ seat a. done_spells (ReadLock seat) refl (a, tt)),
             (
-              bind_spells number_field (λ seat a. bind_spells number_field (λ cpu b. mapped_spells (λ x. WalkEnd seat cpu x) walk_answer_spells (λ x f. (refl, ((a, b, f.0), f.1))))),
+              bind_spells number_field (λ seat a. done_spells (ReadUnlock seat) refl (a, tt)),
               (
-                bind_spells number_field (λ seat a. mapped_spells (λ x. OpEnd seat x) answer_spells (λ x f. (refl, ((a, f), tt)))),
+                bind_spells number_field (λ seat a. bind_spells number_field (λ state b. mapped_spells (λ o. RegBegin seat state o) op_spells (λ o f. (refl, ((a, b, f.0), f.1))))),
                 (
-                  bind_spells number_field (λ seat a. bind_spells number_field (λ state b. mapped_spells (λ o. RegBegin seat state o) op_spells (λ o f. (refl, ((a, b, f.0), f.1))))),
+                  bind_spells number_field (λ seat a. mapped_spells (λ x. RegEnd seat x) answer_spells (λ x f. (refl, ((a, f), tt)))),
                   (
-                    bind_spells number_field (λ seat a. mapped_spells (λ x. RegEnd seat x) answer_spells (λ x f. (refl, ((a, f), tt)))),
+                    bind_spells number_field (λ seat a. shown_say seat a),
                     (
-                      bind_spells number_field (λ seat a. done_spells (ReadLock seat) refl (a, tt)),
+                      bind_spells number_field (λ seat a. bind_spells number_field (λ cpu b. bind_spells integer_field (λ value c. done_spells (Armed seat cpu value) refl ((a, b, c), tt)))),
                       (
-                        bind_spells number_field (λ seat a. done_spells (ReadUnlock seat) refl (a, tt)),
+                        bind_spells number_field (λ seat a. done_spells (Wakeup seat) refl (a, tt)),
                         (
-                          bind_spells number_field (λ seat a. bind_spells number_field (λ cpu b. bind_spells integer_field (λ value c. done_spells (Armed seat cpu value) refl ((a, b, c), tt)))),
+                          bind_spells number_field (λ seat a. mapped_spells (λ r. Admit seat r) role_spells (λ r f. (refl, ((a, f), tt)))),
                           (
-                            bind_spells number_field (λ seat a. shown_say seat a),
-                            (bind_spells number_field (λ seat a. done_spells (Wakeup seat) refl (a, tt)), tt),
+                            bind_spells number_field (λ seat a. done_spells (Leave seat) refl (a, tt)),
+                            (bind_spells number_field (λ seat a. bind_spells number_field (λ cpu b. bind_spells number_field (λ state c. bind_spells number_field (λ inst d. bind_spells direction_field (λ dir u. mapped_spells (λ h. Call seat cpu state inst dir h) how_spells (λ h f. (refl, ((a, b, c, d, f), tt)))))))), tt),
                           ),
                         ),
                       ),

@@ -8,40 +8,40 @@ use hp_states::find_word;
 /// The first word of an event's line, which says what kind of event it is.
 #[derive(Clone, Copy)]
 pub enum EventWord {
-    Admit,
-    Leave,
     Enter,
-    Refused,
-    Walk,
-    Call,
-    Walked,
     Done,
-    Reg,
-    Regged,
+    Walked,
+    Walk,
+    Refused,
     Lock,
     Unlock,
-    Armed,
+    Reg,
+    Regged,
     Shown,
+    Armed,
     Wakeup,
+    Admit,
+    Leave,
+    Call,
 }
 
-/// The first words of event lines, each with what it says.
+/// The first words of event lines, each with what it says; those of which a journal has most stand first.
 const EVENT_WORDS: [(&'static [u8], EventWord); 15] = [
-    (b"admit", EventWord::Admit),
-    (b"leave", EventWord::Leave),
     (b"enter", EventWord::Enter),
-    (b"refused", EventWord::Refused),
-    (b"walk", EventWord::Walk),
-    (b"call", EventWord::Call),
-    (b"walked", EventWord::Walked),
     (b"done", EventWord::Done),
-    (b"reg", EventWord::Reg),
-    (b"regged", EventWord::Regged),
+    (b"walked", EventWord::Walked),
+    (b"walk", EventWord::Walk),
+    (b"refused", EventWord::Refused),
     (b"lock", EventWord::Lock),
     (b"unlock", EventWord::Unlock),
-    (b"armed", EventWord::Armed),
+    (b"reg", EventWord::Reg),
+    (b"regged", EventWord::Regged),
     (b"shown", EventWord::Shown),
+    (b"armed", EventWord::Armed),
     (b"wakeup", EventWord::Wakeup),
+    (b"admit", EventWord::Admit),
+    (b"leave", EventWord::Leave),
+    (b"call", EventWord::Call),
 ];
 
 /// Which first word of an event's line a word is.
