@@ -1,5 +1,6 @@
 pub mod Numbers
 pub mod Pieces
+pub mod Pairs
 pub mod LastKey
 pub mod Places
 pub mod Events

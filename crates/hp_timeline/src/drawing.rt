@@ -17,12 +17,11 @@ use crate::scene::{Scene, span_of_begun};
 use crate::sheet::Sheet;
 use crate::span::{Class, Span};
 use crate::span_text::append_span;
-use crate::text::append_with;
+use crate::text::{append, append_with};
 use crate::track::{Track, follow};
 use crate::window::Window;
 use hp_event::{Event, Head, Journal};
 use hp_states::NoMemory;
-use hp_text::append;
 use std::alloc::{AllocError, Global};
 
 /// The processor that walks, or that an entry is of.
@@ -115,7 +114,8 @@ fn advance(
     }
 }
 
-/// Appends something that lasts, where there is something.
+/// Appends something that lasts, where there is something. Most events end nothing.
+#[inline(always)]
 fn append_some(
     out: &mut Vec<u8>,
     sheet: &Sheet,

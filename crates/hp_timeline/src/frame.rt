@@ -7,10 +7,9 @@ ghost use Rattle.hp_timeline.specs.Sheet.{HasFewClients};
 ghost use Rattle.hp_timeline.specs.Frame.{size_text, lane_style, span_style, mark_style, heading_text, mark_legend, span_legend, tick_count as tick_count_of, tenth as tenth_of, tick_line, tick_name, tick_text, ticks_text, lane_box, absence, lane_name, lane_text, seat_text, opening_text, lanes_text, frame_text};
 
 use crate::sheet::{Sheet, lane_top};
-use crate::text::append_with;
+use crate::text::{append, append_with};
 use crate::window::Window;
 use hp_event::Head;
-use hp_text::append;
 use std::alloc::AllocError;
 
 /// Appends the beginning of the file: the size of the sheet.

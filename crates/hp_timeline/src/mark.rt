@@ -1,6 +1,6 @@
 //! The mark of an entry.
 
-ghost use Rattle.std.specs.Prelude.{◌<◌, OnOk, length, slice_get};
+ghost use Rattle.std.specs.Prelude.{◌<◌, ◌++◌, OnOk, length, slice_get};
 ghost use Rattle.std.specs.List.{flat_map};
 ghost use Rattle.hp_text.specs.Appends.{Appends};
 ghost use Rattle.hp_timeline.specs.Spans.{numbered};
@@ -8,11 +8,10 @@ ghost use Rattle.hp_timeline.specs.Marks.{marked, shape, how_word, mark_text};
 
 use crate::sheet::height;
 use crate::span_text::append_numbered;
-use crate::text::append_with;
+use crate::text::{append, append_with};
 use crate::window::Window;
 use hp_event::{Event, How};
 use hp_states::Dir;
-use hp_text::append;
 use std::alloc::AllocError;
 
 /// The mark of an entry.
@@ -50,6 +49,21 @@ fn append_how(out: &mut Vec<u8>, how: How) -> Result<(), AllocError>
     }
 }
 
+/// Appends the shape of a mark and the word that says how its entry was made. Most ran and were ok, and those go in one
+/// piece.
+fn append_made(out: &mut Vec<u8>, dir: Dir, how: How) -> Result<(), AllocError>
+    ensures { OnOk result (Appends out.old out.new (shape dir ++ how_word how)) }
+{
+    match (dir, how) {
+        (Dir::Up, How::RanOk) => append(out, b"m0-12l12 24h-24z' class='ok'><title>"),
+        (Dir::Down, How::RanOk) => append(out, b"m0 12l12-24h-24z' class='ok'><title>"),
+        _ => {
+            append_shape(out, dir)?;
+            append_how(out, how)
+        }
+    }
+}
+
 /// Appends the mark of an entry, which is the event of a place.
 #[tactic(auto, unfolding(crate::specs::Marks::mark_text))]
 fn append_entry(
@@ -62,8 +76,7 @@ fn append_entry(
 {
     append_with(out, b"<path d='M", window.middle(mark.place))?;
     append_with(out, b" ", height(mark.cpu, mark.state))?;
-    append_shape(out, mark.dir)?;
-    append_how(out, mark.how)?;
+    append_made(out, mark.dir, mark.how)?;
     append_numbered(out, events, mark.place)?;
     append(out, b"</title></path>\n")
 }

@@ -1,17 +1,17 @@
 //! How what lasts is drawn.
 
-ghost use Rattle.std.specs.Prelude.{◌≡◌, OnOk, slice_get};
+ghost use Rattle.std.specs.Prelude.{◌≡◌, ◌++◌, OnOk, slice_get, codes, decimal};
 ghost use Rattle.hp_text.specs.Appends.{Appends};
 ghost use Rattle.hp_timeline.specs.Sheet.{HasFewClients};
 ghost use Rattle.hp_timeline.specs.Spans.{row_top as row_top_of, row_height, row_word, class_word, numbered, title_text, words_text, label_by, span_from, span_width, box_text, fill_text, span_text};
 
 use crate::sheet::{Sheet, lane_top};
 use crate::span::{Class, Row, Span};
-use crate::text::{append_decimal, append_with};
+use crate::text::{append, append_with};
 use crate::window::Window;
 use hp_event::{Event, Op};
 use hp_print::append_event;
-use hp_text::{append, append_op};
+use hp_text::append_op;
 use std::alloc::AllocError;
 
 impl Row {
@@ -27,42 +27,45 @@ impl Row {
             Row::Section(seat) => sheet.seat_top(seat) + 93,
         }
     }
-
-    /// How high what stands in it is.
-    #[tactic(auto, unfolding(crate::specs::Spans::row_height))]
-    fn height(self) -> usize
-        ensures { result ≡ row_height self }
-    {
-        match self {
-            Row::Processor(_) => 220,
-            Row::Operations(_) => 78,
-            Row::Section(_) => 18,
-        }
-    }
 }
 
-/// Appends the word of a row.
-fn append_row_word(out: &mut Vec<u8>, row: Row) -> Result<(), AllocError>
-    ensures { OnOk result (Appends out.old out.new (row_word row)) }
+/// Appends how high what stands in a row is.
+#[tactic(auto, unfolding(crate::specs::Spans::row_height))]
+fn append_height(out: &mut Vec<u8>, row: Row) -> Result<(), AllocError>
+    ensures { OnOk result (Appends out.old out.new
+        (codes "' height='" ++ (decimal (row_height row) ++ codes "'><title>"))) }
 {
     match row {
-        Row::Processor(_) => append(out, b"walk"),
-        Row::Operations(_) => append(out, b"bar"),
-        Row::Section(_) => append(out, b"section"),
+        Row::Processor(_) => append(out, b"' height='220'><title>"),
+        Row::Operations(_) => append(out, b"' height='78'><title>"),
+        Row::Section(_) => append(out, b"' height='18'><title>"),
     }
 }
 
-/// Appends the word that says how something ended.
+/// Appends the word of a row, and what stands before it.
+fn append_row_word(out: &mut Vec<u8>, row: Row) -> Result<(), AllocError>
+    ensures { OnOk result (Appends out.old out.new
+        (codes "</title><rect class='" ++ (row_word row ++ codes " "))) }
+{
+    match row {
+        Row::Processor(_) => append(out, b"</title><rect class='walk "),
+        Row::Operations(_) => append(out, b"</title><rect class='bar "),
+        Row::Section(_) => append(out, b"</title><rect class='section "),
+    }
+}
+
+/// Appends the word that says how something ended, and what stands behind it.
 fn append_class(out: &mut Vec<u8>, class: Class) -> Result<(), AllocError>
-    ensures { OnOk result (Appends out.old out.new (class_word class)) }
+    ensures { OnOk result (Appends out.old out.new
+        (class_word class ++ codes "' width='100%' height='100%'/>")) }
 {
     match class {
-        Class::Done => append(out, b"ok"),
-        Class::Refused => append(out, b"refused"),
-        Class::Faulted => append(out, b"fault"),
-        Class::Stuck => append(out, b"stuck"),
-        Class::Full => append(out, b"full"),
-        Class::Going => append(out, b"going"),
+        Class::Done => append(out, b"ok' width='100%' height='100%'/>"),
+        Class::Refused => append(out, b"refused' width='100%' height='100%'/>"),
+        Class::Faulted => append(out, b"fault' width='100%' height='100%'/>"),
+        Class::Stuck => append(out, b"stuck' width='100%' height='100%'/>"),
+        Class::Full => append(out, b"full' width='100%' height='100%'/>"),
+        Class::Going => append(out, b"going' width='100%' height='100%'/>"),
     }
 }
 
@@ -72,7 +75,7 @@ pub fn append_numbered(out: &mut Vec<u8>, events: &[Event], place: u32) -> Resul
 {
     let at = place as usize;
     if at < events.len() {
-        append_decimal(out, at + 1)?;
+        append_with(out, b"", at + 1)?;
         append(out, b": ")?;
         append_event(out, &events[at])?;
     }
@@ -136,8 +139,7 @@ fn append_box(out: &mut Vec<u8>, sheet: &Sheet, span: Span) -> Result<(), AllocE
     append_with(out, b"<svg x='", left_of(sheet.window, span))?;
     append_with(out, b"' y='", span.row.top(sheet))?;
     append_with(out, b"' width='", width_of(sheet.window, span))?;
-    append_with(out, b"' height='", span.row.height())?;
-    append(out, b"'><title>")
+    append_height(out, span.row)
 }
 
 /// Appends what fills that box.
@@ -145,14 +147,12 @@ fn append_box(out: &mut Vec<u8>, sheet: &Sheet, span: Span) -> Result<(), AllocE
 fn append_fill(out: &mut Vec<u8>, span: Span) -> Result<(), AllocError>
     ensures { OnOk result (Appends out.old out.new (fill_text span)) }
 {
-    append(out, b"</title><rect class='")?;
     append_row_word(out, span.row)?;
-    append(out, b" ")?;
-    append_class(out, span.class)?;
-    append(out, b"' width='100%' height='100%'/>")
+    append_class(out, span.class)
 }
 
 /// Appends something that lasts.
+#[inline(never)]
 #[tactic(auto, unfolding(crate::specs::Spans::span_text))]
 pub fn append_span(
     out: &mut Vec<u8>,

@@ -1,24 +1,154 @@
-//! Numbers of the sheet, appended to a buffer.
+//! The pieces of the picture's text, appended to a buffer: bytes, and numbers between bytes.
+//!
+//! A piece asks for its room once. For the pushes the buffer is taken out of its place, so that no byte that is pushed
+//! can be one of the buffer's own fields: a short piece then goes in by a few words, and not byte by byte.
 
-ghost use Rattle.std.specs.Prelude.{◌++◌, decimal, OnOk};
+ghost use Rattle.std.specs.Prelude.{◌≡◌, ◌+◌, ◌/◌, ◌%◌, ◌<◌, ◌≤◌, ◌++◌, ◌∷◌, [], decimal, length, OnOk, vec_len, vec_capacity};
 ghost use Rattle.hp_text.specs.Appends.{Appends};
 
-use hp_text::append;
 use itoa::Buffer;
 use std::alloc::AllocError;
+use std::mem::{forget, replace};
 
-/// Appends a number, without a space before it.
-pub fn append_decimal(out: &mut Vec<u8>, number: usize) -> Result<(), AllocError>
-    ensures { OnOk result (Appends out.old out.new (decimal number)) }
+/// The digits of the numbers below 100, two for each.
+static PAIRS: [u8; 200] =
+    *b"00010203040506070809101112131415161718192021222324252627282930313233343536373839404142434445464748495051525354555657585960616263646566676869707172737475767778798081828384858687888990919293949596979899";
+
+/// Numbers below this one have at most `DIGITS` digits.
+const LONG: usize = 1_000_000;
+
+const DIGITS: usize = 6;
+
+/// Pushes bytes for which there is room.
+#[inline(always)]
+fn push(out: &mut Vec<u8>, bytes: &[u8])
+    requires { vec_len out.old + length bytes.now ≤ vec_capacity out.old }
+    ensures text { Appends out.old out.new bytes.now }
+    ensures many { vec_len out.new ≡ vec_len out.old + length bytes.now }
+    ensures room { vec_capacity out.new ≡ vec_capacity out.old }
+{
+    for byte in bytes {
+        out.push_reserved(*byte);
+    }
+}
+
+/// Pushes the two digits of a number below 100, of which the first may be 0.
+#[inline(always)]
+#[tactic(auto, using(crate::proofs::Pairs::pair_at))]
+fn push_pair(out: &mut Vec<u8>, number: u32)
+    requires below { number < 100 }
+    requires room { vec_len out.old + 2 ≤ vec_capacity out.old }
+    ensures text { Appends out.old out.new ((48 + number / 10) ∷ (48 + number % 10) ∷ []) }
+    ensures many { vec_len out.new ≡ vec_len out.old + 2 }
+    ensures room { vec_capacity out.new ≡ vec_capacity out.old }
+{
+    let at = 2 * number as usize;
+    push(out, &[PAIRS[at], PAIRS[at + 1]]);
+}
+
+/// Pushes a number below 100.
+#[inline(always)]
+#[tactic(auto, using(std::proofs::lemmas::Fmt::decimal_digit, crate::proofs::Pairs::two_digits))]
+fn push_first(out: &mut Vec<u8>, number: u32)
+    requires below { number < 100 }
+    requires room { vec_len out.old + 2 ≤ vec_capacity out.old }
+    ensures text { Appends out.old out.new (decimal number) }
+    ensures many { vec_len out.new ≤ vec_len out.old + 2 }
+    ensures room { vec_capacity out.new ≡ vec_capacity out.old }
+{
+    if number < 10 {
+        push(out, &[b'0' + number as u8]);
+    } else {
+        push_pair(out, number);
+    }
+}
+
+/// Pushes a number below 10,000.
+#[inline(always)]
+fn push_few(out: &mut Vec<u8>, number: u32)
+    requires below { number < 10000 }
+    requires room { vec_len out.old + 4 ≤ vec_capacity out.old }
+    ensures text { Appends out.old out.new (decimal number) }
+    ensures many { vec_len out.new ≤ vec_len out.old + 4 }
+    ensures room { vec_capacity out.new ≡ vec_capacity out.old }
+{
+    if number < 100 {
+        push_first(out, number);
+    } else {
+        push_first(out, number / 100);
+        push_pair(out, number % 100);
+    }
+}
+
+/// Pushes a number of at most `DIGITS` digits.
+#[inline(always)]
+fn push_decimal(out: &mut Vec<u8>, number: u32)
+    requires below { number < LONG }
+    requires room { vec_len out.old + DIGITS ≤ vec_capacity out.old }
+    ensures text { Appends out.old out.new (decimal number) }
+    ensures many { vec_len out.new ≤ vec_len out.old + DIGITS }
+    ensures room { vec_capacity out.new ≡ vec_capacity out.old }
+{
+    if number < 10000 {
+        push_few(out, number);
+    } else {
+        push_first(out, number / 10000);
+        push_pair(out, number % 10000 / 100);
+        push_pair(out, number % 10000 % 100);
+    }
+}
+
+/// Appends bytes, and behind them a number that isn't below `LONG`.
+#[inline(never)]
+fn append_long(out: &mut Vec<u8>, bytes: &[u8], number: usize) -> Result<(), AllocError>
+    ensures { OnOk result (Appends out.old out.new (bytes.now ++ decimal number)) }
 {
     let mut buffer = Buffer::new();
+    out.extend_from_slice(bytes)?;
     out.extend_from_slice(buffer.format(number).as_bytes())
 }
 
-/// Appends some bytes, and a number behind them.
+/// Takes a buffer out of its place, where an empty one stands meanwhile.
+#[inline(always)]
+fn take_out(out: &mut Vec<u8>) -> Vec<u8>
+    ensures { result ≡ out.old }
+{
+    let alloc = *out.allocator();
+    replace(out, Vec::new(alloc))
+}
+
+/// Puts it back.
+#[inline(always)]
+fn put_back(out: &mut Vec<u8>, text: Vec<u8>)
+    ensures { out.new ≡ text }
+{
+    forget(replace(out, text));
+}
+
+/// Appends bytes.
+#[inline(always)]
+pub fn append(out: &mut Vec<u8>, bytes: &[u8]) -> Result<(), AllocError>
+    ensures { OnOk result (Appends out.old out.new bytes.now) }
+{
+    out.reserve(bytes.len())?;
+    let mut text = take_out(out);
+    push(&mut text, bytes);
+    put_back(out, text);
+    Ok(())
+}
+
+/// Appends bytes, and a number behind them.
+#[inline(always)]
 pub fn append_with(out: &mut Vec<u8>, bytes: &[u8], number: usize) -> Result<(), AllocError>
     ensures { OnOk result (Appends out.old out.new (bytes.now ++ decimal number)) }
 {
-    append(out, bytes)?;
-    append_decimal(out, number)
+    if number >= LONG {
+        return append_long(out, bytes, number);
+    }
+    out.reserve(bytes.len() + DIGITS)?;
+    let mut text = take_out(out);
+    push(&mut text, bytes);
+    push_decimal(&mut text, number as u32);
+    put_back(out, text);
+    Ok(())
 }

@@ -1,0 +1,10 @@
+use Rattle.std.proofs.Common.{◌≡◌, ◌+◌, ◌++◌, take}
+use Rattle.std.specs.Prelude.{vec_len, vec_capacity}
+use Rattle.hp_timeline.proofs.text.push.Given as goal
+
+abbrev pub invariant-loop-byte : goal.invariant-loop-byte
+invariant-loop-byte l = record {
+  text : l.out.items ≡ l.initial.out.items ++ take l.byte-index l.bytes;
+  many : vec_len l.out ≡ vec_len l.initial.out + l.byte-index;
+  room : vec_capacity l.out ≡ vec_capacity l.initial.out;
+}
