@@ -5,6 +5,7 @@ pub mod AskAgain
 pub mod HooksCounted
 pub mod Complete
 pub mod Loans
+pub mod Following
 pub mod KeptOut
 pub mod Below
 pub mod LentEntries

@@ -1,5 +1,5 @@
 -- A hook that is lent: what is out then, and what is lent.
-use Rattle.std.proofs.Common.{◌≡◌, ◌≢◌, ℕ, Bool, true, false, ◌||◌, eqb, IsSome, cond, Option, Some, None, refl, ap, sym, ◌∙◌, subst}
+use Rattle.std.proofs.Common.{◌≡◌, ◌≢◌, ℕ, Bool, true, false, ◌||◌, ◌&&◌, eqb, IsSome, cond, Option, Some, None, refl, ap, sym, ◌∙◌, subst}
 use Rattle.std.proofs.lemmas.Bool.{true≢false, eq-eqb, ne_eqb, and_parts}
 use Rattle.hp_states.proofs.Basics.{or_true}
 use mathlib.Core.Logic.{dite}
@@ -88,6 +88,12 @@ put_other old new c d put apart = put d ∙ ap (λ z. z || has old d) (ne_eqb d 
 
 home_here : (b : Contents) (by : ℕ) (x : Entry) → CanLend b by x → is_home (step_at b.places x.key.state) ≡ true
 home_here b by x can = ap is_home can.there ∙ can.home
+
+-- so it is lent where it is asked for
+pub can_lend_to : (b : Contents) (by : ℕ) (x : Entry) → CanLend b by x → can_lend (due_entry b.head b.events by) b.places ≡ true
+can_lend_to b by x can =
+    ap (λ e. can_lend e b.places) can.due
+    ∙ (ap (λ t. t && is_home (step_at b.places x.key.state)) (asks_hook b.head b.events x ∙ ap is_hook can.made_by) ∙ home_here b by x can)
 
 -- a hook that is away is at another state
 apart_from : (b : Contents) (by : ℕ) (x : Entry) (s : ℕ) → CanLend b by x → is_home (step_at b.places s) ≡ false → x.key.state ≢ s

@@ -6,16 +6,16 @@ ghost use Rattle.hp_account.specs.UnderWay.{IsNextDue, NoneDueFrom, IsNextThread
 ghost use Rattle.hp_model.specs.ApTurn.{IsApTurn};
 ghost use Rattle.hp_model.specs.Lists.{among};
 ghost use Rattle.hp_model.specs.MapLock.{Operation, operation};
-ghost use Rattle.hp_model.specs.Net.{keys_in_force};
+ghost use Rattle.hp_model.specs.Net.{is_key_in_force, keys_in_force};
 ghost use Rattle.hp_model.specs.Registrations.{Registration, registration};
 ghost use Rattle.hp_model.specs.Seats.{is_busy};
 ghost use Rattle.hp_model.specs.Settled.{settled, is_online};
 ghost use Rattle.hp_model.specs.Suspend.{disabled, frozen};
 
-use hp_event::{Journal, Keys};
+use hp_called::Called;
+use hp_event::{Journal, Key, Keys};
 use hp_hook::Hook;
 use hp_machine::Machine;
-use hp_model::net_of;
 use hp_states::{NoMemory, TEARDOWN_CPU};
 use std::marker::Model;
 
@@ -25,21 +25,28 @@ use std::marker::Model;
 /// the processors that hooks are lent for (`Contents`). Its journal is lawful at any time; what stands at a
 /// state is what the journal has registered there, and of a registration in flight what it adds; and each
 /// hook has counted the calls of the journal since the setup that registered it began. A hook that is lent
-/// is that of an entry that is due of one of these processors; two of them are lent hooks of two states.
+/// is that of an entry that is due of one of these processors; two of them are lent hooks of two states. Beside
+/// the machine it keeps the called set, which is that of its journal at any time: which keys are in force on
+/// which processors.
 #[derive(Drop)]
 pub struct Board<H: Hook> {
     pub(crate) machine: Machine<H>,
+    pub(crate) called: Called,
 }
 
 impl<H: Hook> Model for Board<H> {
     ghost use Rattle.hp_board.specs.Loans.{AreOut};
+    ghost use Rattle.hp_called.specs.Called.{IsCalled};
     ghost use Rattle.hp_machine.specs.Contents.{Contents};
 
     ghost Value = { Contents };
 
     ghost view = { λ b. b.machine };
 
-    ghost invariant = { λ b. AreOut b.machine };
+    ghost invariant = { λ b. record {
+      out : AreOut b.machine;
+      called : IsCalled b.machine.head b.machine.events b.called;
+    } };
 }
 
 impl<H: Hook> Board<H> {
@@ -161,14 +168,24 @@ impl<H: Hook> Board<H> {
         self.machine.is_frozen(cpu)
     }
 
+    /// Whether a key is in force on a processor: more of its upward entries than of its downward ones are done there.
+    ///
+    /// Any number may be asked for, and any key: one that isn't registered, nor being added, is in force nowhere, and
+    /// nothing is on a number that is no processor's. Takes no memory, and a time that doesn't grow with the journal or
+    /// the keys. That a key is in force is this project's own.
+    pub fn in_force(&self, cpu: u32, key: Key) -> bool
+        ensures { result ≡ is_key_in_force cpu self.now.events key }
+    {
+        self.called.has(key, cpu)
+    }
+
     /// The keys that are in force on a processor, in rising order.
     ///
-    /// Takes a time that grows with the journal, and memory for the keys; where there is none:
-    /// `NoMemory`. That a key is in force is this project's own.
+    /// Takes memory for the list; where there is none: `NoMemory`. Takes time for the keys that are registered, and to put
+    /// those of the list in order, and none for the journal. That a key is in force is this project's own.
     pub fn net(&self, cpu: u32) -> Result<Keys, NoMemory>
         ensures { IfOk result (λ keys. keys ≡ keys_in_force cpu self.now.events) }
     {
-        let journal = self.machine.journal();
-        net_of(journal.allocator(), journal, cpu)
+        self.called.keys(self.machine.journal().allocator(), cpu)
     }
 }

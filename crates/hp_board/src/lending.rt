@@ -12,6 +12,7 @@ ghost use Rattle.hp_machine.specs.Lent.{step_of, IsPut, IsTaken};
 
 use crate::board::Board;
 use crate::loan::{Back, Loan};
+use crate::making::make_answered;
 use hp_account::{Entry, MadeBy};
 use hp_hook::Hook;
 use hp_states::MAX_CPU_SET;
@@ -117,7 +118,7 @@ impl<H: Hook> Board<H> {
         match self.machine.due(by) {
             Some(entry) => {
                 let at = self.machine.journal().len();
-                self.machine.make_answered(&entry, hook, answer);
+                make_answered(&mut self.machine, &mut self.called, &entry, hook, answer);
                 at
             }
             None => unreachable!(),

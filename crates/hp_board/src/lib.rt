@@ -7,7 +7,8 @@
 //! once for each entry that the journal says was called, and are handed back as they stood. `lend` lends the
 //! hook of an entry that is due, to be called outside, and `give` makes the entry by its answer; in an upmany
 //! several hooks are out at once, each for another processor and of another state. `retire` gives the board
-//! up for its journal and its hooks.
+//! up for its journal and its hooks. `in_force` and `net` say what is in force on a processor, without a look at the
+//! journal: the board keeps the called set step by step.
 //!
 //! Contracts see the head, the events, what stands at each state, and the processors that hooks are lent for
 //! (`specs/Contents.antt`). `Turns.antt` says what a turn makes of them, by hp_model's `next_event`, `due_entry`
@@ -24,6 +25,7 @@ mod hook_laws;
 mod laws;
 mod lending;
 mod loan;
+mod making;
 mod retiring;
 mod sound;
 mod start;

@@ -38,8 +38,9 @@ impl<H: Hook> Board<H> {
         if rack.hooks.try_reserve(STATES).is_err() {
             return Err((NoMemory, self));
         }
-        self.machine.sound();
-        let (journal, table) = self.machine.into_parts();
+        let Board { machine, .. } = self;
+        machine.sound();
+        let (journal, table) = machine.into_parts();
         move_hooks(table, &mut rack.hooks);
         Ok(journal)
     }

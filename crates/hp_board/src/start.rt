@@ -5,6 +5,7 @@ ghost use Rattle.hp_board.specs.Starts.{head_of, IsStarted, IsStartRefusal, refu
 ghost use Rattle.hp_model.specs.Heads.{IsHead, IsSub};
 
 use crate::board::Board;
+use hp_called::Called;
 use hp_event::{Head, Numbers, Subs};
 use hp_hook::Hook;
 use hp_machine::{HeadFault, Machine, head_fault};
@@ -64,7 +65,8 @@ impl<H: Hook> Board<H> {
     /// - `TooManySubs` where there are more than `MAX_SUBS` subsystems.
     /// - `NoMemory` where none of these holds and memory was wanting.
     ///
-    /// Takes memory for the table's 201 places and for some places for each processor. The processor that
+    /// Takes memory for the table's 201 places, for some places for each processor, and for a fixed number of guesses where
+    /// keys are. The processor that
     /// boots is that of `boot_cpu_init` of `kernel/cpu.c`; the limits are this project's own.
     pub fn start(alloc: Global, plan: CpuPlan, subs: Subs) -> Result<Board<H>, StartError>
         requires { All IsSub subs }
@@ -93,6 +95,7 @@ fn begin<H: Hook>(alloc: Global, head: Head) -> Result<Board<H>, NoMemory>
     requires { IsHead head }
     ensures { IfOk result (IsStarted head) }
 {
+    let called = Called::new(alloc)?;
     let machine = Machine::start(alloc, head)?;
-    Ok(Board { machine })
+    Ok(Board { machine, called })
 }

@@ -16,6 +16,7 @@ ghost use Rattle.hp_board.specs.Meeting.{ArmsBeside, IsOutInWalk, NoneOutInWalk,
 ghost use Rattle.hp_machine.specs.StandsNext.{due_of};
 
 use crate::board::Board;
+use crate::making::{make, make_entry};
 use hp_account::Entry;
 use hp_event::{Answer, Event, Op};
 use hp_hook::Hook;
@@ -87,12 +88,18 @@ impl<H: Hook> Board<H> {
                     return Ok(Turn::NotYet(Why::HookOut(state)));
                 }
                 let at = self.machine.journal().len();
-                self.machine.make(&event, need, &mut ask.hook)?;
+                make(
+                    &mut self.machine,
+                    &mut self.called,
+                    &event,
+                    need,
+                    &mut ask.hook,
+                )?;
                 Ok(turn_of(&event, at))
             }
             Next::Entry(entry) => {
                 let at = self.machine.journal().len();
-                self.machine.make_entry(&entry);
+                make_entry(&mut self.machine, &mut self.called, &entry);
                 Ok(Turn::Made { at })
             }
             Next::Full => Ok(Turn::Answered {
@@ -233,7 +240,7 @@ impl<H: Hook> Board<H> {
                     return Turn::NotYet(Why::HookOut(entry.key.state));
                 }
                 let at = self.machine.journal().len();
-                self.machine.make_entry(&entry);
+                make_entry(&mut self.machine, &mut self.called, &entry);
                 Turn::Made { at }
             }
             None => Turn::NotYet(Why::Idle),

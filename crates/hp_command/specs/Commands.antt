@@ -1,21 +1,25 @@
 -- The commands, by the words that ask for them. This project's own.
 use Rattle.std.specs.Prelude.{◌≡◌, ◌≢◌, ◌⊎◌, ℕ, List, [], ◌∷◌, codes}
 use Rattle.hp_command.specs.Options.{AreOptions}
+use Rattle.hp_command.specs.Counting.{AreCounting}
 use Rattle.hp_command.specs.declared.command.Command.{Command}
-use Rattle.hp_command.specs.declared.command.Command.TheVariants.{Play, States, Replay, Gen, Bench}
+use Rattle.hp_command.specs.declared.command.Command.TheVariants.{Play, States, Report, Replay, Gen, Bench, Count}
 
 -- the first word of a command
 abbrev pub word_of : Command → List ℕ
 word_of Play = codes "play"
 word_of States = codes "states"
+word_of Report = codes "report"
 word_of Replay = codes "replay"
 word_of (Gen options) = codes "gen"
 word_of (Bench options) = codes "bench"
+word_of (Count counting) = codes "count"
 
--- the words behind it: options for a generated script, and none else
+-- the words behind it: options for a generated script, a state and a batch for a count, and none else
 abbrev pub AreRest : Command → (rest : List (List ℕ)) → Type 0
 AreRest (Gen options) rest = AreOptions rest options
 AreRest (Bench options) rest = AreOptions rest options
+AreRest (Count counting) rest = AreCounting rest counting
 AreRest _ rest = rest ≡ []
 
 -- the words, after the program's name, are those of the command
@@ -39,4 +43,5 @@ AreOneCommand words = (one other : Command) → IsCommand words one → IsComman
 
 -- a word isn't that of a command without options
 abbrev pub IsNoLoneCommand : (word : List ℕ) → Type 0
-IsNoLoneCommand word = (word ≢ codes "play") × (word ≢ codes "states") × (word ≢ codes "replay")
+IsNoLoneCommand word =
+    (word ≢ codes "play") × (word ≢ codes "states") × (word ≢ codes "report") × (word ≢ codes "replay")

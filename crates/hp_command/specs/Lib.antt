@@ -1,3 +1,4 @@
 pub mod Options
+pub mod Counting
 pub mod Commands
 pub mod TextsFound

@@ -3,6 +3,7 @@
 ghost use Rattle.std.specs.Prelude.{IfOk, IfErr, IfSome, IfNone, [], ◌∷◌, map, string_bytes};
 ghost use Rattle.hp_command.specs.Commands.{AreNoCommand, HasOptions, IsCommand, IsNoLoneCommand};
 
+use crate::counting::{Counting, counting_of};
 use crate::options::{Options, options_of};
 use hp_states::NoMemory;
 use std::alloc::Global;
@@ -14,12 +15,16 @@ pub enum Command {
     Play,
     /// The states file after a script.
     States,
+    /// The report of the journal of a script.
+    Report,
     /// The summary of a journal.
     Replay,
     /// A generated script.
     Gen(Options),
     /// The summary of the journal of a generated script.
     Bench(Options),
+    /// The counters of a state that went through the journal of a script.
+    Count(Counting),
 }
 
 /// The command that this one word asks for, if it is one without options.
@@ -33,6 +38,9 @@ fn lone(word: &str) -> Option<Command>
     if word == "states" {
         return Some(Command::States);
     }
+    if word == "report" {
+        return Some(Command::Report);
+    }
     if word == "replay" {
         return Some(Command::Replay);
     }
@@ -41,10 +49,11 @@ fn lone(word: &str) -> Option<Command>
 
 /// The command that the words after the program's name ask for, if they ask for one.
 ///
-/// `play`, `states` and `replay` are that one word. `gen` and `bench` are that word and then options,
+/// `play`, `states`, `report` and `replay` are that one word. `gen` and `bench` are that word and then options,
 /// in any order and each at most once: `--seed V` as two words or `--seed=V` as one, where V is 0 to
 /// 18446744073709551615, and 1 where it is left out; and `--size V` or `--size=V`, where V is 1 to
-/// 1,000, and 100 where it is left out. A value is decimal digits, without a sign and without a zero
+/// 1,000, and 100 where it is left out. `count` is that word and then a state, 1 to 198, and a batch, 1
+/// to 1,000,000. A value is decimal digits, without a sign and without a zero
 /// before others. All other words ask for nothing, `--help` too, and so does a list with a word that
 /// is exactly `--`. This is the project's own.
 ///
@@ -65,6 +74,9 @@ pub fn command_of(alloc: Global, words: &[String]) -> Result<Option<Command>, No
     if word == "bench" {
         let options = options_of(alloc, rest)?;
         return Ok(options.map(Command::Bench));
+    }
+    if word == "count" {
+        return Ok(counting_of(rest).map(Command::Count));
     }
     if rest.is_empty() {
         Ok(lone(word))

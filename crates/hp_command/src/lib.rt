@@ -8,12 +8,14 @@
 #![tactic(auto)]
 
 mod command;
+mod counting;
 mod law;
 mod number;
 mod options;
 mod texts;
 
 pub use command::{Command, command_of};
+pub use counting::Counting;
 pub use law::words_determine_the_command;
 pub use number::number_of;
 pub use options::Options;

@@ -17,6 +17,7 @@ use Rattle.hp_account.proofs.under_way.NextStep.TheSendSync as NextStep'
 use Rattle.hp_account.specs.contracts.under_way.NextStep
 use Rattle.hp_board.specs.contracts.board.Board
 use Rattle.hp_board.specs.contracts.board.Board.TheInside as BoardInside
+use Rattle.hp_called.proofs.called.Called.TheSendSync as Called'
 use Rattle.hp_event.proofs.journal.Journal.TheSendSync as Journal'
 use Rattle.hp_hook.specs.declared.hook.Hook
 use Rattle.hp_live.specs.contracts.live.Live
@@ -93,7 +94,7 @@ module _ (T : RattleType.RattleType) where
     pub board_send : Send.IsSend T → Send.IsSend (Board.the_row T g)
     board_send = λ s. Send.view_send (BoardInside.the_row T g) _ _ _ _
         (Send.recorded_send (BoardInside.the_field T g).row _ _ (BoardInside.the_type T g).to_one
-        (Send.struct_send (Declared.shape (BoardInside.the_type T g)) (machine_send s, tt)))
+        (Send.struct_send (Declared.shape (BoardInside.the_type T g)) (machine_send s, (Called'.the_field_send, tt))))
 
     pub live_send : Send.IsSend T → Send.IsSend (Live.the_row T g)
     live_send = λ s. Send.recorded_send (Live.the_field T g).row _ _ (Live.the_type T g).to_one

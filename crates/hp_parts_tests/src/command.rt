@@ -1,6 +1,6 @@
 //! Lists of words, and what they ask for by hp_command.
 
-use hp_command::{Command, Options, command_of};
+use hp_command::{Command, Counting, Options, command_of};
 use std::alloc::Global;
 use std::process::Abort;
 use std::test::Fail;
@@ -30,6 +30,10 @@ fn benched(seed: u64, size: u32) -> Option<Command> {
     Some(Command::Bench(Options { seed, size }))
 }
 
+fn counted(state: u32, batch: u32) -> Option<Command> {
+    Some(Command::Count(Counting { state, batch }))
+}
+
 #[test]
 fn commands(rt: HostRuntime) -> Result<(), Fail> {
     assert_commands(
@@ -51,6 +55,8 @@ fn commands(rt: HostRuntime) -> Result<(), Fail> {
             (&["bench"], benched(1, 100)),
             (&["bench", "--seed", "7", "--size", "2"], benched(7, 2)),
             (&["bench", "--size=1000"], benched(1, 1000)),
+            (&["count", "1", "1"], counted(1, 1)),
+            (&["count", "198", "1000000"], counted(198, 1_000_000)),
         ],
     )
 }
@@ -77,6 +83,17 @@ fn no_commands(rt: HostRuntime) -> Result<(), Fail> {
             (&["gen", "-h"], None),
             (&["bench", "--version"], None),
             (&["bench", "help"], None),
+            (&["count"], None),
+            (&["count", "120"], None),
+            (&["count", "120", "10", "1"], None),
+            (&["count", "0", "10"], None),
+            (&["count", "199", "10"], None),
+            (&["count", "120", "0"], None),
+            (&["count", "120", "1000001"], None),
+            (&["count", "120", "01"], None),
+            (&["count", "+120", "10"], None),
+            (&["count", "120", "4294967297"], None),
+            (&["count", "--", "120", "10"], None),
         ],
     )
 }

@@ -48,8 +48,10 @@ not_refused : (command : Command) (hooks : ℕ) (left now : Option (List ℕ)) (
     IsRefusedBy command hooks left now written → ⊥
 not_refused asks.Play hooks left now written has bad = no_bad_script hooks left now written has bad
 not_refused asks.States hooks left now written has bad = no_bad_script hooks left now written has bad
+not_refused asks.Report hooks left now written has bad = no_bad_script hooks left now written has bad
 not_refused asks.Replay hooks left now written has bad = bad
 not_refused (asks.Gen options) hooks left now written has bad = bad
+not_refused (asks.Count counting) hooks left now written has bad = no_bad_script hooks left now written has bad
 not_refused (asks.Bench options) hooks left now written has bad = let few = bad.few_hooks in omega (arith, has, few)
 
 -- the command that the words ask for is refused by no script

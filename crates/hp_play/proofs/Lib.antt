@@ -3,3 +3,4 @@ mod RackLaws
 mod Scripts
 mod Parts
 mod Accepting
+pub mod CountText

@@ -17,7 +17,8 @@ use Rattle.hp_script.proofs.PlayableScripts.{read_scripts_play}
 use Rattle.hp_play.specs.declared.stop.Stop.{Stop}
 use Rattle.hp_play.specs.declared.stop.Stop.TheVariants.{BadScript, BadJournal, ReadFault, NoMemory}
 use Rattle.hp_play.specs.Played.{counted_hooks}
-use Rattle.hp_play.specs.Stops.{AreInRange, HasRanges, Stops, Refuses}
+use Rattle.hp_play.specs.Ranges.{AreInRange}
+use Rattle.hp_play.specs.Stops.{HasRanges, Stops, Refuses}
 
 pub plays : (hooks : ℕ) (bytes : List ℕ) (script : Contents) → IsRead hooks bytes script → IsScript script.head script.actors
 plays hooks bytes script read = (read_scripts_play hooks bytes script read).plays
@@ -33,6 +34,7 @@ ranges words (asks.Gen options) is =
     (is.goes_on.said.seed_fits, is.goes_on.said.size_within.0, is.goes_on.said.size_within.1)
 ranges words (asks.Bench options) is =
     (is.goes_on.said.seed_fits, is.goes_on.said.size_within.0, is.goes_on.said.size_within.1)
+ranges words (asks.Count counting) is = (is.goes_on.state_within, is.goes_on.batch_within)
 ranges words command is = tt
 
 -- a generated script is refused for want of hooks alone

@@ -1,3 +1,5 @@
+pub mod CountLine
+pub mod Ranges
 pub mod Outputs
 pub mod Racks
 pub mod Played

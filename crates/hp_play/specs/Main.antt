@@ -25,7 +25,7 @@ use Rattle.hp_play.specs.Played.{IsPlayed, counted_hooks}
 use Rattle.hp_play.specs.Racks.{Racks, Stays}
 
 abbrev pub usage_line : List ℕ
-usage_line = codes "usage: hp play|replay|states|report|gen|bench [--seed N] [--size N]" ++ 10 ∷ []
+usage_line = codes "usage: hp play|replay|states|report|gen|bench|count [--seed N] [--size N] [STATE BATCH]" ++ 10 ∷ []
 
 -- ---- what is done
 
@@ -53,9 +53,11 @@ pub record IsBenchPlayed {H : Type 0} (seed size : ℕ) (rack : Racks H) (left n
 abbrev pub IsDoneBy : {H : Type 0} → Command → Racks H → (left now : Option (List ℕ)) (written : List ℕ) → Type 0
 IsDoneBy asks.Play rack left now written = IsScriptPlayed writes.Journal rack left now written
 IsDoneBy asks.States rack left now written = IsScriptPlayed writes.States rack left now written
+IsDoneBy asks.Report rack left now written = IsScriptPlayed writes.Report rack left now written
 IsDoneBy asks.Replay rack left now written = IsReplayed left now written
 IsDoneBy (asks.Gen options) rack left now written = (now ≡ left) × (written ≡ generated options.seed options.size)
 IsDoneBy (asks.Bench options) rack left now written = IsBenchPlayed options.seed options.size rack left now written
+IsDoneBy (asks.Count counting) rack left now written = IsScriptPlayed (writes.Count counting) rack left now written
 
 -- a command that plays no script
 abbrev pub PlaysNothing : Command → Type 0
@@ -84,9 +86,11 @@ pub record HoldsJournal (left : Option (List ℕ)) : Type 0 where
 abbrev pub HasInput : Command → (hooks : ℕ) (left : Option (List ℕ)) → Type 0
 HasInput asks.Play hooks left = HoldsScript hooks left
 HasInput asks.States hooks left = HoldsScript hooks left
+HasInput asks.Report hooks left = HoldsScript hooks left
 HasInput asks.Replay hooks left = HoldsJournal left
 HasInput (asks.Gen options) hooks left = Unit {0}
 HasInput (asks.Bench options) hooks left = 12 ≤ hooks
+HasInput (asks.Count counting) hooks left = HoldsScript hooks left
 
 -- ---- what is refused
 
@@ -111,7 +115,9 @@ pub record IsBadBench (seed size hooks : ℕ) (left now : Option (List ℕ)) (wr
 abbrev pub IsRefusedBy : Command → (hooks : ℕ) (left now : Option (List ℕ)) (written : List ℕ) → Type 0
 IsRefusedBy asks.Play hooks left now written = IsBadScript hooks left now written
 IsRefusedBy asks.States hooks left now written = IsBadScript hooks left now written
+IsRefusedBy asks.Report hooks left now written = IsBadScript hooks left now written
 IsRefusedBy (asks.Bench options) hooks left now written = IsBadBench options.seed options.size hooks left now written
+IsRefusedBy (asks.Count counting) hooks left now written = IsBadScript hooks left now written
 IsRefusedBy _ hooks left now written = ⊥
 
 -- the source holds no journal: this line is the first that can't stand, for this cause

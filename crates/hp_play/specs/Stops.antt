@@ -1,6 +1,5 @@
 -- Why no output is written, and what is so then. This project's own.
 use Rattle.std.specs.Prelude.{◌≡◌, ℕ, ◌+◌, ◌^◌, ◌<◌, ◌≤◌, Option, List}
-use Rattle.hp_states.specs.declared.limits.TheConstants.{MAX_GENERATED_SIZE}
 use Rattle.hp_command.specs.declared.command.Command.{Command}
 use Rattle.hp_command.specs.declared.command.Command.TheVariants as asks
 use Rattle.hp_script.specs.declared.error.ParseError.TheVariants.{Bad}
@@ -8,24 +7,25 @@ use Rattle.hp_script.specs.declared.error.ScriptKind.{ScriptKind}
 use Rattle.hp_script.specs.Judged.{IsRefused}
 use Rattle.hp_play.specs.declared.stop.Stop.{Stop}
 use Rattle.hp_play.specs.declared.stop.Stop.TheVariants.{BadScript, BadJournal, ReadFault, NoMemory}
+use Rattle.hp_play.specs.Ranges.{AreInRange, CanBeCounted}
 use Rattle.hp_play.specs.Main.{IsBadScript, IsBadJournal, IsRefusedBy}
 use Rattle.hp_play.specs.Played.{counted_hooks}
 use Rattle.hp_edge.specs.Refusals.{script_error_line}
 
--- the options of a command are in their ranges
-abbrev pub AreInRange : (seed size : ℕ) → Type 0
-AreInRange seed size = (seed < 2 ^ 64) × (1 ≤ size) × (size ≤ MAX_GENERATED_SIZE)
-
+-- the numbers of a command are in their ranges
 abbrev pub HasRanges : Command → Type 0
 HasRanges (asks.Gen options) = AreInRange options.seed options.size
 HasRanges (asks.Bench options) = AreInRange options.seed options.size
+HasRanges (asks.Count counting) = CanBeCounted counting
 HasRanges _ = Unit {0}
 
 -- a command that reads
 abbrev pub Reads : Command → Type 0
 Reads asks.Play = Unit {0}
 Reads asks.States = Unit {0}
+Reads asks.Report = Unit {0}
 Reads asks.Replay = Unit {0}
+Reads (asks.Count counting) = Unit {0}
 Reads _ = ⊥
 
 -- a refusal has its cause in what was read or in the rack, a fault in the count of the source

@@ -4,6 +4,7 @@ ghost use Rattle.std.specs.Prelude.{◌≡◌, ◌<◌, length, IfOk, IfErr, OnO
 ghost use Rattle.hp_play.specs.Main.{PlaysNothing};
 ghost use Rattle.hp_play.specs.Played.{IsPlayed};
 ghost use Rattle.hp_play.specs.Racks.{racks_of, StaysUnlessWanting};
+ghost use Rattle.hp_play.specs.Ranges.{CanBeWritten};
 ghost use Rattle.hp_play.specs.Stops.{HasRanges, Refuses};
 ghost use Rattle.hp_play.specs.Calls.{Does, StopsAt, Plays, StopsScriptAt, Replays, StopsJournalAt};
 
@@ -37,7 +38,9 @@ pub fn output_of<S: Source, H: Hook>(
     match command {
         Command::Play => script_played(alloc, Output::Journal, source, rack),
         Command::States => script_played(alloc, Output::States, source, rack),
+        Command::Report => script_played(alloc, Output::Report, source, rack),
         Command::Replay => replayed(alloc, source),
+        Command::Count(counting) => script_played(alloc, Output::Count(counting), source, rack),
         Command::Gen(options) => Ok(generate(alloc, options.seed, options.size)?),
         Command::Bench(options) => {
             let script = generate(alloc, options.seed, options.size)?;
@@ -53,7 +56,8 @@ fn script_played<S: Source, H: Hook>(
     source: &mut S,
     rack: &mut Rack<H>,
 ) -> Result<Vec<u8>, Stop>
-    requires { S.faults source.old < u64.MAX }
+    requires faults { S.faults source.old < u64.MAX }
+    requires ranges { CanBeWritten of }
     ensures played { IfOk result (Plays of S.Source H.Hook source.old source.new rack.old rack.new) }
     ensures faults { OnOk result (S.faults source.new ≡ S.faults source.old) }
     ensures stop { IfErr result (StopsScriptAt S.Source source.old source.new rack.old) }
@@ -72,6 +76,7 @@ fn text_of_script<H: Hook>(
     bytes: &[u8],
     rack: &mut Rack<H>,
 ) -> Result<Vec<u8>, Stop>
+    requires { CanBeWritten of }
     ensures played { IfOk result (λ text. IsPlayed of
         (racks_of H.Hook rack.old rack.new)
         bytes.now text.items) }

@@ -5,6 +5,7 @@ ghost use Rattle.hp_model.specs.Scripts.{IsScript};
 ghost use Rattle.hp_script.specs.Playable.{setups_in};
 ghost use Rattle.hp_play.specs.Played.{IsRunOf, WasPlayed};
 ghost use Rattle.hp_play.specs.Racks.{racks_of};
+ghost use Rattle.hp_play.specs.Ranges.{CanBeWritten};
 
 use crate::output::{Output, text_of};
 use hp_actors::Run;
@@ -46,6 +47,7 @@ pub fn text_played<H: Hook>(
 ) -> Result<Vec<u8>, NoMemory>
     requires script { IsScript script.now.head script.now.actors }
     requires hooks { sum_by setups_in script.now.actors ≤ length rack.old.hooks.items }
+    requires ranges { CanBeWritten of }
     ensures { IfOk result (λ text. WasPlayed of script.now
         (racks_of H.Hook rack.old rack.new)
         text.items) }

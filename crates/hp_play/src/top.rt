@@ -15,7 +15,8 @@ use hp_io::{Sink, Source};
 use hp_states::NoMemory;
 use std::alloc::Global;
 
-const USAGE: &[u8] = b"usage: hp play|replay|states|report|gen|bench [--seed N] [--size N]\n";
+const USAGE: &[u8] =
+    b"usage: hp play|replay|states|report|gen|bench|count [--seed N] [--size N] [STATE BATCH]\n";
 
 /// The program `hp`: does what the words say, and answers the exit status. It always returns.
 ///
@@ -24,10 +25,13 @@ const USAGE: &[u8] = b"usage: hp play|replay|states|report|gen|bench [--seed N] 
 /// | `play` | a script | the text of its journal, then the summary |
 /// | `replay` | the text of a journal, with or without its summary | the summary |
 /// | `states` | a script | the states file after its run |
+/// | `report` | a script | the report of its journal, in JSON |
+/// | `count STATE BATCH` | a script | the line of counters that went through its journal |
 /// | `gen` with options | nothing | the generated script |
 /// | `bench` with options | nothing | the summary of the generated script's run |
 ///
-/// The options are `--seed V` or `--seed=V`, and `--size V` or `--size=V`, in any order, each at most once.
+/// STATE is 1 to 198 and BATCH 1 to 1,000,000, each in decimal digits without a sign and without a zero before
+/// others. The options are `--seed V` or `--seed=V`, and `--size V` or `--size=V`, in any order, each at most once.
 ///
 /// | Status | comes | written |
 /// |---|---|---|

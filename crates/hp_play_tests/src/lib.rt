@@ -10,6 +10,8 @@
 #[cfg(test)]
 mod caller;
 #[cfg(test)]
+mod counts;
+#[cfg(test)]
 mod files;
 #[cfg(test)]
 mod full;
@@ -23,5 +25,7 @@ mod program;
 mod refused;
 #[cfg(test)]
 mod replays;
+#[cfg(test)]
+mod reports;
 #[cfg(test)]
 mod schedules;

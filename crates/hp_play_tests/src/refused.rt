@@ -53,7 +53,8 @@ fn inputs_that_are_refused(rt: HostRuntime) -> Result<(), Fail> {
     check(&rt, rt.alloc(), INPUTS)
 }
 
-const USAGE: &str = "usage: hp play|replay|states|report|gen|bench [--seed N] [--size N]\n";
+const USAGE: &str =
+    "usage: hp play|replay|states|report|gen|bench|count [--seed N] [--size N] [STATE BATCH]\n";
 
 const WORDS: &[Row] = &[
     Row {
@@ -92,8 +93,64 @@ const WORDS: &[Row] = &[
         output: USAGE,
     },
     Row {
-        name: "a report",
-        words: &["report"],
+        name: "a report with another word",
+        words: &["report", "1"],
+        input: "",
+        status: 1,
+        output: USAGE,
+    },
+    Row {
+        name: "a count without numbers",
+        words: &["count"],
+        input: "",
+        status: 1,
+        output: USAGE,
+    },
+    Row {
+        name: "a count without a batch",
+        words: &["count", "120"],
+        input: "",
+        status: 1,
+        output: USAGE,
+    },
+    Row {
+        name: "a count of state 0",
+        words: &["count", "0", "10"],
+        input: "",
+        status: 1,
+        output: USAGE,
+    },
+    Row {
+        name: "a count of a state that is built in",
+        words: &["count", "199", "10"],
+        input: "",
+        status: 1,
+        output: USAGE,
+    },
+    Row {
+        name: "a batch of 0",
+        words: &["count", "120", "0"],
+        input: "",
+        status: 1,
+        output: USAGE,
+    },
+    Row {
+        name: "a batch too large",
+        words: &["count", "120", "1000001"],
+        input: "",
+        status: 1,
+        output: USAGE,
+    },
+    Row {
+        name: "a state with a leading zero",
+        words: &["count", "0120", "10"],
+        input: "",
+        status: 1,
+        output: USAGE,
+    },
+    Row {
+        name: "a count with a third number",
+        words: &["count", "120", "10", "1"],
         input: "",
         status: 1,
         output: USAGE,

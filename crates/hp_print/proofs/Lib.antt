@@ -6,3 +6,6 @@ pub mod AnswerCountsStep
 pub mod FirstTally
 pub mod Lists
 pub mod SummaryText
+pub mod NameText
+pub mod ReportValue
+pub mod ReportShape

@@ -31,12 +31,12 @@ keys_counted c events (k ∷ ks) = go (is_key_in_force c events k) (keys_counted
   go true h = ap (λ ys. k ∷ ys) h
   go false h = h
 
-keys_same : (c : ℕ) (events : List Event) → keys_of (counts_of c events) ≡ keys_in_force c events
+pub keys_same : (c : ℕ) (events : List Event) → keys_of (counts_of c events) ≡ keys_in_force c events
 unfolding counts_of keys_in_force
 keys_same c events = keys_counted c events (entered c events)
 
--- each of the numbers below one
-below : (f g : ℕ → List ℕ) (n : ℕ) → ((k : ℕ) → k < n → f k ≡ g k) → flat_map f (numbers n) ≡ flat_map g (numbers n)
+-- what functions that agree below a number make of the numbers below it, one behind the other
+pub below : {X : Type 0} (f g : ℕ → List X) (n : ℕ) → ((k : ℕ) → k < n → f k ≡ g k) → flat_map f (numbers n) ≡ flat_map g (numbers n)
 below f g zero h = refl
 below f g (suc n) h =
     let rest : flat_map f (numbers n) ≡ flat_map g (numbers n) = below f g n (λ k b. h k (omega arith)) in

@@ -1,6 +1,9 @@
 pub mod Appends
 pub mod Counting
 pub mod Counts
+pub mod Report
+pub mod ReportLaws
 pub mod Steps
 pub mod Tallies
+pub mod TallyReport
 pub mod TallyText

@@ -214,7 +214,7 @@ fn append_registered(
 }
 
 /// The name of a subsystem, numbered from 1; empty where there is none of that number.
-fn name_of(head: &Head, number: u32) -> &[u8]
+pub fn name_of(head: &Head, number: u32) -> &[u8]
     ensures { result.now ≡ name_of_sub head.now number }
 {
     match head.sub(number) {

@@ -2,7 +2,7 @@
 
 use crate::compared::assert_text;
 use hp_event::{Answer, Event, Form, Head, How, Journal, Name, Numbers, Op, Role, Sub, Subs};
-use hp_print::{journal_text, summary};
+use hp_print::{journal_text, report_json, summary};
 use hp_samples::TWO_STARTUPS;
 use hp_states::{Dir, HookPlan, Rule};
 use std::alloc::Global;
@@ -104,36 +104,47 @@ fn events_of_two_startups() -> [Event; 15] {
     ]
 }
 
-/// Their journal.
-fn two_startups(alloc: Global) -> Result<Journal, Fail> {
+/// The head of their journal.
+fn head_of_two_startups(alloc: Global) -> Result<Head, Fail> {
     let mut subs = Subs::new(alloc);
     subs.push(named(alloc, b"net:a", false, HookPlan::none())?)?;
     subs.push(named(alloc, b"net:b", false, HookPlan::none())?)?;
-    let head = Head {
+    Ok(Head {
         possible: 2,
         absent: Numbers::new(alloc),
         subs,
-    };
-    journal_of(head, alloc, &events_of_two_startups())
+    })
 }
 
-/// Compares the text of a journal, and its summary.
+/// Their journal.
+fn two_startups(alloc: Global) -> Result<Journal, Fail> {
+    journal_of(
+        head_of_two_startups(alloc)?,
+        alloc,
+        &events_of_two_startups(),
+    )
+}
+
+/// Compares the text of a journal, its summary and its report.
 fn check_texts(
     rt: &impl Abort,
     alloc: Global,
     journal: &Journal,
     wanted: &str,
     overview: &str,
+    report: &str,
 ) -> Result<(), Fail> {
     let text = journal_text(alloc, journal)?;
     assert_text(rt, "the journal", &text, wanted);
     let shown = summary(alloc, journal)?;
     assert_text(rt, "the summary", &shown, overview);
+    let reported = report_json(alloc, journal)?;
+    assert_text(rt, "the report", &reported, report);
     Ok(())
 }
 
 #[test]
-fn the_text_and_the_summary_of_two_startups(rt: HostRuntime) -> Result<(), Fail> {
+fn the_texts_of_two_startups(rt: HostRuntime) -> Result<(), Fail> {
     let journal = two_startups(rt.alloc())?;
     check_texts(
         &rt,
@@ -141,7 +152,48 @@ fn the_text_and_the_summary_of_two_startups(rt: HostRuntime) -> Result<(), Fail>
         &journal,
         TWO_STARTUPS.journal,
         TWO_STARTUPS.summary,
+        TWO_STARTUPS_REPORT,
     )
+}
+
+/// Their report.
+const TWO_STARTUPS_REPORT: &str = concat!(
+    r#"{"cpus":[{"cpu":0,"keys":[[120,0],[150,0]],"online":true,"present":true,"state":200},"#,
+    r#"{"cpu":1,"keys":[[120,0],[150,0]],"online":true,"present":true,"state":200}],"#,
+    r#""disabled":0,"events":15,"frozen":[],"#,
+    r#""subs":[{"faults":0,"instances":[],"made":2,"name":"net:a","state":120},"#,
+    r#"{"faults":0,"instances":[],"made":2,"name":"net:b","state":150}]}"#,
+    "\n",
+);
+
+/// The report of the first eight of their events, behind which the second registration is in flight.
+const IN_A_REGISTRATION: &str = concat!(
+    r#"{"cpus":[{"cpu":0,"keys":[[120,0],[150,0]],"online":true,"present":true,"state":200},"#,
+    r#"{"cpu":1,"keys":[],"online":false,"present":true,"state":0}],"#,
+    r#""disabled":0,"events":8,"frozen":[],"#,
+    r#""subs":[{"faults":0,"instances":[],"made":1,"name":"net:a","state":120}]}"#,
+    "\n",
+);
+
+/// The report of the first twelve, behind which the walk is in flight.
+const IN_A_WALK: &str = concat!(
+    r#"{"cpus":[{"cpu":0,"keys":[[120,0],[150,0]],"online":true,"present":true,"state":200},"#,
+    r#"{"cpu":1,"keys":[[120,0]],"online":false,"present":true,"state":0}],"#,
+    r#""disabled":0,"events":12,"frozen":[],"#,
+    r#""subs":[{"faults":0,"instances":[],"made":2,"name":"net:a","state":120},"#,
+    r#"{"faults":0,"instances":[],"made":1,"name":"net:b","state":150}]}"#,
+    "\n",
+);
+
+#[test]
+fn reports_of_what_is_in_flight(rt: HostRuntime) -> Result<(), Fail> {
+    let alloc = rt.alloc();
+    let events = events_of_two_startups();
+    for (many, wanted) in [(8, IN_A_REGISTRATION), (12, IN_A_WALK)] {
+        let journal = journal_of(head_of_two_startups(alloc)?, alloc, &events[..many])?;
+        assert_text(&rt, "in flight", &report_json(alloc, &journal)?, wanted);
+    }
+    Ok(())
 }
 
 /// A journal without events, of which two processors are absent, and its summary.
@@ -166,6 +218,15 @@ ops ok 0 refused 0 fault 0 stuck 0 full 0
 events 0
 ";
 
+const EMPTY_REPORT: &str = concat!(
+    r#"{"cpus":[{"cpu":0,"keys":[],"online":true,"present":true,"state":200},"#,
+    r#"{"cpu":1,"keys":[],"online":false,"present":false,"state":0},"#,
+    r#"{"cpu":2,"keys":[],"online":false,"present":true,"state":0},"#,
+    r#"{"cpu":3,"keys":[],"online":false,"present":false,"state":0}],"#,
+    r#""disabled":0,"events":0,"frozen":[],"subs":[]}"#,
+    "\n",
+);
+
 #[test]
 fn absent_processors_names_and_rules(rt: HostRuntime) -> Result<(), Fail> {
     let mut plan = HookPlan::none();
@@ -187,5 +248,12 @@ fn absent_processors_names_and_rules(rt: HostRuntime) -> Result<(), Fail> {
         subs,
     };
     let journal = journal_of(head, rt.alloc(), &[])?;
-    check_texts(&rt, rt.alloc(), &journal, EMPTY, EMPTY_SUMMARY)
+    check_texts(
+        &rt,
+        rt.alloc(),
+        &journal,
+        EMPTY,
+        EMPTY_SUMMARY,
+        EMPTY_REPORT,
+    )
 }

@@ -5,8 +5,13 @@ use Rattle.hp_play.specs.Outputs.{output}
 use Rattle.hp_play.proofs.RackLaws.{rack_after}
 use Rattle.hp_play.proofs.play.text_played.Goals as goal
 
-pub text_of-requires : goal.text_of-requires
-text_of-requires g c = ap registration c.board.ensures.events ∙ c.in_ok-run.ensures.journal.no_registration
+pub text_of-requires-clause-lawful : goal.text_of-requires-clause-lawful
+text_of-requires-clause-lawful g c =
+    let is = c.in_ok-run.ensures in
+    rw (c.board.ensures.head ∙ is.head_is, c.board.ensures.events) is.journal.lawful
+
+pub text_of-requires-clause-quiet : goal.text_of-requires-clause-quiet
+text_of-requires-clause-quiet g c = ap registration c.board.ensures.events ∙ c.in_ok-run.ensures.journal.no_registration
 
 pub returns : goal.returns
 returns g c =

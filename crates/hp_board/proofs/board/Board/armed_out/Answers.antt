@@ -25,7 +25,7 @@ pub returns-clause-some : goal.returns-clause-some
 returns-clause-some g c =
     let b = c.args.self.now in
     let lawful = subst (λ (b : Contents). IsLawful b.head b.events) c.self.view_is c.sound.ensures.lawful in
-    let out = subst AreOut c.self.view_is c.self.invariant in
+    let out = subst AreOut c.self.view_is c.self.invariant.out in
     let none : is_some (registers b) ≡ false =
     subst (λ (b : Contents). is_some (registers b) ≡ false) c.self.view_is
     (ap is_some (sym c.registrar.ensures) ∙ (sym c.is_some.ensures ∙ c.if-is_some.false)) in

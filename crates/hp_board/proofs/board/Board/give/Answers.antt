@@ -30,7 +30,7 @@ make_answered-requires-clause-stands g c =
 lent_it : (g : given.Over) (c : In-Some g) → IsLentBy c.self.inside.machine c.in-Some.entry c.args.back
 lent_it g c =
     let b = c.self.inside.machine in
-    lent_by b c.args.by c.in-Some.entry c.args.back c.sound.ensures.lawful c.self.invariant c.in-Some.ensures
+    lent_by b c.args.by c.in-Some.entry c.args.back c.sound.ensures.lawful c.self.invariant.out c.in-Some.ensures
     (subst (λ (b : Contents). loan b c.args.by ≡ Some c.args.back) (sym c.self.view_is) c.requires)
 
 pub make_answered-requires-clause-lent : goal.make_answered-requires-clause-lent
@@ -62,34 +62,38 @@ make_answered-requires-clause-answer g c =
     subst (λ o. IfSome o (λ (step : Step). c.back.inside.answer ≡ answer_at step.kept (site_at x.cpu x.key.inst x.dir))) (sym is.there) answered.answer_is
 
 goes : (g : given.Over) (c : After-make_answered g) →
-    Goes c.self.inside.machine c.make_answered.new.self
-    × TakenFrom c.self.inside.machine.lent c.make_answered.new.self.lent c.args.back.cpu
+    Goes c.self.inside.machine c.make_answered.new.machine
+    × TakenFrom c.self.inside.machine.lent c.make_answered.new.machine.lent c.args.back.cpu
     × (loan c.self.inside.machine c.args.by ≡ Some c.args.back)
 goes g c =
     let b = c.self.inside.machine in
-    let n = c.make_answered.new.self in
+    let n = c.make_answered.new.machine in
     let e = entry_event b.head b.events c.in-Some.entry in
     let lent = subst (λ (b : Contents). loan b c.args.by ≡ Some c.args.back) (sym c.self.view_is) c.requires in
-    let is = lent_by b c.args.by c.in-Some.entry c.args.back c.sound.ensures.lawful c.self.invariant c.in-Some.ensures lent in
+    let is = lent_by b c.args.by c.in-Some.entry c.args.back c.sound.ensures.lawful c.self.invariant.out c.in-Some.ensures lent in
     let taken = subst (TakenFrom b.lent n.lent) (sym is.cpu_is) c.make_answered.ensures.taken in
     let stands = (due_stands b.head b.events c.args.by e c.in-Some.ensures).0 in
-    let h = goes_home b c.args.by c.args.back e n.lent c.sound.ensures.lawful c.self.invariant lent c.in-Some.ensures stands taken in
+    let h = goes_home b c.args.by c.args.back e n.lent c.sound.ensures.lawful c.self.invariant.out lent c.in-Some.ensures stands taken in
     (subst (Goes b) (sym c.make_answered.ensures.made) h, taken, lent)
 
 pub invariant_of-self : goal.invariant_of-self
 invariant_of-self g c =
     let h = goes g (goal.at.invariant_of-self g c).After-make_answered in
-    out_stays c.self.inside.machine c.make_answered.new.self c.self.invariant h.0
+    record {
+      out =
+          out_stays c.self.inside.machine c.make_answered.new.machine c.self.invariant.out h.0;
+      called = c.make_answered.ensures.called;
+    }
 
 pub returns-clause-home : goal.returns-clause-home
 returns-clause-home g c =
     let h = goes g (goal.at.returns-clause-home g c).After-make_answered in
-    given_home c.self.inside.machine c.make_answered.new.self c.args.by c.args.back c.self.invariant h.0 h.2 h.1
+    given_home c.self.inside.machine c.make_answered.new.machine c.args.by c.args.back c.self.invariant.out h.0 h.2 h.1
 
 pub returns-clause-stays : goal.returns-clause-stays
 returns-clause-stays g c = λ k other.
     let h = goes g (goal.at.returns-clause-stays g c).After-make_answered in
-    given_others c.self.inside.machine c.make_answered.new.self c.args.by k c.args.back c.self.invariant h.0 h.2 h.1 other
+    given_others c.self.inside.machine c.make_answered.new.machine c.args.by k c.args.back c.self.invariant.out h.0 h.2 h.1 other
     ∙ ap (λ (z : Contents). loan z k) c.self.view_is
 
 pub returns-clause-taken : goal.returns-clause-taken

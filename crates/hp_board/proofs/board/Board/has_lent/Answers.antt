@@ -10,5 +10,5 @@ returns-in-Some g c =
     let b = c.self.inside.machine in
     c.is_lent.ensures
     ∙ (ap (λ (b : Contents). has b.lent c.in-Some.entry.cpu) (sym c.self.view_is)
-    ∙ (sym (has_lent_by b c.args.by c.in-Some.entry c.sound.ensures.lawful c.self.invariant c.in-Some.ensures)
+    ∙ (sym (has_lent_by b c.args.by c.in-Some.entry c.sound.ensures.lawful c.self.invariant.out c.in-Some.ensures)
     ∙ ap (λ (b : Contents). is_some (loan b c.args.by)) c.self.view_is))

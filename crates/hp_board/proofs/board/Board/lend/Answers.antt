@@ -8,11 +8,12 @@ use Rattle.hp_hook.specs.Counted.{Counts}
 use Rattle.hp_table.specs.Step.{Step, step_at, is_home}
 use Rattle.hp_account.specs.Entries.{entry_event}
 use Rattle.hp_board.specs.Answered.{aside_of}
+use Rattle.hp_called.specs.Called.{IsCalled}
 use Rattle.hp_board.specs.Contents.{Contents}
 use Rattle.hp_board.specs.Loans.{AreOut, can_lend, loan}
 use Rattle.hp_machine.proofs.MadeEntries.{by_hook}
 use Rattle.hp_board.proofs.Loans.{hook_is}
-use Rattle.hp_board.proofs.LoansMade.{CanLend, can_lend_it, cannot_lend, lent_out, lent_aside, lent_others}
+use Rattle.hp_board.proofs.LoansMade.{CanLend, can_lend_it, can_lend_to, cannot_lend, lent_out, lent_aside, lent_others}
 use Rattle.hp_board.proofs.board.Board.lend.Given as given
 use Rattle.hp_board.proofs.board.Board.lend.Goals as goal
 use Rattle.hp_board.proofs.board.Board.lend.Goals.{In_ok-hook}
@@ -40,7 +41,7 @@ found g c =
     let b = c.self.inside.machine in
     let x = c.in_ok-entry.entry in
     let made_by = hook_is x.made_by (sym c.is_by_hook.ensures ∙ c.if-not-is_by_hook.false) in
-    can_lend_it b c.args.by x c.sound.ensures.lawful c.self.invariant c.sound.ensures.table c.in_ok-entry.ensures made_by
+    can_lend_it b c.args.by x c.sound.ensures.lawful c.self.invariant.out c.sound.ensures.table c.in_ok-entry.ensures made_by
     (c.in_ok-hook.ensures.some.0 refl).1
 
 pub invariant_of-result : goal.invariant_of-result
@@ -57,8 +58,12 @@ pub invariant_of-self-2 : goal.invariant_of-self-2
 invariant_of-self-2 g c =
     let at = goal.at.invariant_of-self-2 g c in
     let b = c.self.inside.machine in
-    subst AreOut (sym c.in_ok-hook.ensures.lent)
-    (lent_out b c.args.by c.in_ok-entry.entry c.lend.new.self.lent (found g at.In_ok-hook) c.in_ok-hook.ensures.put)
+    record {
+      out =
+          subst AreOut (sym c.in_ok-hook.ensures.lent)
+          (lent_out b c.args.by c.in_ok-entry.entry c.lend.new.self.lent (found g at.In_ok-hook) c.in_ok-hook.ensures.put);
+      called = subst (λ (m : Contents). IsCalled m.head m.events c.self.inside.called) (sym c.in_ok-hook.ensures.lent) c.self.invariant.called;
+    }
 
 pub returns-clause-lent : goal.returns-clause-lent
 returns-clause-lent g c =
@@ -83,3 +88,12 @@ pub returns-clause-put : goal.returns-clause-put
 returns-clause-put g c = λ cpu.
     c.in_ok-hook.ensures.put cpu
     ∙ ap (λ (b : Contents). eqb cpu c.in_ok-entry.entry.cpu || has b.lent cpu) c.self.view_is
+
+pub returns-clause-some : goal.returns-clause-some
+returns-clause-some g c =
+    let at = goal.at.returns-clause-some g c in
+    let b = c.self.inside.machine in
+    let can = can_lend_to b c.args.by c.in_ok-entry.entry (found g at.In_ok-hook) in (
+      λ some. subst (λ (b : Contents). can_lend (due_entry b.head b.events c.args.by) b.places ≡ true) c.self.view_is can,
+      λ can. refl,
+    )

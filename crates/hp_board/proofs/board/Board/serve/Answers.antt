@@ -53,9 +53,13 @@ invariant_of-self g c =
     let home = subst (Home x) (sym c.self.view_is) (c.if-is_out.ensures.home refl) in
     let nothing = subst (λ (b : Contents). loan b c.args.by ≡ None) (sym c.self.view_is) c.requires in
     let s = due_stands b.head b.events c.args.by e c.in-Some.ensures in
-    subst AreOut (sym c.make_entry.ensures)
-    (out_stays b _ c.self.invariant
-    (goes_on b c.args.by e c.sound.ensures.lawful c.self.invariant s.0 s.2 nothing (calm_entry b x home)))
+    record {
+      out =
+          subst AreOut (sym c.make_entry.ensures.made)
+          (out_stays b _ c.self.invariant.out
+          (goes_on b c.args.by e c.sound.ensures.lawful c.self.invariant.out s.0 s.2 nothing (calm_entry b x home)));
+      called = c.make_entry.ensures.called;
+    }
 
 pub returns-else-is_out-clause-stays : goal.returns-else-is_out-clause-stays
 returns-else-is_out-clause-stays g c = λ k.
@@ -65,6 +69,6 @@ returns-else-is_out-clause-stays g c = λ k.
     let home = subst (Home x) (sym c.self.view_is) (c.if-is_out.ensures.home refl) in
     let nothing = subst (λ (b : Contents). loan b c.args.by ≡ None) (sym c.self.view_is) c.requires in
     let s = due_stands b.head b.events c.args.by e c.in-Some.ensures in
-    ap (λ (z : Contents). loan z k) c.make_entry.ensures
-    ∙ (loans_stay b c.args.by e c.sound.ensures.lawful c.self.invariant s.0 s.2 nothing (calm_entry b x home) k
+    ap (λ (z : Contents). loan z k) c.make_entry.ensures.made
+    ∙ (loans_stay b c.args.by e c.sound.ensures.lawful c.self.invariant.out s.0 s.2 nothing (calm_entry b x home) k
     ∙ ap (λ (z : Contents). loan z k) c.self.view_is)

@@ -61,7 +61,7 @@ returns-in_ok-make-in-Event-clause-turn g c =
     let k = c.args.by in
     let op = c.args.ask.now.op in
     let old = c.self.inside.machine in
-    let new = c.make.new.self in
+    let new = c.make.new.machine in
     let made = c.in_ok-make-in-Event.ensures in
     let is : new ≡ with_event old e = made.made in
     let place : c.len-at.result ≡ length old.events =
@@ -147,7 +147,7 @@ returns-in-Entry-clause-again g c = λ on.
     let had : is_some c.args.ask.now.hook ≡ has_hook l.events k op =
     c.requires.hook ∙ ap (λ (b : Contents). has_hook b.events k op) (sym c.self.view_is) in
     had ∙ sym (kept (has_hook l.events k op)) ∙ hook_again l.head l.events k op e c.in-Entry.ensures refl
-    ∙ ap (λ (x : Contents). has_hook x.events k op) (sym c.make_entry.ensures)
+    ∙ ap (λ (x : Contents). has_hook x.events k op) (sym c.make_entry.ensures.made)
 
 pub make_entry-requires-clause-home : goal.make_entry-requires-clause-home
 make_entry-requires-clause-home g c =
@@ -157,7 +157,7 @@ make_entry-requires-clause-home g c =
     let client = subst (λ (b : Contents). role_of c.args.by b.events ≡ Some Client) (sym c.self.view_is) c.requires.allowed.client in
     let s = next_stands b.head b.events c.args.by c.args.ask.now.op e c.in-Entry.ensures in
     let due = due_gives b.head b.events c.args.by e c.sound.ensures.lawful s.0 refl s.1 in
-    own_home b c.args.by c.in-Entry.entry c.sound.ensures.lawful c.self.invariant client due nothing
+    own_home b c.args.by c.in-Entry.entry c.sound.ensures.lawful c.self.invariant.out client due nothing
 
 pub returns-in-Entry-clause-stays : goal.returns-in-Entry-clause-stays
 returns-in-Entry-clause-stays g c = λ k.
@@ -168,9 +168,9 @@ returns-in-Entry-clause-stays g c = λ k.
     let client = subst (λ (b : Contents). role_of c.args.by b.events ≡ Some Client) (sym c.self.view_is) c.requires.allowed.client in
     let s = next_stands b.head b.events c.args.by c.args.ask.now.op e c.in-Entry.ensures in
     let due = due_gives b.head b.events c.args.by e c.sound.ensures.lawful s.0 refl s.1 in
-    let home = own_home b c.args.by x c.sound.ensures.lawful c.self.invariant client due nothing in
-    ap (λ (z : Contents). loan z k) c.make_entry.ensures
-    ∙ (loans_stay b c.args.by e c.sound.ensures.lawful c.self.invariant s.0 s.1 nothing (calm_entry b x home) k
+    let home = own_home b c.args.by x c.sound.ensures.lawful c.self.invariant.out client due nothing in
+    ap (λ (z : Contents). loan z k) c.make_entry.ensures.made
+    ∙ (loans_stay b c.args.by e c.sound.ensures.lawful c.self.invariant.out s.0 s.1 nothing (calm_entry b x home) k
     ∙ ap (λ (z : Contents). loan z k) c.self.view_is)
 
 pub returns-in_ok-make-in-Event-clause-stays : goal.returns-in_ok-make-in-Event-clause-stays
@@ -179,19 +179,19 @@ returns-in_ok-make-in-Event-clause-stays g c = λ k.
     let e = c.in-Event.event in
     let b = c.self.inside.machine in
     let made = c.in_ok-make-in-Event.ensures in
-    let new = c.make.new.self in
+    let new = c.make.new.machine in
     let is : new ≡ with_event b e = made.made in
     let nothing = subst (λ (b : Contents). loan b c.args.by ≡ None) (sym c.self.view_is) c.requires.nothing in
     let calm = subst (λ (b : Contents). IsCalm b e) (sym c.self.view_is) c.in_default.ensures.calm in
     let s = next_stands l.head l.events c.args.by c.args.ask.now.op e c.in-Event.ensures.0 in
-    let stay = loans_stay b c.args.by e c.sound.ensures.lawful c.self.invariant s.0 s.1 nothing calm k in
+    let stay = loans_stay b c.args.by e c.sound.ensures.lawful c.self.invariant.out s.0 s.1 nothing calm k in
     ap (λ (z : Contents). loan z k) is ∙ (stay ∙ ap (λ (z : Contents). loan z k) c.self.view_is)
 
 pub make-requires-clause-home : goal.make-requires-clause-home
 make-requires-clause-home g c = λ is.
     let l = c.self.inside.machine in
     let stands = (next_stands l.head l.events c.args.by c.args.ask.now.op c.in-Event.event c.in-Event.ensures.0).0 in
-    home_beside l c.in-Event.event c.sound.ensures.lawful c.self.invariant stands is
+    home_beside l c.in-Event.event c.sound.ensures.lawful c.self.invariant.out stands is
 
 pub invariant_of-self-in-Event : goal.invariant_of-self-in-Event
 invariant_of-self-in-Event g c =
@@ -200,9 +200,13 @@ invariant_of-self-in-Event g c =
     let nothing = subst (λ (b : Contents). loan b c.args.by ≡ None) (sym c.self.view_is) c.requires.nothing in
     let calm = subst (λ (b : Contents). IsCalm b e) (sym c.self.view_is) c.in_default.ensures.calm in
     let s = next_stands b.head b.events c.args.by c.args.ask.now.op e c.in-Event.ensures.0 in
-    subst AreOut (sym c.in_ok-make-in-Event.ensures.made)
-    (out_stays b _ c.self.invariant
-    (goes_on b c.args.by e c.sound.ensures.lawful c.self.invariant s.0 s.1 nothing calm))
+    record {
+      out =
+          subst AreOut (sym c.in_ok-make-in-Event.ensures.made)
+          (out_stays b _ c.self.invariant.out
+          (goes_on b c.args.by e c.sound.ensures.lawful c.self.invariant.out s.0 s.1 nothing calm));
+      called = c.make.ensures.called;
+    }
 
 pub invariant_of-self-in-Entry : goal.invariant_of-self-in-Entry
 invariant_of-self-in-Entry g c =
@@ -213,10 +217,14 @@ invariant_of-self-in-Entry g c =
     let client = subst (λ (b : Contents). role_of c.args.by b.events ≡ Some Client) (sym c.self.view_is) c.requires.allowed.client in
     let s = next_stands b.head b.events c.args.by c.args.ask.now.op e c.in-Entry.ensures in
     let due = due_gives b.head b.events c.args.by e c.sound.ensures.lawful s.0 refl s.1 in
-    let home = own_home b c.args.by x c.sound.ensures.lawful c.self.invariant client due nothing in
-    subst AreOut (sym c.make_entry.ensures)
-    (out_stays b _ c.self.invariant
-    (goes_on b c.args.by e c.sound.ensures.lawful c.self.invariant s.0 s.1 nothing (calm_entry b x home)))
+    let home = own_home b c.args.by x c.sound.ensures.lawful c.self.invariant.out client due nothing in
+    record {
+      out =
+          subst AreOut (sym c.make_entry.ensures.made)
+          (out_stays b _ c.self.invariant.out
+          (goes_on b c.args.by e c.sound.ensures.lawful c.self.invariant.out s.0 s.1 nothing (calm_entry b x home)));
+      called = c.make_entry.ensures.called;
+    }
 
 same_why : (v w : Why) → ◌≡◌ {A = Result Turn NoMemory} (Ok (NotYet v)) (Ok (NotYet w)) → v ≡ w
 same_why v w e = cc

@@ -1,0 +1,4 @@
+pub mod RowLemmas
+pub mod Unregistered
+pub mod Follows
+pub mod KeysListed
