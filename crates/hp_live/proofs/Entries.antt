@@ -178,7 +178,7 @@ entry_reads xs (ReadLock seat) k is = absurd (false≢true is)
 entry_reads xs (ReadUnlock seat) k is = absurd (false≢true is)
 entry_reads xs e k is = refl
 
-thread_entry : (head : Head) (k : ℕ) (xs new : List Event) (at : ℕ) → Adds (due_entry head xs k) at None xs new → IsThread k xs → IsThread k new
+pub thread_entry : (head : Head) (k : ℕ) (xs new : List Event) (at : ℕ) → Adds (due_entry head xs k) at None xs new → IsThread k xs → IsThread k new
 thread_entry head k xs new at a t =
     let s = due_stands head xs k a.event a.next_is in
     subst (IsThread k) (sym a.new_is)
@@ -188,7 +188,7 @@ thread_entry head k xs new at a t =
       not_reading = reading_since_push k xs a.event ∙ entry_reads xs a.event k s.1 ∙ t.not_reading;
     })
 
-thread_turn : (head : Head) (k : ℕ) (found new : List Event) (turn : Turn) → ServedOn head k found new turn → IsThread k found → IsThread k new
+pub thread_turn : (head : Head) (k : ℕ) (found new : List Event) (turn : Turn) → ServedOn head k found new turn → IsThread k found → IsThread k new
 thread_turn head k found new (Made at) s t = thread_entry head k found new at s t
 thread_turn head k found new (NotYet Idle) s t = subst (IsThread k) (sym s.1) t
 thread_turn head k found new (NotYet (HookOut state)) s t = subst (IsThread k) (sym s) t

@@ -19,4 +19,11 @@ pub mod LeaveSections
 pub mod StandsStill
 pub mod HooksLeft
 pub mod Finishing
+pub mod ReadEvents
+pub mod ReadSteps
+pub mod ReadOnline
+pub mod AllLeft
 pub mod Sharing
+pub mod LentPairs
+pub mod Trying
+pub mod AfterTries

@@ -171,7 +171,7 @@ due_next head xs k op e lawful a due =
     let s = due_stands head xs k e due in
     (next_exactly head xs (record { seat = k; op = op }) e lawful a).1 (s.0, s.2, call_belongs op e s.1)
 
-call_keeps_hook : (xs : List Event) (e : Event) (had : Bool) → is_call e ≡ true → has_hook_after xs (Some e) had ≡ had
+pub call_keeps_hook : (xs : List Event) (e : Event) (had : Bool) → is_call e ≡ true → has_hook_after xs (Some e) had ≡ had
 call_keeps_hook xs e had call = call_hook e call had
   where
     call_hook : (x : Event) → is_call x ≡ true → (b : Bool) → has_hook_after xs (Some x) b ≡ b
@@ -180,7 +180,7 @@ call_keeps_hook xs e had call = call_hook e call had
     call_hook x c b = absurd (false≢true c)
 
 -- the hook that the next ask has
-hook_made : (head : Head) (found new : List Event) (k : ℕ) (op : Op) (had : Bool) (at : ℕ) →
+pub hook_made : (head : Head) (found new : List Event) (k : ℕ) (op : Op) (had : Bool) (at : ℕ) →
     Adds (next_event head found k op) at None found new → had ≡ has_hook found k op →
     has_hook_after found (next_event head found k op) had ≡ has_hook new k op
 hook_made head found new k op had at a is =

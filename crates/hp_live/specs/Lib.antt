@@ -6,3 +6,6 @@ pub mod Steps
 pub mod Runs
 pub mod Threads
 pub mod Forms
+pub mod ReadSections
+pub mod Tries
+pub mod HeldSteps

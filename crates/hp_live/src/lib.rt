@@ -6,13 +6,14 @@
 //! `ap_loop` makes the entries that are due from a thread; each turn is one lock section, and hooks are
 //! called between two sections, outside the lock. `leave` and `leave_ap` end a pass, and the root meets what it had
 //! seen; `tell` lets a pass hear what the root has seen; `close` ends the machine and hands the board back.
+//! `try_turn` and `try_serve` are one section each, if nobody else has the lock, and wait for nobody.
 //!
 //! Every front is a lawful journal. A call's new front has the old one as its beginning, and past it of the caller's seat
 //! just the events of this call. Who has nothing to do sleeps until another made an event.
 //!
 //! To read the specs: `Known` says what contracts see of passes, `Grew` how a front grows, `Sections` what one
-//! lock section makes of it, `Runs` and `Threads` what an operation and a thread make of it. `Steps` and `Lending` say the same of the
-//! board under the lock. Lock, passes and gates are this project's own.
+//! lock section makes of it, `Runs` and `Threads` what an operation and a thread make of it, and `Tries` what one try does. `Steps`,
+//! `HeldSteps` and `Lending` say the same of the board under the lock. Lock, passes and gates are this project's own.
 #![tactic(auto)]
 
 mod admission;
@@ -26,6 +27,8 @@ mod left;
 mod live;
 mod parked;
 mod pass;
+mod read_pass;
+mod reading;
 mod root;
 mod run;
 mod seat;
@@ -40,6 +43,7 @@ mod telling;
 #[cfg(test)]
 mod tests;
 mod tried;
+mod tries;
 
 pub use ap_pass::ApPass;
 pub use forms::{Done, HookBack};
@@ -49,5 +53,8 @@ pub use laws::{no_more, stands_still};
 pub use left::Left;
 pub use parked::{Parked, ParkedAp};
 pub use pass::Pass;
+pub use read_pass::ReadPass;
+pub use reading::ReadRefusal;
 pub use root::Root;
 pub use tried::Tried;
+pub use tries::lends_by_pairs;

@@ -1,10 +1,13 @@
 //! The end of a lock section, and sections of a client's and a thread's seat.
 
 ghost use Rattle.std.specs.Prelude.{◌≡◌, ◌≤◌, ℕ, Some, None, is_some};
-ghost use Rattle.hp_board.specs.Loans.{loan};
+ghost use Rattle.hp_board.specs.Loans.{loan, AreLoans};
+ghost use Rattle.hp_live.specs.HeldSteps.{Keeps, KeepsAsk, ServesOut, WaitsOut};
 ghost use Rattle.hp_live.specs.Known.{IsOf, IsSight, IsStill};
+ghost use Rattle.hp_live.specs.Lending.{lent_pairs};
 ghost use Rattle.hp_live.specs.Sections.{CanAsk};
 ghost use Rattle.hp_live.specs.Steps.{CanPut, IsInside, IsPut, StepsTo, StepsIn, ServesTo, ServesIn, GivesTo, GivesIn, lent_by};
+ghost use Rattle.hp_live.specs.Tries.{lent_beside};
 ghost use Rattle.hp_machine.specs.Clients.{clients};
 ghost use Rattle.hp_turn.specs.Passes.{IsPassOf};
 
@@ -24,6 +27,7 @@ impl<H: Hook + Send> Hotplug<H> {
         requires put { CanPut pass.old live.board }
         ensures put { IsPut pass.old pass.new live.board }
         ensures sight { IsSight pass.new result }
+        ensures loans { AreLoans live.board }
     {
         live.board.sound();
         let seen = live.length();
@@ -57,7 +61,7 @@ impl<H: Hook + Send> Hotplug<H> {
     }
 
     /// A section of a client's seat on a board that its pass holds.
-    fn turn_held(
+    pub(crate) fn turn_held(
         &self,
         pass: &mut TurnPass<Live<H>>,
         live: Live<H>,
@@ -75,6 +79,10 @@ impl<H: Hook + Send> Hotplug<H> {
             live.board pass.new result.0 }
         ensures lent { pass.new.aside ≡ lent_by result.0 }
         ensures op { ask.new.op ≡ ask.old.op }
+        ensures keeps { Keeps seat pass.old pass.new }
+        ensures others { lent_beside seat pass.new.kept ≡ lent_pairs live.board }
+        ensures waits { WaitsOut live.board seat ask.old.op result.0 }
+        ensures ask { KeepsAsk live.board seat ask.old ask.new result.0 }
     {
         let mut live = live;
         live.board.sound();
@@ -107,7 +115,7 @@ impl<H: Hook + Send> Hotplug<H> {
     }
 
     /// A section of a thread's seat on a board that its pass holds.
-    fn serve_held(
+    pub(crate) fn serve_held(
         &self,
         pass: &mut TurnPass<Live<H>>,
         live: Live<H>,
@@ -122,6 +130,9 @@ impl<H: Hook + Send> Hotplug<H> {
         ensures serves { ServesTo seat live.board pass.new result.0 }
         ensures lent { pass.new.aside ≡ lent_by result.0 }
         ensures clients { result.1 ≡ clients pass.new.front }
+        ensures keeps { Keeps seat pass.old pass.new }
+        ensures others { lent_beside seat pass.new.kept ≡ lent_pairs live.board }
+        ensures waits { ServesOut live.board seat result.0 }
     {
         let mut live = live;
         live.board.sound();
@@ -155,7 +166,7 @@ impl<H: Hook + Send> Hotplug<H> {
     }
 
     /// The hook comes home to a board that the seat's pass holds.
-    fn give_held(
+    pub(crate) fn give_held(
         &self,
         pass: &mut TurnPass<Live<H>>,
         live: Live<H>,
@@ -170,6 +181,7 @@ impl<H: Hook + Send> Hotplug<H> {
         ensures sight { IsSight pass.new result.1 }
         ensures gives { GivesTo seat live.board pass.new result.0 }
         ensures nothing { pass.new.aside ≡ None }
+        ensures keeps { Keeps seat pass.old pass.new }
     {
         let mut live = live;
         live.board.sound();

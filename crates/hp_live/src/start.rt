@@ -1,9 +1,11 @@
 //! The start of the machine, and its end.
 
-ghost use Rattle.std.specs.Prelude.{◌≡◌, [], All, None, true, IfOk, IfErr, OnOk};
+ghost use Rattle.std.specs.Prelude.{◌≡◌, ℕ, [], All, None, true, IfOk, IfErr, OnOk};
 ghost use Rattle.hp_board.specs.Starts.{IsStartRefusal, head_of};
 ghost use Rattle.hp_live.specs.Known.{IsOf};
 ghost use Rattle.hp_model.specs.Heads.{IsHead, IsSub};
+ghost use Rattle.hp_model.specs.Seats.{role_of};
+ghost use Rattle.hp_table.specs.Step.{AllHome};
 ghost use Rattle.hp_turn.specs.Story.{Knows};
 
 use crate::hotplug::Hotplug;
@@ -45,16 +47,19 @@ impl<H: Hook + Send> Hotplug<H> {
     /// Ends the machine, and answers its board.
     ///
     /// Condition: this machine gave the root. The root's front begins the board's journal, with no Admit past
-    /// it. What is lent still is so. Waits while another holds the lock. Takes no memory. This project's own.
+    /// it. What is lent still is so; where each seat has left by the root's front, nothing is. Waits while another
+    /// holds the lock. Takes no memory. This project's own.
     pub fn close<R: Wait>(self, rt: &R, root: Root<H>) -> Board<H>
         requires { IsOf self root.lock }
         ensures head { result.head ≡ root.head }
         ensures knew { Knows None true root.front result.events }
+        ensures home { ((k : ℕ) → role_of k root.front ≡ None) → AllHome result.places }
     {
         let Hotplug { lock, made: _ } = self;
         let Root { sight } = root;
         let Sight { turn, seen: _ } = sight;
         let Live { board } = lock.close(rt, turn);
+        board.sound();
         board
     }
 }

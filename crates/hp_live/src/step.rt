@@ -4,6 +4,7 @@ ghost use Rattle.std.specs.Prelude.{◌≡◌, ◌≢◌, ℕ, None, Some, true,
 ghost use Rattle.hp_board.specs.Hooks.{HasItsHook};
 ghost use Rattle.hp_board.specs.Loans.{loan};
 ghost use Rattle.hp_machine.specs.MayAsk.{MayAsk};
+ghost use Rattle.hp_live.specs.HeldSteps.{KeepsAsk, ServesOut, WaitsOut};
 ghost use Rattle.hp_live.specs.Steps.{StepsOn, ServesOn};
 
 use hp_board::{Ask, Board, Loan, Turn};
@@ -30,6 +31,8 @@ pub(crate) fn lend_or_turn<H: Hook>(board: &mut Board<H>, by: u32, ask: &mut Ask
         board.old board.new result }
     ensures op { ask.new.op ≡ ask.old.op }
     ensures others { (k : ℕ) → k ≢ by → loan board.new k ≡ loan board.old k }
+    ensures waits { WaitsOut board.old by ask.old.op result }
+    ensures ask { KeepsAsk board.old by ask.old ask.new result }
 {
     if let Some(loan) = board.lend(by) {
         return Step::Lent(loan);
@@ -46,6 +49,7 @@ pub(crate) fn lend_or_serve<H: Hook>(board: &mut Board<H>, by: u32) -> Step<H>
     requires nothing { loan board.old by ≡ None }
     ensures step { ServesOn by board.old board.new result }
     ensures others { (k : ℕ) → k ≢ by → loan board.new k ≡ loan board.old k }
+    ensures waits { ServesOut board.old by result }
 {
     match board.lend(by) {
         Some(loan) => Step::Lent(loan),

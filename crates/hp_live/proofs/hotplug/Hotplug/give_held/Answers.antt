@@ -2,6 +2,7 @@
 use Rattle.std.proofs.Common.{ap, ◌∙◌}
 use Rattle.hp_board.specs.Contents.{Contents}
 use Rattle.hp_live.proofs.Finding.{Puts, puts_one, can_put, still_put, lent_put}
+use Rattle.hp_live.proofs.Trying.{keeps_put}
 use Rattle.hp_live.proofs.Turning.{own_due}
 use Rattle.hp_live.proofs.hotplug.Hotplug.give_held.Given as given
 use Rattle.hp_live.proofs.hotplug.Hotplug.give_held.Goals as goal
@@ -33,3 +34,10 @@ returns-clause-nothing g c =
     lent_put c.args.pass.now c.put_back-seen.new.pass c.args.seat c.args.live.board c.give-at.new.self c.requires.seat
     c.requires.inside (puts g (goal.at.returns-clause-nothing g c).After-give-at) c.put_back-seen.ensures.put
     ∙ c.give-at.ensures.home
+
+pub returns-clause-keeps : goal.returns-clause-keeps
+returns-clause-keeps g c =
+    keeps_put c.args.pass.now c.put_back-seen.new.pass c.args.seat c.put_back-seen.result c.args.live.board c.give-at.new.self
+    c.requires.seat c.requires.inside (puts g (goal.at.returns-clause-keeps g c).After-give-at)
+    (ap (λ (b : Contents). b.head) c.give-at.ensures.served.new_is) c.put_back-seen.ensures.put c.put_back-seen.ensures.sight
+    c.put_back-seen.ensures.loans
