@@ -18,6 +18,8 @@ mod full;
 #[cfg(test)]
 mod generated;
 #[cfg(test)]
+mod hostile;
+#[cfg(test)]
 mod played;
 #[cfg(test)]
 mod program;
