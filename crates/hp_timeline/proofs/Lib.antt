@@ -1,6 +1,7 @@
 pub mod Numbers
 pub mod Pieces
 pub mod Pairs
+pub mod RanMarks
 pub mod LastKey
 pub mod Places
 pub mod Events

@@ -3,6 +3,7 @@ pub mod Sheet
 pub mod Spans
 pub mod Tracks
 pub mod Marks
+pub mod Ran
 pub mod Frame
 pub mod Picture
 pub mod Scenes

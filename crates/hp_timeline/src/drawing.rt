@@ -24,6 +24,9 @@ use hp_event::{Event, Head, Journal};
 use hp_states::NoMemory;
 use std::alloc::{AllocError, Global};
 
+/// So many bytes an event takes in most pictures. Room for them is made at once, so that the text seldom moves.
+const EVENT_BYTES: usize = 120;
+
 /// The processor that walks, or that an entry is of.
 fn cpu_of(event: &Event) -> Option<u32>
     ensures { result ≡ cpu_in event.now }
@@ -295,6 +298,7 @@ pub fn picture(alloc: Global, journal: &Journal, window: Window) -> Result<Vec<u
     let many = journal.len();
     let sheet = Sheet::new(alloc, head, events, window)?;
     let mut out = Vec::new(alloc);
+    out.reserve(EVENT_BYTES * (window.until - window.before) as usize)?;
     append_frame(&mut out, head, &sheet, many as usize)?;
     append_lasting(alloc, &mut out, head, events, &sheet)?;
     append_marks(&mut out, events, window)?;

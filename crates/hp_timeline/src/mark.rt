@@ -1,18 +1,25 @@
 //! The mark of an entry.
 
-ghost use Rattle.std.specs.Prelude.{◌<◌, ◌++◌, OnOk, length, slice_get};
+ghost use Rattle.std.specs.Prelude.{◌≡◌, ◌+◌, ◌<◌, ◌≤◌, ◌++◌, true, Some, OnOk, length, slice_get, vec_len, vec_capacity};
 ghost use Rattle.std.specs.List.{flat_map};
+ghost use Rattle.hp_event.specs.declared.event.Event.TheVariants.{Call};
 ghost use Rattle.hp_text.specs.Appends.{Appends};
 ghost use Rattle.hp_timeline.specs.Spans.{numbered};
 ghost use Rattle.hp_timeline.specs.Marks.{marked, shape, how_word, mark_text};
+ghost use Rattle.hp_timeline.specs.Ran.{IsShort, spot_text, ran_line};
 
 use crate::sheet::height;
 use crate::span_text::append_numbered;
-use crate::text::{append, append_with};
+use crate::text::{LONG, append, append_with, push, push_with, put_back, take_out};
 use crate::window::Window;
 use hp_event::{Event, How};
 use hp_states::Dir;
 use std::alloc::AllocError;
+
+/// So many bytes the two parts of a mark take at most whose numbers are short.
+const SPOT_BYTES: usize = 72;
+
+const LINE_BYTES: usize = 64;
 
 /// The mark of an entry.
 #[derive(Clone, Copy)]
@@ -49,22 +56,7 @@ fn append_how(out: &mut Vec<u8>, how: How) -> Result<(), AllocError>
     }
 }
 
-/// Appends the shape of a mark and the word that says how its entry was made. Most ran and were ok, and those go in one
-/// piece.
-fn append_made(out: &mut Vec<u8>, dir: Dir, how: How) -> Result<(), AllocError>
-    ensures { OnOk result (Appends out.old out.new (shape dir ++ how_word how)) }
-{
-    match (dir, how) {
-        (Dir::Up, How::RanOk) => append(out, b"m0-12l12 24h-24z' class='ok'><title>"),
-        (Dir::Down, How::RanOk) => append(out, b"m0 12l12-24h-24z' class='ok'><title>"),
-        _ => {
-            append_shape(out, dir)?;
-            append_how(out, how)
-        }
-    }
-}
-
-/// Appends the mark of an entry, which is the event of a place.
+/// Appends the mark of any entry, which is the event of a place.
 #[tactic(auto, unfolding(crate::specs::Marks::mark_text))]
 fn append_entry(
     out: &mut Vec<u8>,
@@ -76,9 +68,115 @@ fn append_entry(
 {
     append_with(out, b"<path d='M", window.middle(mark.place))?;
     append_with(out, b" ", height(mark.cpu, mark.state))?;
-    append_made(out, mark.dir, mark.how)?;
+    append_shape(out, mark.dir)?;
+    append_how(out, mark.how)?;
     append_numbered(out, events, mark.place)?;
     append(out, b"</title></path>\n")
+}
+
+/// What the mark of an entry says that ran and was ok: where it stands, from left and from above, the number of its event,
+/// and what stands in its line.
+#[derive(Clone, Copy)]
+pub struct Ran {
+    pub left: usize,
+    pub top: usize,
+    pub number: usize,
+    pub seat: u32,
+    pub cpu: u32,
+    pub state: u32,
+    pub inst: u32,
+    pub dir: Dir,
+}
+
+impl Ran {
+    /// Whether its numbers are short.
+    #[inline(always)]
+    fn is_short(self) -> bool
+        ensures { result ≡ true → IsShort self }
+    {
+        let spot = self.left.max(self.top).max(self.number);
+        let key = self.state.max(self.inst);
+        let by = self.seat.max(self.cpu);
+        spot < LONG && (key.max(by) as usize) < LONG
+    }
+}
+
+/// Pushes where the mark stands, its shape, and the number of its event.
+#[inline(always)]
+fn push_spot(out: &mut Vec<u8>, ran: Ran)
+    requires short { IsShort ran }
+    requires room { vec_len out.old + SPOT_BYTES ≤ vec_capacity out.old }
+    ensures text { Appends out.old out.new (spot_text ran) }
+    ensures many { vec_len out.new ≤ vec_len out.old + SPOT_BYTES }
+    ensures room { vec_capacity out.new ≡ vec_capacity out.old }
+{
+    push_with(out, b"<path d='M", ran.left);
+    push_with(out, b" ", ran.top);
+    match ran.dir {
+        Dir::Up => push_with(out, b"m0-12l12 24h-24z' class='ok'><title>", ran.number),
+        Dir::Down => push_with(out, b"m0 12l12-24h-24z' class='ok'><title>", ran.number),
+    }
+}
+
+/// Pushes the line of its event, and the end of the mark.
+#[inline(always)]
+fn push_line(out: &mut Vec<u8>, ran: Ran)
+    requires short { IsShort ran }
+    requires room { vec_len out.old + LINE_BYTES ≤ vec_capacity out.old }
+    ensures { Appends out.old out.new (ran_line ran) }
+{
+    push_with(out, b": call ", ran.seat as usize);
+    push_with(out, b" ", ran.cpu as usize);
+    push_with(out, b" ", ran.state as usize);
+    push_with(out, b" ", ran.inst as usize);
+    match ran.dir {
+        Dir::Up => push(out, b" up ok\n</title></path>\n"),
+        Dir::Down => push(out, b" down ok\n</title></path>\n"),
+    }
+}
+
+/// Appends the mark of an entry that ran and was ok, in one piece.
+#[inline(always)]
+fn append_ran(out: &mut Vec<u8>, ran: Ran) -> Result<(), AllocError>
+    requires { IsShort ran }
+    ensures { OnOk result (Appends out.old out.new (spot_text ran ++ ran_line ran)) }
+{
+    out.reserve(SPOT_BYTES + LINE_BYTES)?;
+    let mut text = take_out(out);
+    push_spot(&mut text, ran);
+    push_line(&mut text, ran);
+    put_back(out, text);
+    Ok(())
+}
+
+/// Appends the mark of an entry, which is the event of a place. Most ran and were ok, with short numbers.
+fn append_one(
+    out: &mut Vec<u8>,
+    window: Window,
+    events: &[Event],
+    mark: Mark,
+    seat: u32,
+    inst: u32,
+) -> Result<(), AllocError>
+    requires { slice_get events.now mark.place ≡ Some (Call seat mark.cpu mark.state inst mark.dir mark.how) }
+    ensures { OnOk result (Appends out.old out.new (mark_text window events.now mark)) }
+{
+    if let How::RanOk = mark.how {
+        let ran = Ran {
+            left: window.middle(mark.place),
+            top: height(mark.cpu, mark.state),
+            number: mark.place as usize + 1,
+            seat,
+            cpu: mark.cpu,
+            state: mark.state,
+            inst,
+            dir: mark.dir,
+        };
+        if ran.is_short() {
+            return append_ran(out, ran);
+        }
+    }
+    append_entry(out, window, events, mark)
 }
 
 /// Appends the mark of the event at a place, where that is an entry.
@@ -94,12 +192,13 @@ pub fn append_mark(
 {
     match events[place as usize] {
         Event::Call {
+            seat,
             cpu,
             state,
+            inst,
             dir,
             how,
-            ..
-        } => append_entry(
+        } => append_one(
             out,
             window,
             events,
@@ -110,6 +209,8 @@ pub fn append_mark(
                 dir,
                 how,
             },
+            seat,
+            inst,
         ),
         _ => Ok(()),
     }

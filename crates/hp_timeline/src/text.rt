@@ -15,13 +15,13 @@ static PAIRS: [u8; 200] =
     *b"00010203040506070809101112131415161718192021222324252627282930313233343536373839404142434445464748495051525354555657585960616263646566676869707172737475767778798081828384858687888990919293949596979899";
 
 /// Numbers below this one have at most `DIGITS` digits.
-const LONG: usize = 1_000_000;
+pub const LONG: usize = 1_000_000;
 
 const DIGITS: usize = 6;
 
 /// Pushes bytes for which there is room.
 #[inline(always)]
-fn push(out: &mut Vec<u8>, bytes: &[u8])
+pub fn push(out: &mut Vec<u8>, bytes: &[u8])
     requires { vec_len out.old + length bytes.now ≤ vec_capacity out.old }
     ensures text { Appends out.old out.new bytes.now }
     ensures many { vec_len out.new ≡ vec_len out.old + length bytes.now }
@@ -108,9 +108,22 @@ fn append_long(out: &mut Vec<u8>, bytes: &[u8], number: usize) -> Result<(), All
     out.extend_from_slice(buffer.format(number).as_bytes())
 }
 
+/// Pushes bytes, and behind them a number of at most `DIGITS` digits.
+#[inline(always)]
+pub fn push_with(out: &mut Vec<u8>, bytes: &[u8], number: usize)
+    requires below { number < LONG }
+    requires room { vec_len out.old + (length bytes.now + DIGITS) ≤ vec_capacity out.old }
+    ensures text { Appends out.old out.new (bytes.now ++ decimal number) }
+    ensures many { vec_len out.new ≤ vec_len out.old + (length bytes.now + DIGITS) }
+    ensures room { vec_capacity out.new ≡ vec_capacity out.old }
+{
+    push(out, bytes);
+    push_decimal(out, number as u32);
+}
+
 /// Takes a buffer out of its place, where an empty one stands meanwhile.
 #[inline(always)]
-fn take_out(out: &mut Vec<u8>) -> Vec<u8>
+pub fn take_out(out: &mut Vec<u8>) -> Vec<u8>
     ensures { result ≡ out.old }
 {
     let alloc = *out.allocator();
@@ -119,7 +132,7 @@ fn take_out(out: &mut Vec<u8>) -> Vec<u8>
 
 /// Puts it back.
 #[inline(always)]
-fn put_back(out: &mut Vec<u8>, text: Vec<u8>)
+pub fn put_back(out: &mut Vec<u8>, text: Vec<u8>)
     ensures { out.new ≡ text }
 {
     forget(replace(out, text));
@@ -147,8 +160,7 @@ pub fn append_with(out: &mut Vec<u8>, bytes: &[u8], number: usize) -> Result<(),
     }
     out.reserve(bytes.len() + DIGITS)?;
     let mut text = take_out(out);
-    push(&mut text, bytes);
-    push_decimal(&mut text, number as u32);
+    push_with(&mut text, bytes, number);
     put_back(out, text);
     Ok(())
 }

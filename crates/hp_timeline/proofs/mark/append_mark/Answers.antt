@@ -21,13 +21,13 @@ returns-in-Call c =
     } in
     let one : marked c.args.place (slice_get c.args.events.now c.args.place) ≡ mark ∷ [] =
     ap (λ o. marked c.args.place o) (got c.args.events.now c.args.place c.requires ∙ ap (λ (e : Event). Some e) c.in-Call.is) in
-    on_ok_so c.append_entry.result _ _
+    on_ok_so c.append_one.result _ _
     (λ made.
     made
     ∙ ap (λ bytes. c.args.out.now.items ++ bytes)
     (sym (append-nil (mark_text c.args.window c.args.events.now mark))
     ∙ ap (λ (marks : List Mark). flat_map (mark_text c.args.window c.args.events.now) marks) (sym one)))
-    c.append_entry.ensures
+    c.append_one.ensures
 
 pub returns-in_default : goal.returns-in_default
 returns-in_default c =
