@@ -98,7 +98,7 @@ impl<H: Hook + Send> Hotplug<H> {
             Ok(seat) => {
                 let right = self.split(&mut sight);
                 self.join(root, right);
-                self.made.notify_all();
+                self.wakes.wake();
                 Ok((sight, seat))
             }
             Err(error) => {

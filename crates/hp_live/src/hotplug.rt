@@ -1,7 +1,7 @@
 //! The machine that threads share.
 
 use crate::live::Live;
-use crossbeam_utils::sync::EventCount;
+use crate::wakes::Wakes;
 use hp_hook::Hook;
 use hp_turn::TurnLock;
 
@@ -12,5 +12,5 @@ use hp_turn::TurnLock;
 #[derive(Drop)]
 pub struct Hotplug<H: Hook + Send> {
     pub(crate) lock: TurnLock<Live<H>>,
-    pub(crate) made: EventCount,
+    pub(crate) wakes: Wakes,
 }

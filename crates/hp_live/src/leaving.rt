@@ -49,7 +49,7 @@ impl<H: Hook + Send> Hotplug<H> {
         let None = back else { unreachable!() };
         gate.pass(number, sections, true);
         self.leave_section(rt, &mut sight, number);
-        self.made.notify_all();
+        self.wakes.wake();
         Left {
             sight,
             seat: number,
@@ -93,17 +93,17 @@ impl<H: Hook + Send> Hotplug<H> {
         ensures nothing { own.new.lent ≡ None }
     {
         for _ in rt.forever() {
-            let key = self.made.prepare_wait();
+            let key = self.wakes.thread(own.number);
             match self.leave_step(rt, gate, own) {
                 None => {
                     drop(key);
-                    self.made.notify_all();
+                    self.wakes.wake();
                     return;
                 }
                 Some(Tried::Turned(Turn::NotYet(_))) => key.wait(rt),
                 Some(Tried::Turned(_)) => {
                     drop(key);
-                    self.made.notify_all();
+                    self.wakes.wake();
                 }
                 Some(Tried::Lent { .. } | Tried::Busy) => drop(key),
             }

@@ -9,7 +9,8 @@
 //! `try_turn` and `try_serve` are one section each, if nobody else has the lock, and wait for nobody.
 //!
 //! Every front is a lawful journal. A call's new front has the old one as its beginning, and past it of the caller's seat
-//! just the events of this call. Who has nothing to do sleeps until another made an event.
+//! just the events of this call. Who has nothing to do sleeps until another made an
+//! event by which it may go on (`wakes.rt`).
 //!
 //! To read the specs: `Known` says what contracts see of passes, `Grew` how a front grows, `Sections` what one
 //! lock section makes of it, `Runs` and `Threads` what an operation and a thread make of it, and `Tries` what one try does. `Steps`,
@@ -44,6 +45,7 @@ mod telling;
 mod tests;
 mod tried;
 mod tries;
+mod wakes;
 
 pub use ap_pass::ApPass;
 pub use forms::{Done, HookBack};

@@ -90,7 +90,7 @@ impl<H: Hook + Send> Hotplug<H> {
         read.sound();
         let ReadPass { mut own, online: _ } = read;
         self.unlock_step(rt, gate, &mut own);
-        self.made.notify_all();
+        self.wakes.wake();
         Pass { own }
     }
 
@@ -145,12 +145,12 @@ impl<H: Hook + Send> Hotplug<H> {
         ensures nothing { own.new.lent ≡ None }
     {
         for _ in rt.forever() {
-            let key = self.made.prepare_wait();
+            let key = self.wakes.client();
             match self.lock_step(rt, gate, own) {
                 None => key.wait(rt),
                 Some(asked) => {
                     drop(key);
-                    self.made.notify_all();
+                    self.wakes.wake();
                     return asked;
                 }
             }

@@ -85,16 +85,16 @@ impl<H: Hook + Send> Hotplug<H> {
     {
         let mut begun = false;
         for _ in rt.forever() {
-            let key = self.made.prepare_wait();
+            let key = self.wakes.client();
             match self.step(rt, gate, own, ask) {
                 Ok(Tried::Turned(Turn::Answered { answer, .. })) => {
                     drop(key);
-                    self.made.notify_all();
+                    self.wakes.wake();
                     return Ok(answer);
                 }
                 Ok(Tried::Turned(Turn::Made { .. })) => {
                     drop(key);
-                    self.made.notify_all();
+                    self.wakes.wake();
                     begun = true;
                 }
                 Ok(Tried::Turned(Turn::NotYet(_))) => key.wait(rt),

@@ -31,6 +31,7 @@ impl<H: Hook + Send> Hotplug<H> {
     {
         live.board.sound();
         let seen = live.length();
+        self.wakes.mark(&live.board);
         self.lock.unlock(pass, live);
         seen
     }

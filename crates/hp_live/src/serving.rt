@@ -44,7 +44,7 @@ impl<H: Hook + Send> Hotplug<H> {
         ensures nothing { own.new.lent ≡ None }
     {
         for _ in rt.forever() {
-            let key = self.made.prepare_wait();
+            let key = self.wakes.thread(own.number);
             let (tried, rests) = self.serve_step(rt, gate, own);
             if rests {
                 drop(key);
@@ -54,7 +54,7 @@ impl<H: Hook + Send> Hotplug<H> {
                 Tried::Turned(Turn::NotYet(_)) => key.wait(rt),
                 Tried::Turned(_) => {
                     drop(key);
-                    self.made.notify_all();
+                    self.wakes.wake();
                 }
                 Tried::Lent { .. } | Tried::Busy => drop(key),
             }

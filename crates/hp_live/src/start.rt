@@ -12,7 +12,7 @@ use crate::hotplug::Hotplug;
 use crate::live::Live;
 use crate::root::Root;
 use crate::sight::Sight;
-use crossbeam_utils::sync::EventCount;
+use crate::wakes::Wakes;
 use hp_board::{Board, CpuPlan, StartError};
 use hp_event::Subs;
 use hp_hook::Hook;
@@ -55,7 +55,7 @@ impl<H: Hook + Send> Hotplug<H> {
         ensures knew { Knows None true root.front result.events }
         ensures home { ((k : ℕ) → role_of k root.front ≡ None) → AllHome result.places }
     {
-        let Hotplug { lock, made: _ } = self;
+        let Hotplug { lock, wakes: _ } = self;
         let Root { sight } = root;
         let Sight { turn, seen: _ } = sight;
         let Live { board } = lock.close(rt, turn);
@@ -77,7 +77,7 @@ fn begin<H: Hook + Send>(alloc: Global, board: Board<H>) -> Result<(Hotplug<H>, 
     Ok((
         Hotplug {
             lock,
-            made: EventCount::new(),
+            wakes: Wakes::new(),
         },
         Root { sight },
     ))

@@ -177,7 +177,7 @@ impl<H: Hook + Send> Hotplug<H> {
         match self.try_give_section(&mut own.sight, own.number, back) {
             Ok(at) => {
                 own.sections = own.sections.saturating_add(1);
-                self.made.notify_all();
+                self.wakes.wake();
                 Some(Tried::Turned(Turn::Made { at }))
             }
             Err(back) => {
@@ -258,7 +258,7 @@ impl<H: Hook + Send> Hotplug<H> {
     /// Wakes those who sleep, where a turn made an event.
     fn wake_after(&self, turn: Turn) {
         if let Turn::Made { .. } | Turn::Answered { at: Some(_), .. } = turn {
-            self.made.notify_all();
+            self.wakes.wake();
         }
     }
 }
