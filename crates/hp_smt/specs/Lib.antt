@@ -1,0 +1,11 @@
+pub mod Siblings
+pub mod Modes
+pub mod Writes
+pub mod Gone
+pub mod Contents
+pub mod Turns
+pub mod Brought
+pub mod Shut
+pub mod Sound
+pub mod Hooks
+pub mod Run

@@ -1,0 +1,62 @@
+//! Which processors are siblings, and which operations bring one up.
+
+ghost use Rattle.std.specs.Prelude.{◌≡◌, ◌<◌, ◌&&◌};
+ghost use Rattle.hp_states.specs.CpuSets.{has};
+ghost use Rattle.hp_states.specs.declared.limits.TheConstants.{MAX_CPU_SET as MAX_CPU_SET_OF};
+ghost use Rattle.hp_smt.specs.Siblings.{is_sibling as is_sibling_of, sibling_in as sibling_in_of, is_up_of_sibling as is_up_of_sibling_of};
+
+use hp_event::Op;
+use hp_states::{AP_ONLINE, CpuSet, MAX_CPU_SET};
+
+/// Whether a processor is a sibling: not the first of the threads of its core, which is the primary.
+///
+/// A core has at least one thread, and any number may be asked for. Takes no memory. After
+/// `topology_is_primary_thread` of `kernel/cpu.c`; that the numbers say it is this project's own.
+pub fn is_sibling(threads: u32, cpu: u32) -> bool
+    requires { 0 < threads }
+    ensures { result ≡ is_sibling_of threads cpu }
+{
+    cpu % threads != 0
+}
+
+/// The lowest sibling of a set, if it has one.
+///
+/// A core has at least one thread. Takes no memory, and a step for each number of the set.
+pub(crate) fn sibling_in(threads: u32, set: &CpuSet) -> Option<u32>
+    requires { 0 < threads }
+    ensures { result ≡ sibling_in_of threads set.now }
+{
+    for cpu in 0..MAX_CPU_SET {
+        if has_sibling(threads, set, cpu) {
+            return Some(cpu);
+        }
+    }
+    None
+}
+
+/// Whether a number below 256 is a sibling of a set. Takes no memory.
+fn has_sibling(threads: u32, set: &CpuSet, cpu: u32) -> bool
+    requires some_threads { 0 < threads }
+    requires within { cpu < MAX_CPU_SET_OF }
+    ensures { result ≡ (has set.now cpu && is_sibling_of threads cpu) }
+{
+    set.has(cpu) && is_sibling(threads, cpu)
+}
+
+/// Whether an operation asks for a sibling to be brought up, or may come to bring one up, as every boot may: an `up` of
+/// one, a target of one at a state at which it is online, or an upmany that lists one. Whether a processor is there at
+/// all makes no difference.
+///
+/// A core has at least one thread. Takes no memory.
+pub fn is_up_of_sibling(threads: u32, op: &Op) -> bool
+    requires { 0 < threads }
+    ensures { result ≡ is_up_of_sibling_of threads op.now }
+{
+    match *op {
+        Op::Up(cpu) => is_sibling(threads, cpu),
+        Op::Target(cpu, to) => is_sibling(threads, cpu) && to > AP_ONLINE as i32,
+        Op::UpMany(ref set) => sibling_in(threads, set).is_some(),
+        Op::Boot(_) => true,
+        _ => false,
+    }
+}
