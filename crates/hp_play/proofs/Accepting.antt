@@ -1,48 +1,18 @@
 -- A command that has its input isn't refused.
-use Rattle.std.proofs.Common.{◌≡◌, ℕ, ◌+◌, ◌≤◌, ◌⊎◌, inl, inr, Option, Some, None, List, [], ◌++◌, length, sym, subst, ◌∙◌, arith}
-use Rattle.std.proofs.lemmas.List.{append-nil, length-append}
-use Rattle.hp_states.specs.declared.limits.TheConstants.{MAX_SCRIPT_BYTES, MAX_JOURNAL_BYTES}
+use Rattle.std.proofs.Common.{◌≡◌, ℕ, ◌≤◌, inl, inr, Option, List, length, sym, subst, ◌∙◌, arith}
+use Rattle.hp_states.specs.declared.limits.TheConstants.{MAX_JOURNAL_BYTES}
 use Rattle.hp_event.specs.declared.head.Head.{Head}
 use Rattle.hp_event.specs.declared.event.Event.{Event}
 use Rattle.hp_command.specs.declared.command.Command.{Command}
 use Rattle.hp_command.specs.declared.command.Command.TheVariants as asks
 use Rattle.hp_command.specs.Commands.{IsCommand}
 use Rattle.hp_command.proofs.CommandLaws.{same_command}
-use Rattle.hp_script.specs.Judged.{IsRefused}
-use Rattle.hp_script.proofs.PlayableScripts.{short_read}
 use Rattle.hp_replay.specs.declared.error.ReplayKind.{ReplayKind}
 use Rattle.hp_replay.specs.Judged.{accepted, refused}
 use Rattle.hp_replay.specs.Verdict.{IsReplay}
 use Rattle.hp_replay.proofs.VerdictLaws.{one_outcome}
-use Rattle.hp_edge.specs.Reading.{WasRead}
-use Rattle.hp_play.specs.Main.{Asked, HoldsScript, HoldsJournal, HasInput, IsBadScript, IsBadJournal, IsRefusedBy}
-use Rattle.hp_play.specs.Played.{counted_hooks}
-
-same_some : (a b : List ℕ) → Some a ≡ Some b → a ≡ b
-same_some a b h = cc
-
--- of bytes that are few enough all were read
-all_read : (limit : ℕ) (left now : Option (List ℕ)) (bytes all : List ℕ) → left ≡ Some all → length all ≤ limit →
-    WasRead limit left now bytes → bytes ≡ all
-all_read limit left None bytes all held few read = let first = sym held ∙ read.first in absurd (cc)
-all_read limit left (Some rest) bytes all held few read = go read.whole
-  where
-    parts : bytes ++ rest ≡ all
-    parts = same_some (bytes ++ rest) all (sym read.first ∙ held)
-
-    go : (rest ≡ []) ⊎ (length bytes ≡ limit + 1) → bytes ≡ all
-    go (inl none) = sym (append-nil bytes) ∙ (rw none at parts)
-    go (inr many) =
-        let more = length-append bytes rest in
-        let whole : length (bytes ++ rest) ≤ limit = rw parts few in
-        absurd (omega (arith, more, many, whole))
-
-no_bad_script : (hooks : ℕ) (left now : Option (List ℕ)) (written : List ℕ) → HoldsScript hooks left → IsBadScript hooks left now written → ⊥
-no_bad_script hooks left now written s bad =
-    let few = short_read (counted_hooks hooks) s.bytes s.script s.is_script in
-    let same = all_read MAX_SCRIPT_BYTES left now bad.bytes s.bytes s.held few bad.read in
-    s.is_script.unrefused bad.line bad.kind
-    (subst (λ (bytes : List ℕ). IsRefused (counted_hooks hooks) bytes bad.line bad.kind) same bad.refused)
+use Rattle.hp_edge.proofs.Holding.{all_read, no_bad_script}
+use Rattle.hp_play.specs.Main.{Asked, HoldsJournal, HasInput, IsBadJournal, IsRefusedBy}
 
 not_refused : (command : Command) (hooks : ℕ) (left now : Option (List ℕ)) (written : List ℕ) → HasInput command hooks left →
     IsRefusedBy command hooks left now written → ⊥

@@ -1,32 +1,41 @@
--- A script that was read can be played with the hooks of the rack; which generated scripts are.
-use Rattle.std.proofs.Common.{◌≡◌, ℕ, ◌<◌, ◌≤◌, Option, Bool, true, false, ltb, List, Result, Ok, Err, IfErr, arith, refl}
-use Rattle.std.specs.List.{sum_by}
+-- Why there is no script is why nothing is played; which generated scripts can be.
+use Rattle.std.proofs.Common.{◌≡◌, ℕ, ◌<◌, Option, Bool, true, false, ltb, List, Result, Ok, Err, IfErr, arith, refl, sym, subst}
 use Rattle.std.proofs.lemmas.Bool.{ltb-true, ltb-false}
 use Rattle.hp_command.specs.declared.command.Command.{Command}
 use Rattle.hp_command.specs.declared.command.Command.TheVariants as asks
 use Rattle.hp_command.specs.Commands.{IsCommand}
 use Rattle.hp_command.specs.declared.options.Options.{Options}
-use Rattle.hp_model.specs.Scripts.{IsScript}
+use Rattle.hp_edge.specs.declared.script.NoScript.{NoScript}
+use Rattle.hp_edge.specs.declared.script.NoScript.TheVariants as no_script
+use Rattle.hp_edge.specs.Scripts.{counted_hooks}
+use Rattle.hp_edge.specs.Scripts as edge
 use Rattle.hp_script.specs.Generated.{generated}
-use Rattle.hp_script.specs.Judged.{IsRead, IsRefused}
-use Rattle.hp_script.specs.Playable.{setups_in}
-use Rattle.hp_script.specs.Script.{Contents}
+use Rattle.hp_script.specs.Judged.{IsRefused}
 use Rattle.hp_script.specs.declared.error.ScriptKind.{ScriptKind}
 use Rattle.hp_script.proofs.GeneratedScripts.{is_read}
-use Rattle.hp_script.proofs.PlayableScripts.{read_scripts_play}
 use Rattle.hp_play.specs.declared.stop.Stop.{Stop}
 use Rattle.hp_play.specs.declared.stop.Stop.TheVariants.{BadScript, BadJournal, ReadFault, NoMemory}
-use Rattle.hp_play.specs.Played.{counted_hooks}
 use Rattle.hp_play.specs.Ranges.{AreInRange}
-use Rattle.hp_play.specs.Stops.{HasRanges, Stops, Refuses}
+use Rattle.hp_play.specs.Stops.{HasRanges, Stops, StopsScript, Refuses, stop_of}
 
-pub plays : (hooks : ℕ) (bytes : List ℕ) (script : Contents) → IsRead hooks bytes script → IsScript script.head script.actors
-plays hooks bytes script read = (read_scripts_play hooks bytes script read).plays
+-- the stop says why there is no script
+pub refuses_stop : (hooks : ℕ) (bytes : List ℕ) (e : NoScript) (stop : Stop) → stop ≡ stop_of e → edge.Refuses hooks bytes e →
+    Refuses hooks bytes stop
+refuses_stop hooks bytes e stop is why = subst (Refuses hooks bytes) (sym is) (go e why)
+  where
+    go : (e : NoScript) → edge.Refuses hooks bytes e → Refuses hooks bytes (stop_of e)
+    go (no_script.Refused line) why = why
+    go no_script.ReadFault why = why
+    go no_script.NoMemory why = why
 
-pub enough : (hooks count : ℕ) (bytes : List ℕ) (script : Contents) → IsRead hooks bytes script → hooks ≤ count →
-    sum_by setups_in script.actors ≤ count
-enough hooks count bytes script read few =
-    let h = (read_scripts_play hooks bytes script read).hooks_for_all in omega (arith, h, few)
+pub stops_script : (hooks : ℕ) (left now : Option (List ℕ)) (faults faults_now : ℕ) (e : NoScript) (stop : Stop) → stop ≡ stop_of e →
+    edge.Stops hooks left now faults faults_now e → StopsScript hooks left now faults faults_now stop
+stops_script hooks left now faults faults_now e stop is why = subst (StopsScript hooks left now faults faults_now) (sym is) (go e why)
+  where
+    go : (e : NoScript) → edge.Stops hooks left now faults faults_now e → StopsScript hooks left now faults faults_now (stop_of e)
+    go (no_script.Refused line) why = why
+    go no_script.ReadFault why = why
+    go no_script.NoMemory why = why
 
 -- the words of a command have its options in their ranges
 pub ranges : (words : List (List ℕ)) (command : Command) → IsCommand words command → HasRanges command

@@ -9,6 +9,7 @@ use Rattle.hp_command.specs.declared.command.Command.TheVariants as asks
 use Rattle.hp_command.specs.Commands.{IsCommand}
 use Rattle.hp_edge.specs.Reading.{WasRead}
 use Rattle.hp_edge.specs.Refusals.{script_error_line, journal_error_line}
+use Rattle.hp_edge.specs.Scripts.{counted_hooks, HoldsScript, IsBadScript}
 use Rattle.hp_model.specs.Summary.{summary}
 use Rattle.hp_replay.specs.declared.error.ReplayError.TheVariants.{Bad as BadJournal}
 use Rattle.hp_replay.specs.declared.error.ReplayKind.{ReplayKind}
@@ -17,11 +18,10 @@ use Rattle.hp_replay.specs.Verdict.{IsReplay}
 use Rattle.hp_script.specs.declared.error.ParseError.TheVariants.{Bad as BadScript}
 use Rattle.hp_script.specs.declared.error.ScriptKind.{ScriptKind}
 use Rattle.hp_script.specs.Generated.{generated}
-use Rattle.hp_script.specs.Judged.{IsRead, IsRefused}
-use Rattle.hp_script.specs.Script.{Contents}
+use Rattle.hp_script.specs.Judged.{IsRefused}
 use Rattle.hp_play.specs.declared.output.Output.{Output}
 use Rattle.hp_play.specs.declared.output.Output.TheVariants as writes
-use Rattle.hp_play.specs.Played.{IsPlayed, counted_hooks}
+use Rattle.hp_play.specs.Played.{IsPlayed}
 use Rattle.hp_play.specs.Racks.{Racks, Stays}
 
 abbrev pub usage_line : List ℕ
@@ -67,13 +67,6 @@ PlaysNothing _ = ⊥
 
 -- ---- what is accepted
 
--- the source holds a script
-pub record HoldsScript (hooks : ℕ) (left : Option (List ℕ)) : Type 0 where
-  pub bytes : List ℕ
-  pub script : Contents
-  pub held : left ≡ Some bytes
-  pub is_script : IsRead (counted_hooks hooks) bytes script
-
 -- the source holds the text of a lawful journal, with or without its summary
 pub record HoldsJournal (left : Option (List ℕ)) : Type 0 where
   pub bytes : List ℕ
@@ -93,15 +86,6 @@ HasInput (asks.Bench options) hooks left = 12 ≤ hooks
 HasInput (asks.Count counting) hooks left = HoldsScript hooks left
 
 -- ---- what is refused
-
--- the source holds no script: this line is the first that is refused, for this cause
-pub record IsBadScript (hooks : ℕ) (left now : Option (List ℕ)) (written : List ℕ) : Type 0 where
-  pub bytes : List ℕ
-  pub read : WasRead MAX_SCRIPT_BYTES left now bytes
-  pub line : ℕ
-  pub kind : ScriptKind
-  pub refused : IsRefused (counted_hooks hooks) bytes line kind
-  pub written_is : written ≡ script_error_line (BadScript line kind)
 
 -- the rack has too few hooks for the setups of a generated script
 pub record IsBadBench (seed size hooks : ℕ) (left now : Option (List ℕ)) (written : List ℕ) : Type 0 where

@@ -1,9 +1,10 @@
 -- What is so of the journal of a script that was played, and of the rack after it. This project's own.
-use Rattle.std.specs.Prelude.{◌≡◌, ℕ, min, true, None, Option, List, ◌++◌, length, map}
+use Rattle.std.specs.Prelude.{◌≡◌, ℕ, true, None, Option, List, ◌++◌, length, map}
 use Rattle.std.specs.List.{sum_by}
 use Rattle.hp_actors.specs.Hooks.{AreFromRack, IsLater, OneForEachSetup, hooks_there}
 use Rattle.hp_actors.specs.Positions.{Position}
 use Rattle.hp_actors.specs.Racks.{Takes}
+use Rattle.hp_edge.specs.Scripts.{counted_hooks}
 use Rattle.hp_event.specs.declared.event.Event.{Event}
 use Rattle.hp_hook.specs.Counted.{Counts}
 use Rattle.hp_model.specs.Lawful.{IsLawful}
@@ -58,10 +59,6 @@ pub record WasPlayed {H : Type 0} (of : Output) (script : Contents) (rack : Rack
   pub journal : IsJournalOf script events
   pub rack_is : IsRackAfter script events rack
   pub written_is : written ≡ output of script.head events
-
--- the hooks that a script's setups can take: those of the rack, as far as they are counted
-abbrev pub counted_hooks : (hooks : ℕ) → ℕ
-counted_hooks hooks = min hooks 4294967295
 
 -- the bytes are a script, for a rack with so many hooks, and it was played
 pub record IsPlayed {H : Type 0} (of : Output) (rack : Racks H) (bytes written : List ℕ) : Type 0 where

@@ -2,15 +2,13 @@
 use Rattle.std.specs.Prelude.{◌≡◌, ℕ, ◌+◌, ◌^◌, ◌<◌, ◌≤◌, Option, List}
 use Rattle.hp_command.specs.declared.command.Command.{Command}
 use Rattle.hp_command.specs.declared.command.Command.TheVariants as asks
-use Rattle.hp_script.specs.declared.error.ParseError.TheVariants.{Bad}
-use Rattle.hp_script.specs.declared.error.ScriptKind.{ScriptKind}
-use Rattle.hp_script.specs.Judged.{IsRefused}
 use Rattle.hp_play.specs.declared.stop.Stop.{Stop}
 use Rattle.hp_play.specs.declared.stop.Stop.TheVariants.{BadScript, BadJournal, ReadFault, NoMemory}
 use Rattle.hp_play.specs.Ranges.{AreInRange, CanBeCounted}
-use Rattle.hp_play.specs.Main.{IsBadScript, IsBadJournal, IsRefusedBy}
-use Rattle.hp_play.specs.Played.{counted_hooks}
-use Rattle.hp_edge.specs.Refusals.{script_error_line}
+use Rattle.hp_play.specs.Main.{IsBadJournal, IsRefusedBy}
+use Rattle.hp_edge.specs.declared.script.NoScript.{NoScript}
+use Rattle.hp_edge.specs.declared.script.NoScript.TheVariants as no_script
+use Rattle.hp_edge.specs.Scripts.{IsBad, IsBadScript}
 
 -- the numbers of a command are in their ranges
 abbrev pub HasRanges : Command → Type 0
@@ -51,16 +49,15 @@ StopsJournal left now faults faults_now (BadJournal line) = IsBadJournal left no
 StopsJournal left now faults faults_now ReadFault = faults_now ≡ faults + 1
 StopsJournal left now faults faults_now NoMemory = faults_now ≡ faults
 
--- the bytes of a script are refused
-pub record IsBad (hooks : ℕ) (bytes written : List ℕ) : Type 0 where
-  pub line : ℕ
-  pub kind : ScriptKind
-  pub refused : IsRefused (counted_hooks hooks) bytes line kind
-  pub written_is : written ≡ script_error_line (Bad line kind)
-
 -- the same of the bytes of a script
 abbrev pub Refuses : (hooks : ℕ) (bytes : List ℕ) → Stop → Type 0
 Refuses hooks bytes (BadScript line) = IsBad hooks bytes line.items
 Refuses hooks bytes (BadJournal line) = ⊥
 Refuses hooks bytes ReadFault = ⊥
 Refuses hooks bytes NoMemory = Unit {0}
+
+-- the stop where there is no script
+abbrev pub stop_of : NoScript → Stop
+stop_of (no_script.Refused line) = BadScript line
+stop_of no_script.ReadFault = ReadFault
+stop_of no_script.NoMemory = NoMemory

@@ -12,12 +12,12 @@ use crate::output::Output;
 use crate::play::text_played;
 use crate::stop::Stop;
 use hp_command::Command;
-use hp_edge::{journal_error_line, read_input, script_error_line};
+use hp_edge::{journal_error_line, read_input, read_script, script_of};
 use hp_hook::{Hook, Rack};
 use hp_io::Source;
 use hp_replay::{ReplayError, check_and_summarize};
-use hp_script::{ParseError, generate, parse};
-use hp_states::{MAX_JOURNAL_BYTES, MAX_SCRIPT_BYTES};
+use hp_script::generate;
+use hp_states::MAX_JOURNAL_BYTES;
 use std::alloc::Global;
 
 /// What a command writes.
@@ -63,9 +63,9 @@ fn script_played<S: Source, H: Hook>(
     ensures stop { IfErr result (StopsScriptAt S.Source source.old source.new rack.old) }
     ensures rack { IfErr result (StaysUnlessWanting rack.old rack.new) }
 {
-    match read_input(alloc, source, MAX_SCRIPT_BYTES) {
-        Ok(script) => text_of_script(alloc, of, &script, rack),
-        Err(error) => Err(Stop::of_read(error)),
+    match read_script(alloc, source, rack.hooks.len()) {
+        Ok(script) => Ok(text_played(alloc, of, &script, rack)?),
+        Err(error) => Err(Stop::of_script(error)),
     }
 }
 
@@ -83,11 +83,9 @@ fn text_of_script<H: Hook>(
     ensures stop { IfErr result (Refuses (length rack.old.hooks.items) bytes.now) }
     ensures rack { IfErr result (StaysUnlessWanting rack.old rack.new) }
 {
-    let hooks = rack.hooks.len().min(u32::MAX as usize) as u32;
-    match parse(alloc, bytes, hooks) {
+    match script_of(alloc, bytes, rack.hooks.len()) {
         Ok(script) => Ok(text_played(alloc, of, &script, rack)?),
-        Err(ParseError::NoMemory) => Err(Stop::NoMemory),
-        Err(error) => Err(Stop::BadScript(script_error_line(alloc, error)?)),
+        Err(error) => Err(Stop::of_script(error)),
     }
 }
 

@@ -1,7 +1,9 @@
 //! Why no output is written.
 
 ghost use Rattle.std.specs.Prelude.{◌≡◌};
+ghost use Rattle.hp_play.specs.Stops.{stop_of};
 
+use hp_edge::NoScript;
 use hp_io::ReadError;
 use hp_states::NoMemory;
 
@@ -38,6 +40,16 @@ impl Stop {
         match error {
             ReadError::Failed => Stop::ReadFault,
             ReadError::NoMemory => Stop::NoMemory,
+        }
+    }
+    /// The stop where there is no script.
+    pub fn of_script(error: NoScript) -> Stop
+        ensures { result ≡ stop_of error }
+    {
+        match error {
+            NoScript::Refused(line) => Stop::BadScript(line),
+            NoScript::ReadFault => Stop::ReadFault,
+            NoScript::NoMemory => Stop::NoMemory,
         }
     }
 }

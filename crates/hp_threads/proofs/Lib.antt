@@ -1,0 +1,14 @@
+pub mod Numbers
+pub mod Playing
+pub mod Locking
+pub mod Captures
+pub mod Sending
+pub mod Pairing
+pub mod Staying
+pub mod Opening
+pub mod Meeting
+pub mod Parting
+pub mod Journaling
+pub mod Coming
+pub mod Hearing
+pub mod Taking

@@ -1,0 +1,9 @@
+pub mod Acting
+pub mod Standings
+pub mod Jobs
+pub mod Crews
+pub mod Loaded
+pub mod Admitting
+pub mod Journals
+pub mod Opened
+pub mod Ending
