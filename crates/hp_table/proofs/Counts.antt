@@ -1,5 +1,5 @@
 -- How many instances and keys the places have, and what a write makes of it.
-use Rattle.std.proofs.Common.{◌≡◌, ℕ, zero, suc, ◌+◌, ◌<◌, ◌≤◌, Bool, true, false, Option, Some, None, List, [], ◌∷◌, length, get_or, take, drop, min, refl, subst, arith, ◌⊎◌, inl, inr}
+use Rattle.std.proofs.Common.{◌≡◌, ℕ, zero, suc, ◌+◌, ◌<◌, ◌≤◌, Bool, true, false, Option, Some, None, List, [], ◌∷◌, length, get_or, take, drop, min, refl, ◌∙◌, subst, arith, ◌⊎◌, inl, inr}
 use Rattle.std.specs.Prelude.{slice_set, replicate, sum_by, if◌then◌else◌}
 use Rattle.std.proofs.lemmas.List.Sums.{sum_by-cons, sum_by-set, sum_by-take-drop, sum_by-take-le, sum_by_more}
 use Rattle.std.proofs.lemmas.List.{take-take, take_all, length-take-le}
@@ -100,3 +100,27 @@ keys_are places top low high keys states is =
     under t most (inr within) =
         let e : min low t ≡ low = omega arith in
         rw e (take-take (low + 1) (t + 1) places (omega arith))
+
+-- states where nothing is registered have no keys
+pub keys_skip : (places : List (Option Step)) (from s : ℕ) → from ≤ s → ((t : ℕ) → from ≤ t → t < s → step_at places t ≡ None) →
+    sum_by keys_of (take s places) ≡ sum_by keys_of (take from places)
+keys_skip places from zero below none = let e : from ≡ zero = omega arith in rw e refl
+keys_skip places from (suc s) below none =
+    go (cases_lt s from) (λ more. keys_skip places from s more (λ t at_least less. none t at_least (omega arith)))
+  where
+    one_more : (s < length places) ⊎ (length places ≤ s) → step_at places s ≡ None → sum_by keys_of (take (suc s) places) ≡ sum_by keys_of (take s places)
+    one_more (inl inside) here =
+        let e : s + 1 ≡ suc s = omega arith in
+        let more : sum_by keys_of (take (s + 1) places) ≡ sum_by keys_of (take s places) + keys_of (step_at places s) = keys_more places s inside in
+        let more : sum_by keys_of (take (suc s) places) ≡ sum_by keys_of (take s places) + keys_of (step_at places s) = rw e at more in
+        let more : sum_by keys_of (take (suc s) places) ≡ sum_by keys_of (take s places) + 0 = rw here at more in
+        omega (arith, more)
+    one_more (inr past) here =
+        let all : take (suc s) places ≡ places = take_all (suc s) places (omega arith) in
+        let all_s : take s places ≡ places = take_all s places (omega arith) in
+        rw (all, all_s) refl
+
+    go : (s < from) ⊎ (from ≤ s) → (from ≤ s → sum_by keys_of (take s places) ≡ sum_by keys_of (take from places)) →
+        sum_by keys_of (take (suc s) places) ≡ sum_by keys_of (take from places)
+    go (inl last) before = let e : from ≡ suc s = omega arith in rw e refl
+    go (inr more) before = one_more (cases_lt s (length places)) (none s more (omega arith)) ∙ before more

@@ -2,6 +2,7 @@ pub mod Places
 pub mod Counts
 pub mod Steps
 pub mod Tables
+pub mod Marked
 pub mod Members
 pub mod Placed
 pub mod Clearing

@@ -1,10 +1,10 @@
 //! The table of states.
 
-ghost use Rattle.std.specs.Prelude.{◌≡◌, ◌≢◌, ◌+◌, ◌<◌, ◌≤◌, ◌↔◌, ◌⊎◌, Some, None, true, false, IfOk, IfErr, IfSome, IsOk, IsErrOf, IsSome, OnOk, OnErr, [], slice_set, replicate};
+ghost use Rattle.std.specs.Prelude.{◌≡◌, ◌≢◌, ◌+◌, ◌<◌, ◌≤◌, ◌↔◌, ◌⊎◌, Some, None, true, false, IfOk, IfErr, IfSome, IsOk, IsErrOf, IsSome, IfNone, OnOk, OnErr, [], slice_set, replicate};
 ghost use Rattle.std.specs.Option.{option_copied};
 ghost use Rattle.hp_states.specs.Rules.{site_at};
 ghost use Rattle.hp_table.specs.Step.{step_at, bare, changed_at, kept_of, called_step, loaded_step, lent_step, step_with, is_home, HasCounted, Answers, HasHook};
-ghost use Rattle.hp_table.specs.Named.{is_named, IsAtAnEnd, IsFree, IsTaken};
+ghost use Rattle.hp_table.specs.Named.{is_named, IsAtAnEnd, IsFree, IsTaken, IsNextRegistered, IsNoneRegistered};
 ghost use Rattle.hp_table.specs.Slots.{IsLowestFree, IsFull};
 ghost use Rattle.hp_table.specs.Instances.{instances_at};
 ghost use Rattle.hp_table.specs.Sound.{IsSound};
@@ -15,7 +15,7 @@ use crate::error::TableError;
 use crate::record::Record;
 use crate::registered::Registered;
 use hp_hook::Hook;
-use hp_states::{Dir, HookPlan, MAX_EVENTS, NoMemory, OFFLINE, ONLINE, Range, is_builtin};
+use hp_states::{CpuSet, Dir, HookPlan, MAX_EVENTS, NoMemory, OFFLINE, ONLINE, Range, is_builtin};
 use std::alloc::Global;
 use std::marker::Model;
 
@@ -29,18 +29,20 @@ use std::marker::Model;
 pub struct Table<H: Hook> {
     places: Vec<Option<Registered<H>>>,
     count: u32,
+    // the numbers of the states where something is registered
+    states: CpuSet,
 }
 
 impl<H: Hook> Model for Table<H> {
     ghost use Rattle.std.specs.Prelude.{List, Option};
     ghost use Rattle.hp_table.specs.Step.{Step};
-    ghost use Rattle.hp_table.specs.Inside.{IsCounted};
+    ghost use Rattle.hp_table.specs.Inside.{IsInside};
 
     ghost Value = { List (Option Step) };
 
     ghost view = { λ t. t.places.items };
 
-    ghost invariant = { λ t. IsCounted t.places.items t.count };
+    ghost invariant = { λ t. IsInside t.places.items t.count t.states };
 }
 
 impl<H: Hook> Table<H> {
@@ -54,7 +56,11 @@ impl<H: Hook> Table<H> {
         for _ in 0..ONLINE + 1 {
             places.push(None)?;
         }
-        Ok(Table { places, count: 0 })
+        Ok(Table {
+            places,
+            count: 0,
+            states: CpuSet::none(),
+        })
     }
 
     /// What is so of every table, which callers cite: it does nothing.
@@ -86,6 +92,20 @@ impl<H: Hook> Table<H> {
         ensures sound { IsSound self.now }
     {
         self.places[state as usize].as_ref()
+    }
+
+    /// The lowest state from one on and up to another where something is registered.
+    ///
+    /// Both may be any numbers; nothing is registered above 200. Takes no memory, and a constant time. That the states
+    /// where something is registered are kept as a set is this project's own.
+    pub fn next_registered(&self, from: u32, to: u32) -> Option<u32>
+        ensures some { IfSome result (IsNextRegistered self.now from to) }
+        ensures none { IfNone result (IsNoneRegistered self.now from to) }
+    {
+        match self.states.first_from(from) {
+            Some(state) if state <= to => Some(state),
+            _ => None,
+        }
     }
 
     /// Whether a state has a name: it is built in, or something is registered there.
@@ -143,6 +163,7 @@ impl<H: Hook> Table<H> {
         }
         let alloc = *self.places.allocator();
         self.places[state as usize] = Some(Registered::new(alloc, rec));
+        self.states.put(state);
         Ok(())
     }
 
@@ -180,6 +201,7 @@ impl<H: Hook> Table<H> {
         ensures record_there { step_at self.old state ≡ Some (bare result) }
         ensures gone { self.new ≡ slice_set self.old state None }
     {
+        self.states.take(state);
         match self.places[state as usize].take() {
             Some(step) => step.into_record(),
             None => unreachable!(),

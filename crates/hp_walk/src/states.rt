@@ -26,10 +26,12 @@ fn lowest_above<H: Hook>(table: &Table<H>, low: u32, high: u32) -> Option<u32>
     ensures some { IfSome result (IsNextState (keys_by table.now) Dir.Up low high) }
     ensures none { IfNone result (IsNoState (keys_by table.now) Dir.Up low high) }
 {
-    for state in low + 1..high + 1 {
+    let mut from = low + 1;
+    while let Some(state) = table.next_registered(from, high) {
         if table.key_count_at(state) > 0 {
             return Some(state);
         }
+        from = state + 1;
     }
     None
 }

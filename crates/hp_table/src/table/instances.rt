@@ -30,8 +30,8 @@ impl<H: Hook> Table<H> {
     /// instance list one for each instance, another registered state one.
     ///
     /// There is no condition; above 200 there are no keys, and where `low` isn't below `high` there
-    /// are none either. Takes no memory, and time for the states between. That a key is a state and
-    /// an instance is this project's own.
+    /// are none either. Takes no memory, and time for those states between where something is
+    /// registered. That a key is a state and an instance is this project's own.
     pub fn keys_between(&self, low: u32, high: u32) -> u32
         ensures keys { result ≡ keys_between self.now low high }
         ensures within { result ≤ MAX_TABLE_INSTANCES + ONLINE + 1 }
@@ -40,9 +40,11 @@ impl<H: Hook> Table<H> {
         // what is so of every table
         let _ = &self.places;
         let top = high.min(ONLINE);
+        let mut from = low.min(top) + 1;
         let mut keys = 0;
-        for state in low.min(top) + 1..top + 1 {
-            keys += self.key_count(state);
+        while let Some(state) = self.next_registered(from, top) {
+            keys += self.key_count_at(state);
+            from = state + 1;
         }
         keys
     }

@@ -1,7 +1,7 @@
-use Rattle.std.proofs.Common.{◌≡◌, ◌+◌, Some, IsSome, List, Option, sym, ◌∙◌, subst}
+use Rattle.std.proofs.Common.{◌≡◌, ◌+◌, Some, IsSome, List, Option, sym, ◌∙◌}
 use Rattle.hp_table.specs.Step.{Step, step_at}
 use Rattle.hp_table.specs.Instances.{CanAdd, with_instance}
-use Rattle.hp_table.specs.Inside.{IsCounted}
+use Rattle.hp_table.proofs.Marked.{inside_written}
 use Rattle.hp_table.proofs.Places.{found_there, none_there, written, set_same}
 use Rattle.hp_table.proofs.Members.{takes_there, counted_added, at_err, at_ok}
 use Rattle.hp_table.proofs.table.Table.link.Goals as goal
@@ -38,9 +38,9 @@ invariant_of-self-2 g c =
     let some : IsSome (step_at places c.args.state) = takes_there places c.args.state c.args.inst can.taken in
     let there : step_at places c.args.state ≡ Some c.in-Some.step = found_there places c.args.state _ _ some c.index_mut.ensures.value c.in-Some.is in
     let added : c.add.new.self ≡ with_instance c.args.inst c.in-Some.step = at_ok c.add.result _ (sym c.is_err.ensures.value ∙ c.if-is_err.false) c.add.ensures.ok in
-    subst (λ xs. IsCounted xs (c.self.inside.count + 1))
-    (sym (written places c.args.state (with_instance c.args.inst) _ _ there added))
-    (counted_added places c.args.state c.self.inside.count c.args.inst _ there can c.self.invariant)
+    inside_written places c.args.state (c.self.inside.count + 1) (with_instance c.args.inst) _ _ c.self.inside.states there added
+    (counted_added places c.args.state c.self.inside.count c.args.inst _ there can c.self.invariant.counted)
+    c.self.invariant.marked
 
 pub returns-clause-added : goal.returns-clause-added
 returns-clause-added g c =

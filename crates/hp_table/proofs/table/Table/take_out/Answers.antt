@@ -1,8 +1,9 @@
-use Rattle.std.proofs.Common.{◌≡◌, ℕ, Some, IsSome, List, [], Option, sym, ap, ◌∙◌}
+use Rattle.std.proofs.Common.{◌≡◌, ℕ, ◌<◌, length, Some, IsSome, List, [], Option, sym, ap, ◌∙◌}
 use Rattle.hp_table.specs.Kept.{Kept}
 use Rattle.hp_table.specs.Step.{Step, step_at, bare}
 use Rattle.hp_table.specs.Instances.{instances_at}
-use Rattle.hp_table.proofs.Places.{found_there, none_there}
+use Rattle.hp_table.proofs.Places.{found_there, none_there, within_places}
+use Rattle.hp_table.proofs.Marked.{marked_less}
 use Rattle.hp_table.proofs.Tables.{counted_uninstalled}
 use Rattle.hp_table.proofs.table.Table.take_out.Goals as goal
 
@@ -14,17 +15,21 @@ pub invariant_of-self : goal.invariant_of-self
 invariant_of-self g c =
     let places : List (Option Step) = c.self.inside.places.items in
     let some : IsSome (step_at places c.args.state) = rw c.self.view_is c.requires.registered in
-    let read : c.index_mut.result.now ≡ Some c.in-Some.step = sym c.take.ensures.value ∙ c.in-Some.is in
+    let read : c.index_mut.result.now ≡ Some c.in-Some.step = sym c.take-2.ensures.value ∙ c.in-Some.is in
     let there : step_at places c.args.state ≡ Some c.in-Some.step = found_there places c.args.state _ _ some c.index_mut.ensures.value read in
     let none : instances_at places c.args.state ≡ [] = rw c.self.view_is c.requires.no_instances in
     let none : c.in-Some.step.insts ≡ [] = rw there at none in
-    rw c.take.ensures.after (counted_uninstalled places c.args.state c.self.inside.count c.in-Some.step there none c.self.invariant)
+    let within : c.args.state < length places = within_places places c.args.state c.in-Some.step there in
+    rw c.take-2.ensures.after (record {
+      counted = counted_uninstalled places c.args.state c.self.inside.count c.in-Some.step there none c.self.invariant.counted;
+      marked = marked_less places c.args.state c.self.inside.states _ within c.self.invariant.marked c.take.ensures;
+    })
 
 pub returns-clause-record_there : goal.returns-clause-record_there
 returns-clause-record_there g c =
     let places : List (Option Step) = c.self.inside.places.items in
     let some : IsSome (step_at places c.args.state) = rw c.self.view_is c.requires.registered in
-    let read : c.index_mut.result.now ≡ Some c.in-Some.step = sym c.take.ensures.value ∙ c.in-Some.is in
+    let read : c.index_mut.result.now ≡ Some c.in-Some.step = sym c.take-2.ensures.value ∙ c.in-Some.is in
     let there : step_at places c.args.state ≡ Some c.in-Some.step = found_there places c.args.state _ _ some c.index_mut.ensures.value read in
     let none : instances_at places c.args.state ≡ [] = rw c.self.view_is c.requires.no_instances in
     let none : c.in-Some.step.insts ≡ [] = rw there at none in
@@ -34,4 +39,4 @@ pub unreachable-requires : goal.unreachable-requires
 unreachable-requires g c =
     let places : List (Option Step) = c.self.inside.places.items in
     let some : IsSome (step_at places c.args.state) = rw c.self.view_is c.requires.registered in
-    none_there places c.args.state _ some c.index_mut.ensures.value (sym c.take.ensures.value ∙ c.in-None.is)
+    none_there places c.args.state _ some c.index_mut.ensures.value (sym c.take-2.ensures.value ∙ c.in-None.is)

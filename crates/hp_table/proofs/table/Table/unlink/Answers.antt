@@ -1,7 +1,8 @@
-use Rattle.std.proofs.Common.{true, ◌≡◌, ◌-◌, ◌≤◌, Some, IsSome, List, Option, sym, subst}
+use Rattle.std.proofs.Common.{true, ◌≡◌, ◌-◌, ◌≤◌, Some, IsSome, List, Option}
 use Rattle.hp_table.specs.Step.{Step, step_at, changed_at}
 use Rattle.hp_table.specs.Instances.{has_instance, without_instance}
 use Rattle.hp_table.specs.Inside.{IsCounted}
+use Rattle.hp_table.proofs.Marked.{inside_written}
 use Rattle.hp_table.proofs.Places.{found_there, written}
 use Rattle.hp_table.proofs.Members.{has_there, counted_removed}
 use Rattle.hp_table.proofs.table.Table.unlink.Goals as goal
@@ -13,7 +14,7 @@ overflow_sub-self g c =
     let some : IsSome (step_at places c.args.state) = has_there places c.args.state c.args.inst has in
     let there : step_at places c.args.state ≡ Some c.in-Some.step = found_there places c.args.state _ _ some c.index_mut.ensures.value c.in-Some.is in
     let less : (1 ≤ c.self.inside.count) × IsCounted (changed_at places c.args.state (without_instance c.args.inst)) (c.self.inside.count - 1) =
-    counted_removed places c.args.state c.self.inside.count c.args.inst _ there has c.self.invariant in
+    counted_removed places c.args.state c.self.inside.count c.args.inst _ there has c.self.invariant.counted in
     less.0
 
 pub invariant_of-self : goal.invariant_of-self
@@ -23,10 +24,9 @@ invariant_of-self g c =
     let some : IsSome (step_at places c.args.state) = has_there places c.args.state c.args.inst has in
     let there : step_at places c.args.state ≡ Some c.in-Some.step = found_there places c.args.state _ _ some c.index_mut.ensures.value c.in-Some.is in
     let less : (1 ≤ c.self.inside.count) × IsCounted (changed_at places c.args.state (without_instance c.args.inst)) (c.self.inside.count - 1) =
-    counted_removed places c.args.state c.self.inside.count c.args.inst _ there has c.self.invariant in
-    subst (λ xs. IsCounted xs (c.self.inside.count - 1))
-    (sym (written places c.args.state (without_instance c.args.inst) _ _ there c.remove.ensures))
-    less.1
+    counted_removed places c.args.state c.self.inside.count c.args.inst _ there has c.self.invariant.counted in
+    inside_written places c.args.state (c.self.inside.count - 1) (without_instance c.args.inst) _ _ c.self.inside.states there c.remove.ensures
+    less.1 c.self.invariant.marked
 
 pub returns : goal.returns
 returns g c =
@@ -35,5 +35,5 @@ returns g c =
     let some : IsSome (step_at places c.args.state) = has_there places c.args.state c.args.inst has in
     let there : step_at places c.args.state ≡ Some c.in-Some.step = found_there places c.args.state _ _ some c.index_mut.ensures.value c.in-Some.is in
     let less : (1 ≤ c.self.inside.count) × IsCounted (changed_at places c.args.state (without_instance c.args.inst)) (c.self.inside.count - 1) =
-    counted_removed places c.args.state c.self.inside.count c.args.inst _ there has c.self.invariant in
+    counted_removed places c.args.state c.self.inside.count c.args.inst _ there has c.self.invariant.counted in
     rw (← c.self.view_is) (written places c.args.state (without_instance c.args.inst) _ _ there c.remove.ensures)
