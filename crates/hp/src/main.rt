@@ -1,14 +1,15 @@
 //! The program `hp`: plays scripts of CPU hotplug, checks printed journals, and generates scripts.
 //!
 //! It hands its words, standard input, standard output and a rack of hooks to `hp_main` of
-//! `hp_play`, and ends with the status that `hp_main` answers. The rack is its own: so many boxed
-//! hooks of scripts.
+//! `hp_play`, and ends with the status that `hp_main` answers. Where nothing was written that says why, standard error
+//! has a line that does. The rack is its own: so many boxed hooks of scripts.
 #![tactic(auto)]
 
-use hp_edge::NO_MEMORY;
+use hp_edge::{NO_MEMORY, cause_of};
 use hp_hook::{Hook, Rack, ScriptHook};
 use hp_io::{RealSink, RealSource};
 use hp_play::hp_main;
+use std::alloc::{AllocError, Global};
 use std::io;
 use std::process::ExitCode;
 
@@ -33,22 +34,33 @@ fn words_of(rt: &HostRuntime) -> io::Result<Vec<String>> {
     Ok(words)
 }
 
-fn main(rt: HostRuntime) -> ExitCode {
-    let alloc = rt.alloc();
-    let Ok(words) = words_of(&rt) else {
-        return ExitCode::from(NO_MEMORY);
-    };
+/// A rack of so many hooks.
+fn rack_of(alloc: Global, many: u32) -> Result<Rack<Box<dyn Hook + Send>>, AllocError> {
     let mut hooks: Vec<Box<dyn Hook + Send>> = Vec::new(alloc);
-    for _ in 0..HOOKS {
-        let Ok(hook) = Box::new(alloc, ScriptHook::new()) else {
-            return ExitCode::from(NO_MEMORY);
-        };
-        if hooks.push(hook).is_err() {
-            return ExitCode::from(NO_MEMORY);
-        }
+    for _ in 0..many {
+        hooks.push(Box::new(alloc, ScriptHook::new())?)?;
     }
-    let mut rack = Rack { hooks };
+    Ok(Rack { hooks })
+}
+
+/// Does what the words say, and answers the status.
+fn run(rt: &HostRuntime) -> u8 {
+    let alloc = rt.alloc();
+    let Ok(words) = words_of(rt) else {
+        return NO_MEMORY;
+    };
+    let Ok(mut rack) = rack_of(alloc, HOOKS) else {
+        return NO_MEMORY;
+    };
     let mut source = RealSource::new(rt.reader());
-    let mut sink = RealSink::new(io::writer(&rt));
-    ExitCode::from(hp_main(alloc, &words, &mut source, &mut sink, &mut rack))
+    let mut sink = RealSink::new(io::writer(rt));
+    hp_main(alloc, &words, &mut source, &mut sink, &mut rack)
+}
+
+fn main(rt: HostRuntime) -> ExitCode {
+    let status = run(&rt);
+    if let Some(cause) = cause_of(status) {
+        let _ = eprintln!(rt; "hp: {cause}");
+    }
+    ExitCode::from(status)
 }

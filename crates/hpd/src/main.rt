@@ -1,15 +1,16 @@
 //! The program `hpd`: runs scripts of CPU hotplug on threads.
 //!
 //! It hands its words, standard input, standard output, a rack of hooks and a gate that does nothing to `hpd_main` of
-//! `hp_run`, and ends with the status that `hpd_main` answers. The rack is its own: so many boxed
-//! hooks of scripts.
+//! `hp_run`, and ends with the status that `hpd_main` answers. Where nothing was written that says why, standard error
+//! has a line that does. The rack is its own: so many boxed hooks of scripts.
 #![tactic(auto)]
 
-use hp_edge::NO_MEMORY;
+use hp_edge::{NO_MEMORY, cause_of};
 use hp_hook::{Hook, Rack, ScriptHook};
 use hp_io::{RealSink, RealSource};
 use hp_live::FreeGate;
 use hp_run::hpd_main;
+use std::alloc::{AllocError, Global};
 use std::io;
 use std::process::ExitCode;
 
@@ -34,23 +35,33 @@ fn words_of(rt: &HostRuntime) -> io::Result<Vec<String>> {
     Ok(words)
 }
 
-fn main(rt: HostRuntime) -> ExitCode {
-    let alloc = rt.alloc();
-    let Ok(words) = words_of(&rt) else {
-        return ExitCode::from(NO_MEMORY);
-    };
+/// A rack of so many hooks.
+fn rack_of(alloc: Global, many: u32) -> Result<Rack<Box<dyn Hook + Send>>, AllocError> {
     let mut hooks: Vec<Box<dyn Hook + Send>> = Vec::new(alloc);
-    for _ in 0..HOOKS {
-        let Ok(hook) = Box::new(alloc, ScriptHook::new()) else {
-            return ExitCode::from(NO_MEMORY);
-        };
-        if hooks.push(hook).is_err() {
-            return ExitCode::from(NO_MEMORY);
-        }
+    for _ in 0..many {
+        hooks.push(Box::new(alloc, ScriptHook::new())?)?;
     }
-    let rack = Rack { hooks };
+    Ok(Rack { hooks })
+}
+
+/// Does what the words say, and answers the status.
+fn run(rt: &HostRuntime) -> u8 {
+    let alloc = rt.alloc();
+    let Ok(words) = words_of(rt) else {
+        return NO_MEMORY;
+    };
+    let Ok(rack) = rack_of(alloc, HOOKS) else {
+        return NO_MEMORY;
+    };
     let mut source = RealSource::new(rt.reader());
-    let mut sink = RealSink::new(io::writer(&rt));
-    let status = hpd_main(&rt, alloc, &words, &mut source, &mut sink, rack, &FreeGate);
+    let mut sink = RealSink::new(io::writer(rt));
+    hpd_main(rt, alloc, &words, &mut source, &mut sink, rack, &FreeGate)
+}
+
+fn main(rt: HostRuntime) -> ExitCode {
+    let status = run(&rt);
+    if let Some(cause) = cause_of(status) {
+        let _ = eprintln!(rt; "hpd: {cause}");
+    }
     ExitCode::from(status)
 }
