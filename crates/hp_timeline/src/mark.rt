@@ -10,7 +10,7 @@ ghost use Rattle.hp_timeline.specs.Ran.{IsShort, spot_text, ran_line};
 
 use crate::sheet::height;
 use crate::span_text::append_numbered;
-use crate::text::{LONG, append, append_with, push, push_with, put_back, take_out};
+use crate::text::{LONG, append, append_two, push, push_with, put_back, take_out};
 use crate::window::Window;
 use hp_event::{Event, How};
 use hp_states::Dir;
@@ -66,8 +66,13 @@ fn append_entry(
 ) -> Result<(), AllocError>
     ensures { OnOk result (Appends out.old out.new (mark_text window events.now mark)) }
 {
-    append_with(out, b"<path d='M", window.middle(mark.place))?;
-    append_with(out, b" ", height(mark.cpu, mark.state))?;
+    append_two(
+        out,
+        b"<path d='M",
+        window.middle(mark.place),
+        b" ",
+        height(mark.cpu, mark.state),
+    )?;
     append_shape(out, mark.dir)?;
     append_how(out, mark.how)?;
     append_numbered(out, events, mark.place)?;

@@ -7,7 +7,7 @@ ghost use Rattle.hp_timeline.specs.Spans.{row_top as row_top_of, row_height, row
 
 use crate::sheet::{Sheet, lane_top};
 use crate::span::{Class, Row, Span};
-use crate::text::{append, append_with};
+use crate::text::{append, append_before, append_two, append_with};
 use crate::window::Window;
 use hp_event::{Event, Op};
 use hp_print::append_event;
@@ -75,8 +75,7 @@ pub fn append_numbered(out: &mut Vec<u8>, events: &[Event], place: u32) -> Resul
 {
     let at = place as usize;
     if at < events.len() {
-        append_with(out, b"", at + 1)?;
-        append(out, b": ")?;
+        append_before(out, at + 1, b": ")?;
         append_event(out, &events[at])?;
     }
     Ok(())
@@ -136,8 +135,13 @@ fn append_box(out: &mut Vec<u8>, sheet: &Sheet, span: Span) -> Result<(), AllocE
     requires { HasFewClients sheet.now }
     ensures { OnOk result (Appends out.old out.new (box_text sheet.now span)) }
 {
-    append_with(out, b"<svg x='", left_of(sheet.window, span))?;
-    append_with(out, b"' y='", span.row.top(sheet))?;
+    append_two(
+        out,
+        b"<svg x='",
+        left_of(sheet.window, span),
+        b"' y='",
+        span.row.top(sheet),
+    )?;
     append_with(out, b"' width='", width_of(sheet.window, span))?;
     append_height(out, span.row)
 }

@@ -164,3 +164,44 @@ pub fn append_with(out: &mut Vec<u8>, bytes: &[u8], number: usize) -> Result<(),
     put_back(out, text);
     Ok(())
 }
+
+/// Appends a number, and bytes behind it.
+#[inline(always)]
+pub fn append_before(out: &mut Vec<u8>, number: usize, bytes: &[u8]) -> Result<(), AllocError>
+    ensures { OnOk result (Appends out.old out.new (decimal number ++ bytes.now)) }
+{
+    if number >= LONG {
+        append_long(out, b"", number)?;
+        return append(out, bytes);
+    }
+    out.reserve(DIGITS + bytes.len())?;
+    let mut text = take_out(out);
+    push_decimal(&mut text, number as u32);
+    push(&mut text, bytes);
+    put_back(out, text);
+    Ok(())
+}
+
+/// Appends bytes and a number behind them, and both once more: a few bytes each time.
+#[inline(always)]
+pub fn append_two(
+    out: &mut Vec<u8>,
+    bytes: &[u8],
+    number: usize,
+    more: &[u8],
+    other: usize,
+) -> Result<(), AllocError>
+    requires { length bytes.now + length more.now ≤ 256 }
+    ensures { OnOk result (Appends out.old out.new (bytes.now ++ (decimal number ++ (more.now ++ decimal other)))) }
+{
+    if number.max(other) >= LONG {
+        append_long(out, bytes, number)?;
+        return append_long(out, more, other);
+    }
+    out.reserve(bytes.len() + DIGITS + (more.len() + DIGITS))?;
+    let mut text = take_out(out);
+    push_with(&mut text, bytes, number);
+    push_with(&mut text, more, other);
+    put_back(out, text);
+    Ok(())
+}

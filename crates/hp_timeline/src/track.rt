@@ -5,7 +5,7 @@ ghost use Rattle.std.specs.List.{flat_map};
 ghost use Rattle.hp_timeline.specs.Tracks.{step_to, start_text, step_text};
 
 use crate::sheet::height;
-use crate::text::append_with;
+use crate::text::{append_two, append_with};
 use crate::window::Window;
 use std::alloc::{AllocError, Global};
 use std::marker::Model;
@@ -58,11 +58,16 @@ impl Track {
     ) -> Result<(), AllocError>
         ensures { OnOk result (self.new ≡ self.old ++ flat_map (step_text window cpu) (step_to place from to)) }
     {
-        if from != to {
-            append_with(&mut self.text, b"H", window.middle(place))?;
-            append_with(&mut self.text, b"V", height(cpu, to))?;
+        if from == to {
+            return Ok(());
         }
-        Ok(())
+        append_two(
+            &mut self.text,
+            b"H",
+            window.middle(place),
+            b"V",
+            height(cpu, to),
+        )
     }
 }
 

@@ -7,7 +7,7 @@ pub returns-in_ok-append_event : goal.returns-in_ok-append_event
 returns-in_ok-append_event c =
     let low : c.args.place < length c.args.events.now = omega arith in
     rw (got c.args.events.now c.args.place low)
-    (simp (c.in_ok-append.ensures, c.in_ok-append_with.ensures, append_assoc) at c.in_ok-append_event.ensures)
+    (simp (c.in_ok-append_before.ensures, append_assoc) at c.in_ok-append_event.ensures)
 
 pub returns-else-at-events : goal.returns-else-at-events
 returns-else-at-events c =
