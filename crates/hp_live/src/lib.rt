@@ -41,8 +41,6 @@ mod sights;
 mod start;
 mod step;
 mod telling;
-#[cfg(test)]
-mod tests;
 mod tried;
 mod tries;
 mod wakes;
