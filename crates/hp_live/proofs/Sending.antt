@@ -71,7 +71,7 @@ module _ (T : RattleType.RattleType) where
         (Send.struct_send (Declared.shape (TableInside.the_type T g)) (
           Vec'.the_send (Option.the_row (Registered.the_row T g)) Global.the_row Allocator.ghosts
               (Option'.the_send (Registered.the_row T g) (registered_send s)) Global'.the_send Heap.the_frees,
-          (Send.plain_send _ _ _ _ _, tt),
+          (Send.plain_send _ _ _ _ _, (CpuSet'.the_field_send, tt)),
         )))
 
     machine_send : Send.IsSend T → Send.IsSend (Machine.the_row T g)
