@@ -10,7 +10,6 @@ use hp_hook::{Hook, Rack, ScriptHook};
 use hp_io::{RealSink, RealSource};
 use hp_live::FreeGate;
 use hp_run::hpd_main;
-use std::alloc::{AllocError, Global};
 use std::io;
 use std::process::ExitCode;
 
@@ -35,24 +34,22 @@ fn words_of(rt: &HostRuntime) -> io::Result<Vec<String>> {
     Ok(words)
 }
 
-/// A rack of so many hooks.
-fn rack_of(alloc: Global, many: u32) -> Result<Rack<Box<dyn Hook + Send>>, AllocError> {
-    let mut hooks: Vec<Box<dyn Hook + Send>> = Vec::new(alloc);
-    for _ in 0..many {
-        hooks.push(Box::new(alloc, ScriptHook::new())?)?;
-    }
-    Ok(Rack { hooks })
-}
-
 /// Does what the words say, and answers the status.
 fn run(rt: &HostRuntime) -> u8 {
     let alloc = rt.alloc();
     let Ok(words) = words_of(rt) else {
         return NO_MEMORY;
     };
-    let Ok(rack) = rack_of(alloc, HOOKS) else {
-        return NO_MEMORY;
-    };
+    let mut hooks: Vec<Box<dyn Hook + Send>> = Vec::new(alloc);
+    for _ in 0..HOOKS {
+        let Ok(hook) = Box::new(alloc, ScriptHook::new()) else {
+            return NO_MEMORY;
+        };
+        if hooks.push(hook).is_err() {
+            return NO_MEMORY;
+        }
+    }
+    let rack = Rack { hooks };
     let mut source = RealSource::new(rt.reader());
     let mut sink = RealSink::new(io::writer(rt));
     hpd_main(rt, alloc, &words, &mut source, &mut sink, rack, &FreeGate)
