@@ -4,8 +4,8 @@
 
 mod back;
 mod ends;
-mod lending;
+pub(crate) mod lending;
 mod loans;
 mod refusals;
 mod several;
-mod turns;
+pub(crate) mod turns;

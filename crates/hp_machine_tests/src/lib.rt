@@ -8,6 +8,8 @@
 #[cfg(test)]
 mod board;
 #[cfg(test)]
+mod in_force;
+#[cfg(test)]
 mod law;
 #[cfg(test)]
 mod runs;
