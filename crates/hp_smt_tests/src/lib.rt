@@ -14,4 +14,6 @@ mod off;
 #[cfg(test)]
 mod played;
 #[cfg(test)]
+mod siblings;
+#[cfg(test)]
 mod writers;

@@ -2,9 +2,10 @@
 
 use crate::machine::{machine, stays_on_3};
 use crate::played::{Outcome, Task, played};
+use crate::siblings::{AN_OFF_FAILS, SIBLINGS_GO_OFF, SIBLINGS_STAY_OFF};
 use hp_event::{Answer, Form, Op, Subs};
 use hp_print::journal_text;
-use hp_samples::{AN_OFF_FAILS, SIBLINGS_GO_OFF, SIBLINGS_STAY_OFF, first_difference};
+use hp_samples::first_difference;
 use hp_smt::{Control, Mode};
 use std::process::Abort;
 use std::test::Fail;

@@ -1,6 +1,6 @@
 //! Scripts whose siblings are taken down and brought back by a client beside the actors.
 
-use crate::sample::Sample;
+use hp_samples::Sample;
 
 /// The off waits for the boot, and takes processors 1 and 3 down; the `up` comes meanwhile. Then they come back.
 pub const SIBLINGS_GO_OFF: Sample = Sample {
