@@ -4,6 +4,7 @@ use Rattle.std.specs.List.{range_with_len}
 use Rattle.hp_states.specs.declared.limits.TheConstants.{MAX_CPU_SET}
 use Rattle.hp_states.specs.CpuSets.{has}
 use Rattle.hp_states.specs.declared.cpu_set.CpuSet.{CpuSet}
+use Rattle.hp_work.specs.declared.chains.TheConstants.{LISTS}
 use Rattle.hp_work.specs.declared.limits.TheConstants.{LAST_FOLLOWED, MAX_ITEMS}
 use Rattle.hp_work.specs.declared.queues.Queues.TheInside.{Inside}
 use Rattle.hp_work.specs.Work.{Work, StandOnce}
@@ -21,9 +22,10 @@ work q = record {
   put = q.put;
 }
 
--- each item that was put stands once; all of them fit, and what ran has room for them
+-- each item that was put stands once in what ran and the lists; all of them fit, and what ran has room for them
 pub record IsSound (q : Inside) : Type 0 where
   pub state_is : (1 ≤ q.state) × (q.state ≤ LAST_FOLLOWED)
+  pub lists_are : length q.lists ≡ LISTS
   pub stand : StandOnce (work q)
   pub all_put : length q.ran.items + sum_by length q.lists ≡ q.put
   pub few : q.put ≤ MAX_ITEMS

@@ -1,10 +1,13 @@
 //! The queues of the processors.
 
-ghost use Rattle.std.specs.Prelude.{◌≡◌, ◌↔◌, ◌<◌, ◌≤◌, [], true, false, Err, IfOk, OnOk, OnErr, slice_get};
+ghost use Rattle.std.specs.Prelude.{◌≡◌, ◌≢◌, ◌↔◌, ℕ, ◌<◌, ◌≤◌, [], true, false, Err, IfOk, OnOk, OnErr, length, slice_get};
 ghost use Rattle.hp_states.specs.declared.limits.TheConstants.{MAX_CPU_SET as MAX_CPU_SET_OF};
 ghost use Rattle.hp_work.specs.declared.limits.TheConstants.{MAX_ITEMS as MAX_ITEMS_OF};
 ghost use Rattle.hp_work.specs.Work.{queue, is_open, none_put, StandOnce};
-ghost use Rattle.hp_work.specs.Changes.{is_followed, moves, followed, put_on, ran_on};
+ghost use Rattle.hp_work.specs.declared.chains.TheConstants.{LISTS as LISTS_OF};
+ghost use Rattle.hp_states.specs.CpuSets.{has};
+ghost use Rattle.hp_work.specs.Inside.{places};
+ghost use Rattle.hp_work.specs.Changes.{is_followed, lowest_from, goes_to, moves, followed, put_on, ran_on};
 ghost use Rattle.hp_work.specs.Drained.{IsDrained};
 ghost use Rattle.hp_work.specs.Follows.{HasQueue, OpensBy, FollowsLawful, OpensAsBefore};
 
@@ -103,7 +106,8 @@ impl Queues {
 
     /// Whether an entry is a done one of the callback that is followed.
     fn is_followed(&self, state: u32, inst: u32, how: How) -> bool
-        ensures { result ≡ is_followed self.now state inst how }
+        ensures exactly { result ≡ is_followed self.now state inst how }
+        ensures all { length self.now.opened ≡ MAX_CPU_SET_OF }
     {
         state == self.state && inst == 0 && how.is_done()
     }
@@ -123,10 +127,7 @@ impl Queues {
         ensures { self.new ≡ moves Dir.Down cpu self.old }
     {
         self.opened.take(cpu);
-        let to = match self.opened.first_from(0) {
-            Some(lowest) => lowest as usize,
-            None => UNBOUND,
-        };
+        let to = lowest_place(&self.opened);
         self.lists.append(cpu as usize, to);
     }
 
@@ -215,5 +216,17 @@ impl Queues {
     {
         let Queues { lists, ran, .. } = self;
         drain_of(rt, &lists, ran)
+    }
+}
+
+/// The place that takes the queue of a processor that closes: that of the lowest open one, or of the unbound list.
+fn lowest_place(opened: &CpuSet) -> usize
+    ensures exactly { result ≡ goes_to (lowest_from 0 (places opened.now)) }
+    ensures place { result < LISTS_OF }
+    ensures other { (cpu : ℕ) → cpu < MAX_CPU_SET_OF → has opened.now cpu ≡ false → cpu ≢ result }
+{
+    match opened.first_from(0) {
+        Some(lowest) => lowest as usize,
+        None => UNBOUND,
     }
 }
