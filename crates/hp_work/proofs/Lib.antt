@@ -6,3 +6,4 @@ pub mod Standing
 pub mod Order
 pub mod Sound
 pub mod Following
+pub mod Draining

@@ -1,7 +1,7 @@
 //! What queues hold, at their end.
 
 ghost use Rattle.std.specs.Prelude.{◌≡◌, ◌<◌, All, IfOk, map};
-ghost use Rattle.hp_work.specs.Drained.{Holds, queue_in, with_items};
+ghost use Rattle.hp_work.specs.Drained.{Holds, IsQueueAt, queue_in, queue_at, with_items};
 ghost use Rattle.hp_states.specs.declared.limits.TheConstants.{MAX_CPU_SET as MAX_CPU_SET_OF};
 
 use crate::chains::{Chains, UNBOUND};
@@ -78,7 +78,12 @@ fn collected<R: Threads + Sync>(
         rt,
         alloc,
         cpus.len(),
-        &|at| { drained_of(alloc, lists, cpus[at]) },
+        &|at|
+            requires { IsQueueAt cpus.now at }
+            ensures { IfOk result (λ queue. queue ≡ queue_at lists.entry.now cpus.entry.now at) }
+        {
+            drained_of(alloc, lists, cpus[at])
+        },
     )?;
     let mut queues = Vec::new(alloc);
     for queue in found {

@@ -8,15 +8,15 @@ use Rattle.hp_work.proofs.queues.Queues.close.Goals as goal
 pub append-requires : goal.append-requires
 append-requires c = record {
   from = let h = c.requires in omega (arith, h);
-  to = c.lowest_place.ensures.place;
-  other = c.lowest_place.ensures.other c.args.cpu c.requires (not_there c.self.inside.opened c.take.new.self c.args.cpu c.take.ensures);
+  to = c.lowest_place-to.ensures.place;
+  other = c.lowest_place-to.ensures.other c.args.cpu c.requires (not_there c.self.inside.opened c.take.new.self c.args.cpu c.take.ensures);
 }
 
 closed_is : (c : goal.After-append) →
     work (record c.self.inside { opened = c.take.new.self; lists = c.append.new.self }) ≡ moves Down c.args.cpu (work c.self.inside)
 closed_is c =
-    closes_is c.self.inside c.args.cpu c.lowest_place.result c.take.new.self c.append.new.self c.requires c.take.ensures
-    c.lowest_place.ensures.exactly c.append.ensures
+    closes_is c.self.inside c.args.cpu c.lowest_place-to.result c.take.new.self c.append.new.self c.requires c.take.ensures
+    c.lowest_place-to.ensures.exactly c.append.ensures
 
 pub invariant_of-self : goal.invariant_of-self
 invariant_of-self c = sound_moved c.self.inside Down c.args.cpu c.take.new.self c.append.new.self (closed_is c) c.requires c.self.invariant
