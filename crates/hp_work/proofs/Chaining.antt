@@ -1,5 +1,5 @@
 -- What each call makes of the lists, and that their items stay linked.
-use Rattle.std.proofs.Common.{◌≡◌, ◌≢◌, ◌⊎◌, inl, inr, ℕ, zero, suc, ◌+◌, ◌-◌, ◌<◌, ◌≤◌, Bool, true, false, eqb, List, [], ◌∷◌, ◌++◌, length, get_or, Option, Some, None, map, replicate, refl, sym, ap, subst, ◌∙◌, append_assoc, arith}
+use Rattle.std.proofs.Common.{◌≡◌, ◌≢◌, ◌⊎◌, inl, inr, ℕ, zero, suc, ◌+◌, ◌-◌, ◌<◌, ◌≤◌, Bool, true, false, eqb, List, [], ◌∷◌, ◌++◌, length, Option, Some, None, map, replicate, refl, sym, ap, subst, ◌∙◌, append_assoc, arith}
 use Rattle.std.specs.Prelude.{All, IsSome, is_some, slice_get}
 use Rattle.std.specs.List.{sum_by}
 use Rattle.std.proofs.lemmas.List.Sums.{sum_by-cons}
@@ -14,8 +14,8 @@ use Rattle.hp_work.specs.declared.chains.TheConstants.{LISTS}
 use Rattle.hp_work.specs.declared.limits.TheConstants.{MAX_ITEMS}
 use Rattle.hp_work.specs.Lists.{list, times, times_in, pushed, rest, popped, moved}
 use Rattle.hp_work.specs.Chained.{item_in, next_in, keys_from, key_behind, keys_of, item_at, items_of, lists_of, no_items, chain_at, IsChain, IsChained, linked}
-use Rattle.hp_work.proofs.Counting.{one_if, times_append, times_cons, in_set, in_pushed, in_moved, in_popped, in_one, in_no_other, many_set, many_pushed, many_moved, many_popped}
-use Rattle.hp_work.proofs.Links.{length_items, keys_last, Same, keys_same, list_same, chain_same, one_here, away, vacant_away, same_away, IsLinked, linked_is, joined_items, joined_chain}
+use Rattle.hp_work.proofs.Counting.{one_if, times_append, in_pushed, in_moved, in_popped, in_one, in_no_other, many_set, many_pushed, many_moved, many_popped}
+use Rattle.hp_work.proofs.Links.{length_items, keys_last, Same, list_same, chain_same, one_here, away, vacant_away, same_away, IsLinked, linked_is, joined_items, joined_chain}
 
 -- a number that isn't 0 is one more than another
 pub one_more : (m : ℕ) → m ≢ 0 → (n : ℕ) × (m ≡ suc n)
@@ -426,9 +426,9 @@ module _ (s : Slab Node) (chains : List Chain) (a b : ℕ) (is : IsChained s cha
       (length-set without b c ∙ (length-set chains a no_items ∙ is.lists_are))
       (changed_each s t without b c in_b kept_q chain (changed_each s s chains a no_items in_a stays nothing is.each))
       (λ i.
-        let o = in_moved i a b (lists_of s chains) ne (below s chains is a ha) (below s chains is b hb) in
-        let most = is.once i in
-        omega (arith, o, most))
+      let o = in_moved i a b (lists_of s chains) ne (below s chains is a ha) (below s chains is b hb) in
+      let most = is.once i in
+      omega (arith, o, most))
       (omega (arith, l, m, all)) (omega (arith, m, few)) (omega (arith, e, r))
     where
       kept_q : (q : ℕ) → q < length without → q ≢ b → Same s t (keys_of s (chain_at without q))
@@ -480,8 +480,8 @@ module _ (s : Slab Node) (chains : List Chain) (a b : ℕ) (is : IsChained s cha
         (moved a b (lists_of s chains))
     moved_behind =
         subst (λ x.
-          Made (linked to.last from.first s) (set without b (record { first = to.first; last = from.last; many = to.many + x }))
-          (moved a b (lists_of s chains)))
+        Made (linked to.last from.first s) (set without b (record { first = to.first; last = from.last; many = to.many + x }))
+        (moved a b (lists_of s chains)))
         (sym more)
         (made_move (linked to.last from.first s) (record { first = to.first; last = from.last; many = to.many + suc m }) chained_to.len chained_to.capacity kept_else
         (joined_items s (linked to.last from.first s) from.first n m from.last to chained_to is_to some front_apart back_apart back_there
@@ -526,7 +526,7 @@ made_none s e room =
     made_of s (replicate LISTS no_items) (replicate LISTS []) (map_none s LISTS) (length-replicate LISTS no_items)
     (All-from_get_or (IsChain s) (replicate LISTS no_items) no_items
     (λ q l. subst (IsChain s)
-      (sym (get_or-replicate LISTS q no_items no_items (let m = length-replicate LISTS no_items in omega (arith, m, l)))) no_chain))
+    (sym (get_or-replicate LISTS q no_items no_items (let m = length-replicate LISTS no_items in omega (arith, m, l)))) no_chain))
     (λ n. let z = none_in (times n) LISTS refl in omega (arith, z))
     (let z = none_in length LISTS refl in let none : slab_len s ≡ 0 = ap slots_many e in none ∙ sym z)
     (let z = none_in length LISTS refl in omega (arith, z)) room

@@ -1,5 +1,5 @@
 -- Which processors are open is which the state is in force on: so it is at the start, and each event of a lawful journal keeps it.
-use Rattle.std.proofs.Common.{◌≡◌, ◌≢◌, ◌⊎◌, inl, inr, ℕ, zero, suc, ◌+◌, ◌<◌, ◌≤◌, Bool, true, false, cond, eqb, ◌&&◌, List, [], ◌∷◌, ◌++◌, length, get_or, replicate, All, append_assoc, refl, ap, sym, ◌∙◌, arith}
+use Rattle.std.proofs.Common.{◌≡◌, ◌≢◌, ◌⊎◌, inl, inr, ℕ, zero, suc, ◌+◌, ◌<◌, ◌≤◌, Bool, true, false, cond, eqb, ◌&&◌, List, [], ◌∷◌, ◌++◌, length, get_or, replicate, All, refl, ap, sym, ◌∙◌, arith}
 use Rattle.std.specs.Prelude.{◌↔◌}
 use Rattle.std.proofs.Math.ListN.{set}
 use Rattle.std.proofs.lemmas.Bool.{cases_eq, eq-eqb, ne_eqb, false≢true}
@@ -33,10 +33,10 @@ none_open (suc n) (suc k) = none_open n k
 pub opens_none : (s : ℕ) → OpensBy [] (none_put s)
 unfolding none_put
 opens_none s = λ c _.
-  let u = done_entries-none c s 0 Up in
-  let d = done_entries-none c s 0 Down in
-  let o = none_open MAX_CPU_SET c in
-  (λ e. absurd (cc (o, e)), λ f. absurd (omega arith))
+    let u = done_entries-none c s 0 Up in
+    let d = done_entries-none c s 0 Down in
+    let o = none_open MAX_CPU_SET c in
+    (λ e. absurd (cc (o, e)), λ f. absurd (omega arith))
 
 -- how many done entries there are after one event more
 counts : (c s : ℕ) (d : Dir) (xs : List Event) (e : Event) (b : Bool) → is_done_entry c s 0 d e ≡ b →
@@ -118,6 +118,12 @@ follows w (Call seat c state inst dir how) wide below head xs lawful st =
         opens_kept w xs (Call seat c state inst d how)
         (λ k d'. and_false (eqb c k && same_dir d d') ((eqb state w.state && eqb inst 0) && is_done how) is) st
 follows w e wide below head xs lawful st = opens_kept w xs e (λ c d. refl) st
+
+pub unfollowed_lawful : (w : Work) (e : Event) (seat c state inst : ℕ) (d : Dir) (how : How) → e ≡ Call seat c state inst d how →
+    is_followed w state inst how ≡ false → FollowsLawful w e w
+unfollowed_lawful w e seat c state inst d how is h head xs lawful st =
+    opens_kept w xs e
+    (λ k d'. ap (is_done_entry k w.state 0 d') is ∙ and_false (eqb c k && same_dir d d') ((eqb state w.state && eqb inst 0) && is_done how) h) st
 
 -- as the code has it
 pub lawful_follows : (w v : Work) (e : Event) → length w.opened ≡ MAX_CPU_SET → HasQueue e → v ≡ followed e w → FollowsLawful w e v

@@ -1,18 +1,18 @@
 -- What stays of a list where other items change, and what a link joins.
-use Rattle.std.proofs.Common.{◌≡◌, ◌≢◌, ◌⊎◌, inl, inr, ℕ, zero, suc, ◌+◌, ◌<◌, ◌≤◌, Bool, true, false, eqb, List, [], ◌∷◌, ◌++◌, length, Option, Some, None, map, refl, sym, ap, subst, ◌∙◌, zero-add, arith}
+use Rattle.std.proofs.Common.{◌≡◌, ◌≢◌, ◌⊎◌, inl, inr, ℕ, zero, suc, ◌+◌, false, eqb, List, [], ◌∷◌, ◌++◌, length, Option, Some, None, map, refl, sym, ap, subst, ◌∙◌, zero-add, arith}
 use Rattle.std.specs.Prelude.{All, IsSome}
 use Rattle.std.proofs.lemmas.Bool.{cases_eq, eq-eqb}
 use Rattle.std.proofs.lemmas.List.{map-append, length-map}
 use Rattle.std.proofs.lemmas.List.Elements.{All-nil, All-cons, All-head, All-tail, All-append}
 use Rattle.std.proofs.lemmas.List.Sums.{sum_by-set}
 use Rattle.std.specs.Prelude.{is_some}
-use Rattle.slab.specs.Slab.{Slab, get, slab_len, ContainsKey, with_value, Updates}
+use Rattle.slab.specs.Slab.{Slab, get, slab_len}
 use Rattle.slab.proofs.SlabLemmas.{Updates-with_value, ContainsKey-within}
 use Rattle.hp_work.specs.declared.chains.Node.{Node}
 use Rattle.hp_work.specs.declared.chains.Chain.{Chain}
 use Rattle.hp_work.specs.Lists.{times}
 use Rattle.hp_work.specs.Chained.{item_in, next_in, keys_from, key_behind, keys_of, item_at, items_of, IsChain, relinked, linked}
-use Rattle.hp_work.proofs.Counting.{one_if, times_append, times_cons}
+use Rattle.hp_work.proofs.Counting.{one_if, times_cons}
 
 -- ---- the keys of a list
 
@@ -109,19 +109,19 @@ away s l (k ∷ ks) h =
     let c = times_cons (item_at s l) (item_at s k) (map (item_at s) ks) in
     All-cons (λ j. j ≢ l) k ks
     (λ e.
-      let o = one_here (item_at s l) (map (item_at s) ks) in
-      let same : times (item_at s l) (item_at s k ∷ map (item_at s) ks) ≡ times (item_at s l) (item_at s l ∷ map (item_at s) ks) =
-      ap (λ j. times (item_at s l) (item_at s j ∷ map (item_at s) ks)) e in
-      absurd (omega (arith, o, same, h)))
+    let o = one_here (item_at s l) (map (item_at s) ks) in
+    let same : times (item_at s l) (item_at s k ∷ map (item_at s) ks) ≡ times (item_at s l) (item_at s l ∷ map (item_at s) ks) =
+    ap (λ j. times (item_at s l) (item_at s j ∷ map (item_at s) ks)) e in
+    absurd (omega (arith, o, same, h)))
     (away s l ks (omega (arith, c, h)))
 
 -- a key with nothing is none of those with an item
 pub vacant_away : (s : Slab Node) (l : ℕ) (ks : List ℕ) → get s l ≡ None → All (λ k. IsSome (get s k)) ks → All (λ j. j ≢ l) ks
 vacant_away s l ks e w = λ i d h f.
-  let some = w i d h in
-  let none : is_some (get s l) ≡ false = ap is_some e in
-  let same = ap (λ j. is_some (get s j)) f in
-  cc
+    let some = w i d h in
+    let none : is_some (get s l) ≡ false = ap is_some e in
+    let same = ap (λ j. is_some (get s j)) f in
+    cc
 
 pub same_away : (s t : Slab Node) (l : ℕ) (ks : List ℕ) → ((j : ℕ) → j ≢ l → get t j ≡ get s j) → All (λ j. j ≢ l) ks → Same s t ks
 same_away s t l ks h w = λ i d b. h _ (w i d b)

@@ -1,5 +1,5 @@
 -- Which processors are in a set, by number: what a place says after a number was put into the set, or taken out; and the lowest.
-use Rattle.std.proofs.Common.{◌≡◌, ◌≢◌, ◌⊎◌, inl, inr, ℕ, zero, suc, ◌+◌, ◌<◌, ◌≤◌, Bool, true, false, not, cond, eqb, ltb, ◌&&◌, ◌||◌, List, [], ◌∷◌, length, get_or, replicate, refl, ap, sym, ◌∙◌, arith}
+use Rattle.std.proofs.Common.{◌≡◌, ◌≢◌, ◌⊎◌, inl, inr, ℕ, zero, suc, ◌+◌, ◌<◌, Bool, true, false, not, cond, eqb, ltb, ◌&&◌, ◌||◌, List, [], ◌∷◌, length, get_or, replicate, refl, ap, sym, ◌∙◌, arith}
 use Rattle.std.specs.Prelude.{Option, Some, None, IfSome, IfNone}
 use Rattle.std.proofs.Math.ListN.{set}
 use Rattle.std.proofs.lemmas.List.{length-set, length-replicate, ext_get_or, get_or-replicate, get_or_past, get_or-set_same, get_or-set_other}
@@ -9,7 +9,7 @@ use Rattle.hp_states.specs.declared.cpu_set.CpuSet.{CpuSet}
 use Rattle.hp_states.specs.declared.limits.TheConstants.{MAX_CPU_SET}
 use Rattle.hp_states.specs.CpuSets.{has, IsLowestFrom, HasNoneFrom}
 use Rattle.hp_work.specs.Inside.{places}
-use Rattle.hp_work.specs.Changes.{lowest_from, goes_to}
+use Rattle.hp_work.specs.Changes.{lowest_from}
 
 pub length-places : (s : CpuSet) → length (places s) ≡ MAX_CPU_SET
 unfolding places

@@ -1,10 +1,8 @@
 -- Queues stay sound: each item that was put stands once, whatever opens, closes, is put and runs.
-use Rattle.std.proofs.Common.{◌≡◌, ℕ, ◌+◌, ◌<◌, ◌≤◌, Bool, true, false, not, eqb, ◌&&◌, ◌||◌, List, [], length, get_or, replicate, refl, sym, ap, subst, ◌∙◌, arith}
-use Rattle.std.specs.Prelude.{vec_capacity}
+use Rattle.std.proofs.Common.{◌≡◌, ℕ, ◌+◌, ◌<◌, Bool, true, false, not, eqb, ◌&&◌, ◌||◌, List, [], length, get_or, replicate, refl, sym, ap, subst, ◌∙◌, arith}
 use Rattle.std.specs.List.{sum_by}
 use Rattle.std.proofs.Math.ListN.{set}
 use Rattle.std.proofs.lemmas.Bool.{eq-eqb}
-use Rattle.std.proofs.lemmas.List.{length-set}
 use Rattle.hp_states.specs.declared.dir.Dir.{Dir}
 use Rattle.hp_states.specs.declared.dir.Dir.TheVariants.{Up, Down}
 use Rattle.hp_states.specs.declared.limits.TheConstants.{MAX_CPU_SET}
@@ -13,9 +11,9 @@ use Rattle.hp_states.specs.CpuSets.{has}
 use Rattle.hp_work.specs.declared.chains.TheConstants.{LISTS, UNBOUND}
 use Rattle.hp_work.specs.declared.limits.TheConstants.{MAX_ITEMS}
 use Rattle.hp_work.specs.declared.queues.Queues.TheInside.{Inside}
-use Rattle.hp_work.specs.Lists.{list, pushed, moved}
+use Rattle.hp_work.specs.Lists.{pushed, moved}
 use Rattle.hp_work.specs.Work.{Work, is_open, none_put, StandOnce}
-use Rattle.hp_work.specs.Changes.{lowest_from, goes_to, moves, put_on}
+use Rattle.hp_work.specs.Changes.{lowest_from, goes_to, moves}
 use Rattle.hp_work.specs.Inside.{places, work, IsSound}
 use Rattle.hp_work.proofs.Counting.{many_pushed, many_moved}
 use Rattle.hp_work.proofs.Sets.{length-places, place_is, places_put, places_taken}

@@ -2,16 +2,15 @@
 use Rattle.std.proofs.Common.{◌≡◌, ◌≢◌, ℕ, zero, suc, ◌+◌, ◌-◌, ◌<◌, ◌≤◌, Bool, true, false, cond, eqb, List, [], ◌∷◌, ◌++◌, length, get_or, replicate, Option, Some, None, refl, sym, ap, subst, ◌∙◌, arith}
 use Rattle.std.proofs.Math.ListN.{set}
 use Rattle.std.proofs.lemmas.Bool.{eqb-true, eq-eqb, ne_eqb, false≢true}
-use Rattle.std.proofs.lemmas.List.{get_or-set_other, get_or-set_same, length-set, length-replicate}
-use Rattle.std.proofs.lemmas.List.Sums.{sum_by-set, sum_by-append, sum_by-cons}
-use Rattle.std.specs.List.{sum_by, count_by}
+use Rattle.std.proofs.lemmas.List.{get_or-set_same, length-set, length-replicate}
+use Rattle.std.proofs.lemmas.List.Sums.{sum_by-cons}
 use Rattle.hp_states.specs.declared.dir.Dir.{Dir}
 use Rattle.hp_states.specs.declared.dir.Dir.TheVariants.{Up, Down}
 use Rattle.hp_states.specs.declared.limits.TheConstants.{MAX_CPU_SET}
 use Rattle.hp_event.specs.declared.event.Event.{Event}
 use Rattle.hp_event.specs.declared.event.Event.TheVariants.{Call}
 use Rattle.hp_work.specs.declared.chains.TheConstants.{LISTS, UNBOUND}
-use Rattle.hp_work.specs.Lists.{list, times, times_in, pushed, rest, popped, moved}
+use Rattle.hp_work.specs.Lists.{times, times_in, pushed, rest}
 use Rattle.hp_work.specs.Work.{Work, queue, none_put, stands, StandOnce}
 use Rattle.hp_work.specs.Changes.{lowest_from, goes_to, moves, is_followed, followed, put_on, with_front, ran_on}
 use Rattle.hp_work.specs.Follows.{HasQueue}

@@ -8,7 +8,7 @@ use Rattle.hp_event.specs.declared.event.Event.{Event}
 use Rattle.hp_event.specs.declared.event.Event.TheVariants.{Call}
 use Rattle.hp_model.specs.Entries.{is_done}
 use Rattle.hp_work.specs.declared.chains.TheConstants.{UNBOUND}
-use Rattle.hp_work.specs.Lists.{list, pushed, popped, moved}
+use Rattle.hp_work.specs.Lists.{pushed, popped, moved}
 use Rattle.hp_work.specs.Work.{Work, queue}
 
 -- the number of the lowest open processor, where the first of these has a number

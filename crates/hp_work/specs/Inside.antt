@@ -1,5 +1,5 @@
 -- What contracts see of the fields of queues, and what is so of them at any time. This project's own.
-use Rattle.std.specs.Prelude.{◌≡◌, ℕ, ◌+◌, ◌≤◌, Bool, List, map, length, sum_by, vec_capacity}
+use Rattle.std.specs.Prelude.{◌≡◌, ◌+◌, ◌≤◌, Bool, List, map, length, sum_by, vec_capacity}
 use Rattle.std.specs.List.{range_with_len}
 use Rattle.hp_states.specs.declared.limits.TheConstants.{MAX_CPU_SET}
 use Rattle.hp_states.specs.CpuSets.{has}

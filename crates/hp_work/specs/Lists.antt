@@ -1,5 +1,5 @@
 -- Lists of items: what stands in them, and what puts, takes and moves it. This project's own.
-use Rattle.std.specs.Prelude.{ℕ, ◌+◌, ◌==◌, List, [], ◌∷◌, ◌++◌, count_by, sum_by, slice_index_or, slice_set}
+use Rattle.std.specs.Prelude.{ℕ, ◌==◌, List, [], ◌∷◌, ◌++◌, count_by, sum_by, slice_index_or, slice_set}
 
 -- the list at a place
 abbrev pub list : List (List ℕ) → (place : ℕ) → List ℕ

@@ -1,9 +1,8 @@
 -- Queues among the events of a journal: any puts and runs stand between its events; and the order of two items. This
 -- project's own.
-use Rattle.std.specs.Prelude.{◌≡◌, ◌⊎◌, ℕ, ◌<◌, Bool, true, false, ◌&&◌, nat_lt, if◌then◌else◌, List, [], ◌∷◌, ◌++◌, fold, All}
+use Rattle.std.specs.Prelude.{◌≡◌, ◌⊎◌, ℕ, ◌<◌, Bool, true, false, ◌&&◌, nat_lt, if◌then◌else◌, List, ◌∷◌, ◌++◌, fold, All}
 use Rattle.hp_states.specs.declared.limits.TheConstants.{MAX_CPU_SET}
 use Rattle.hp_states.specs.declared.dir.Dir.TheVariants.{Down}
-use Rattle.hp_event.specs.declared.event.Event.{Event}
 use Rattle.hp_model.specs.InForce.{is_done_entry}
 use Rattle.hp_work.specs.declared.limits.TheConstants.{MAX_ITEMS}
 use Rattle.hp_work.specs.declared.law.Step.{Step}

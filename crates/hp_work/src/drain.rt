@@ -81,9 +81,7 @@ fn collected<R: Threads + Sync>(
         &|at|
             requires { IsQueueAt cpus.now at }
             ensures { IfOk result (λ queue. queue ≡ queue_at lists.entry.now cpus.entry.now at) }
-        {
-            drained_of(alloc, lists, cpus[at])
-        },
+        { drained_of(alloc, lists, cpus[at]) },
     )?;
     let mut queues = Vec::new(alloc);
     for queue in found {

@@ -106,8 +106,7 @@ impl Queues {
 
     /// Whether an entry is a done one of the callback that is followed.
     fn is_followed(&self, state: u32, inst: u32, how: How) -> bool
-        ensures exactly { result ≡ is_followed self.now state inst how }
-        ensures all { length self.now.opened ≡ MAX_CPU_SET_OF }
+        ensures { result ≡ is_followed self.now state inst how }
     {
         state == self.state && inst == 0 && how.is_done()
     }
@@ -115,7 +114,8 @@ impl Queues {
     /// Opens a processor.
     fn open(&mut self, cpu: u32)
         requires { cpu < MAX_CPU_SET_OF }
-        ensures { self.new ≡ moves Dir.Up cpu self.old }
+        ensures exactly { self.new ≡ moves Dir.Up cpu self.old }
+        ensures places { length self.old.opened ≡ MAX_CPU_SET_OF }
     {
         self.opened.put(cpu);
         self.lists.append(UNBOUND, cpu as usize);
@@ -124,7 +124,8 @@ impl Queues {
     /// Closes a processor, and moves its queue.
     fn close(&mut self, cpu: u32)
         requires { cpu < MAX_CPU_SET_OF }
-        ensures { self.new ≡ moves Dir.Down cpu self.old }
+        ensures exactly { self.new ≡ moves Dir.Down cpu self.old }
+        ensures places { length self.old.opened ≡ MAX_CPU_SET_OF }
     {
         self.opened.take(cpu);
         let to = lowest_place(&self.opened);

@@ -1,8 +1,8 @@
-use Rattle.std.proofs.Common.{◌≡◌, ◌+◌, sym, ap, ◌∙◌, subst, arith}
+use Rattle.std.proofs.Common.{◌+◌, sym, ap, ◌∙◌, subst, arith}
 use Rattle.std.proofs.Math.ListN.{set}
 use Rattle.hp_work.specs.Lists.{moved}
 use Rattle.hp_work.specs.Chained.{lists_of, chain_at, no_items}
-use Rattle.hp_work.proofs.Chaining.{Made, one_more, few_both, moved_none, moved_whole, moved_behind}
+use Rattle.hp_work.proofs.Chaining.{Made, one_more, few_both, moved_whole, moved_behind}
 use Rattle.hp_work.proofs.chains.Chains.append.Goals as goal
 
 whole_made : (c : goal.Then-before-eq0) →
@@ -36,14 +36,14 @@ behind_made c =
     let n = one_more (chain_at c.self.inside.chains c.args.to).many c.if-before-eq0.false in
     let m = one_more (chain_at c.self.inside.chains c.args.from).many c.if-behind-eq0.false in
     subst (λ s.
-      Made s
-      (set (set c.self.inside.chains c.args.from no_items) c.args.to
-      (record {
-        first = (chain_at c.self.inside.chains c.args.to).first;
-        last = (chain_at c.self.inside.chains c.args.from).last;
-        many = (chain_at c.self.inside.chains c.args.to).many + (chain_at c.self.inside.chains c.args.from).many;
-      }))
-      (moved c.args.from c.args.to (lists_of c.self.inside.nodes c.self.inside.chains)))
+    Made s
+    (set (set c.self.inside.chains c.args.from no_items) c.args.to
+    (record {
+      first = (chain_at c.self.inside.chains c.args.to).first;
+      last = (chain_at c.self.inside.chains c.args.from).last;
+      many = (chain_at c.self.inside.chains c.args.to).many + (chain_at c.self.inside.chains c.args.from).many;
+    }))
+    (moved c.args.from c.args.to (lists_of c.self.inside.nodes c.self.inside.chains)))
     (sym c.link.ensures)
     (moved_behind c.self.inside.nodes c.self.inside.chains c.args.from c.args.to c.self.invariant c.requires.from c.requires.to c.requires.other
     n.0 m.0 n.1 m.1)

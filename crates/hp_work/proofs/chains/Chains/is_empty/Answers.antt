@@ -1,4 +1,4 @@
-use Rattle.std.proofs.Common.{◌≡◌, eqb, sym, ap, ◌∙◌, length}
+use Rattle.std.proofs.Common.{eqb, sym, ap, ◌∙◌, length}
 use Rattle.hp_work.specs.Lists.{list}
 use Rattle.hp_work.proofs.Chaining.{many_at}
 use Rattle.hp_work.proofs.chains.Chains.is_empty.Goals as goal

@@ -1,11 +1,9 @@
-use Rattle.std.proofs.Common.{◌≡◌, ◌+◌, ◌-◌, ◌++◌, ◌∷◌, [], ℕ, zero, suc, Some, None, map, refl, sym, ap, subst, ◌∙◌, append_assoc, arith}
-use Rattle.std.specs.Prelude.{All, IsSome, is_some}
+use Rattle.std.proofs.Common.{◌≡◌, ◌+◌, ◌-◌, ◌++◌, suc, map, sym, ap, subst, ◌∙◌, arith}
+use Rattle.std.specs.Prelude.{All, IsSome}
 use Rattle.std.proofs.lemmas.List.{append-nil}
-use Rattle.std.proofs.lemmas.List.Elements.{All-head, All-tail}
-use Rattle.slab.specs.Slab.{Slab, get}
-use Rattle.hp_work.specs.declared.chains.Node.{Node}
+use Rattle.slab.specs.Slab.{get}
 use Rattle.hp_work.specs.Lists.{list}
-use Rattle.hp_work.specs.Chained.{item_in, next_in, keys_from, item_at, items_of, chain_at}
+use Rattle.hp_work.specs.Chained.{keys_from, item_at, items_of, chain_at}
 use Rattle.hp_work.proofs.Chaining.{chain_is, list_at, one_further, there_further, there_next}
 use Rattle.hp_work.proofs.chains.Chains.items.Goals as goal
 

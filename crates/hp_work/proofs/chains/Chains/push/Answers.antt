@@ -1,10 +1,7 @@
-use Rattle.std.proofs.Common.{◌≡◌, ◌+◌, sym, ap, ◌∙◌, subst, arith, length}
+use Rattle.std.proofs.Common.{◌+◌, sym, ap, ◌∙◌, subst, arith}
 use Rattle.std.proofs.Math.ListN.{set}
-use Rattle.std.specs.List.{sum_by}
-use Rattle.hp_work.specs.declared.chains.Chain.{Chain}
-use Rattle.hp_work.specs.declared.limits.TheConstants.{MAX_ITEMS}
-use Rattle.hp_work.specs.Lists.{times_in, pushed}
-use Rattle.hp_work.specs.Chained.{lists_of, chain_at, linked, IsChained}
+use Rattle.hp_work.specs.Lists.{pushed}
+use Rattle.hp_work.specs.Chained.{lists_of, chain_at}
 use Rattle.hp_work.proofs.Chaining.{Made, one_more, few_at, pushed_first, pushed_more}
 use Rattle.hp_work.proofs.chains.Chains.push.Goals as goal
 
@@ -46,10 +43,10 @@ more_made c =
     let e = c.insert_reserved-key.ensures in
     let n = one_more (chain_at c.self.inside.chains c.args.place).many c.if-chain-eq0.false in
     subst (λ s.
-      Made s
-      (set c.self.inside.chains c.args.place
-      (record { first = (chain_at c.self.inside.chains c.args.place).first; last = c.insert_reserved-key.result; many = (chain_at c.self.inside.chains c.args.place).many + 1 }))
-      (pushed c.args.place c.args.item (lists_of c.self.inside.nodes c.self.inside.chains)))
+    Made s
+    (set c.self.inside.chains c.args.place
+    (record { first = (chain_at c.self.inside.chains c.args.place).first; last = c.insert_reserved-key.result; many = (chain_at c.self.inside.chains c.args.place).many + 1 }))
+    (pushed c.args.place c.args.item (lists_of c.self.inside.nodes c.self.inside.chains)))
     (sym c.link.ensures)
     (pushed_more c.self.inside.nodes c.insert_reserved-key.new.self c.self.inside.chains c.args.place c.args.item c.insert_reserved-key.result
     c.self.invariant c.requires.place (rw (← view) at c.requires.room) (rw (← view) at c.requires.nowhere) e.was_vacant e.updates e.len e.capacity n.0 n.1)

@@ -1,16 +1,15 @@
-use Rattle.std.proofs.Common.{◌≡◌, ap, ◌∙◌, arith}
+use Rattle.std.proofs.Common.{◌≡◌, ap, sym, ◌∙◌, length}
 use Rattle.hp_states.specs.declared.dir.Dir.TheVariants.{Down}
 use Rattle.hp_work.specs.Changes.{moves}
 use Rattle.hp_work.specs.Inside.{work}
+use Rattle.hp_work.specs.Work.{Work}
+use Rattle.hp_work.proofs.Sets.{length-places}
 use Rattle.hp_work.proofs.Sound.{sound_moved, closes_is, not_there}
 use Rattle.hp_work.proofs.queues.Queues.close.Goals as goal
 
-pub append-requires : goal.append-requires
-append-requires c = record {
-  from = let h = c.requires in omega (arith, h);
-  to = c.lowest_place-to.ensures.place;
-  other = c.lowest_place-to.ensures.other c.args.cpu c.requires (not_there c.self.inside.opened c.take.new.self c.args.cpu c.take.ensures);
-}
+pub append-requires-clause-other : goal.append-requires-clause-other
+append-requires-clause-other c =
+    c.lowest_place-to.ensures.other c.args.cpu c.requires (not_there c.self.inside.opened c.take.new.self c.args.cpu c.take.ensures)
 
 closed_is : (c : goal.After-append) →
     work (record c.self.inside { opened = c.take.new.self; lists = c.append.new.self }) ≡ moves Down c.args.cpu (work c.self.inside)
@@ -21,5 +20,8 @@ closed_is c =
 pub invariant_of-self : goal.invariant_of-self
 invariant_of-self c = sound_moved c.self.inside Down c.args.cpu c.take.new.self c.append.new.self (closed_is c) c.requires c.self.invariant
 
-pub returns : goal.returns
-returns c = closed_is c ∙ ap (moves Down c.args.cpu) c.self.view_is
+pub returns-clause-exactly : goal.returns-clause-exactly
+returns-clause-exactly c = closed_is c ∙ ap (moves Down c.args.cpu) c.self.view_is
+
+pub returns-clause-places : goal.returns-clause-places
+returns-clause-places c = ap (λ (w : Work). length w.opened) (sym c.self.view_is) ∙ length-places c.self.inside.opened

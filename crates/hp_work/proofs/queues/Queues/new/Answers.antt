@@ -1,6 +1,4 @@
-use Rattle.std.proofs.Common.{◌≡◌, [], length, sym, ap, subst, ◌∙◌}
-use Rattle.std.proofs.lemmas.List.{length-replicate}
-use Rattle.hp_states.specs.declared.limits.TheConstants.{MAX_CPU_SET}
+use Rattle.std.proofs.Common.{◌≡◌, [], sym, subst, ◌∙◌}
 use Rattle.hp_work.specs.Follows.{OpensBy}
 use Rattle.hp_work.specs.Inside.{places}
 use Rattle.hp_work.specs.Work.{none_put}

@@ -1,8 +1,7 @@
-use Rattle.std.proofs.Common.{◌≡◌, ◌∙◌, ap, refl, sym, arith}
-use Rattle.hp_work.specs.Work.{Work, is_open}
+use Rattle.std.proofs.Common.{◌∙◌, ap, refl, arith}
+use Rattle.hp_work.specs.Work.{Work}
 use Rattle.hp_work.proofs.Sound.{open_is, sound_put}
 use Rattle.hp_work.proofs.queues.Queues.put.Goals as goal
-
 
 pub returns-then-not-has-clause-offline : goal.returns-then-not-has-clause-offline
 returns-then-not-has-clause-offline c =
