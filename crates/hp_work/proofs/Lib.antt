@@ -7,3 +7,4 @@ pub mod Order
 pub mod Sound
 pub mod Following
 pub mod Draining
+pub mod Through

@@ -8,6 +8,8 @@ use Rattle.std.proofs.lemmas.Bool.{cases_eq, eq-eqb, ne_eqb, ltb-true, ltb-false
 use Rattle.hp_states.specs.declared.cpu_set.CpuSet.{CpuSet}
 use Rattle.hp_states.specs.declared.limits.TheConstants.{MAX_CPU_SET}
 use Rattle.hp_states.specs.CpuSets.{has, IsLowestFrom, HasNoneFrom}
+use Rattle.hp_work.specs.Work.{Work}
+use Rattle.hp_work.specs.Worked.{IsFirstOpen, HasNoneOpen}
 use Rattle.hp_work.specs.Inside.{places}
 use Rattle.hp_work.specs.Changes.{lowest_from}
 
@@ -88,5 +90,18 @@ lowest_of s (Some n) some none =
     (place_is s n some.within ∙ some.is_in) (λ j b. place_false s j (some.none_below j (omega arith) b))
     ∙ (let e : 0 + n ≡ n = omega arith in ap Some e)
 
-pub lowest_below : (s : CpuSet) (n : ℕ) → IsLowestFrom s 0 n → n < MAX_CPU_SET
-lowest_below s n h = h.within
+-- the lowest of a set is the first open one
+pub first_is : (s : CpuSet) (w : Work) (from : ℕ) (r : Option ℕ) → w.opened ≡ places s → IfSome r (λ n. IsLowestFrom s from n) →
+    IfSome r (λ n. IsFirstOpen w from n)
+first_is s w from None e h = tt
+first_is s w from (Some n) e h = record {
+  within = h.within;
+  at_least = h.at_least;
+  opened = ap (λ os. get_or os n false) e ∙ (place_is s n h.within ∙ h.is_in);
+  none_below = λ o a b. ap (λ os. get_or os o false) e ∙ place_false s o (h.none_below o a b);
+}
+
+pub none_is : (s : CpuSet) (w : Work) (from : ℕ) (r : Option ℕ) → w.opened ≡ places s → IfNone r (HasNoneFrom s from) →
+    IfNone r (HasNoneOpen w from)
+none_is s w from None e h = λ o a. ap (λ os. get_or os o false) e ∙ place_false s o (h o a)
+none_is s w from (Some n) e h = tt

@@ -4,5 +4,6 @@ pub mod Changes
 pub mod Follows
 pub mod Steps
 pub mod Drained
+pub mod Worked
 pub mod Chained
 pub mod Inside

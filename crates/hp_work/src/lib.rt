@@ -9,7 +9,7 @@
 //! has. Of every lawful journal that they follow, `specs/Follows.antt` says which processors are open. So after any puts
 //! and runs among its events, `items_stand_once` says, each item stands exactly once in what ran, the queues and the
 //! unbound list; and two items of one processor keep their order, says `items_keep_their_order` (`specs/Steps.antt`).
-//! `specs/Drained.antt` says what `drain` answers.
+//! `specs/Drained.antt` says what `drain` answers, and `specs/Worked.antt` what `go_through` makes of a whole journal.
 //!
 //! The items stand in a slab, in which those of a list are linked (`specs/Chained.antt`): a queue moves by one link,
 //! however long it is. Room is made at the start, and no call but `new` and `drain` takes memory.
@@ -20,6 +20,7 @@
 
 mod chains;
 mod drain;
+mod going;
 mod law;
 mod limits;
 mod queues;
@@ -27,6 +28,7 @@ mod queues;
 #[doc(hidden)]
 pub use chains::{Chain, Chains, Node};
 pub use drain::{Drain, Drained, Drains};
+pub use going::go_through;
 pub use law::{Step, items_keep_their_order, queues_for_lawful};
 pub use limits::{LAST_FOLLOWED, MAX_ITEMS};
 pub use queues::{PutError, Queues};

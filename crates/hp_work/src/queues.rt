@@ -1,6 +1,6 @@
 //! The queues of the processors.
 
-ghost use Rattle.std.specs.Prelude.{◌≡◌, ◌≢◌, ◌↔◌, ℕ, ◌<◌, ◌≤◌, [], true, false, Err, IfOk, OnOk, OnErr, length, slice_get};
+ghost use Rattle.std.specs.Prelude.{◌≡◌, ◌≢◌, ◌↔◌, ℕ, ◌<◌, ◌≤◌, [], true, false, Err, IfOk, IfSome, IfNone, OnOk, OnErr, length, slice_get};
 ghost use Rattle.hp_states.specs.declared.limits.TheConstants.{MAX_CPU_SET as MAX_CPU_SET_OF};
 ghost use Rattle.hp_work.specs.declared.limits.TheConstants.{MAX_ITEMS as MAX_ITEMS_OF};
 ghost use Rattle.hp_work.specs.Work.{queue, is_open, none_put, StandOnce};
@@ -9,6 +9,7 @@ ghost use Rattle.hp_states.specs.CpuSets.{has};
 ghost use Rattle.hp_work.specs.Inside.{places};
 ghost use Rattle.hp_work.specs.Changes.{is_followed, lowest_from, goes_to, moves, followed, put_on, ran_on};
 ghost use Rattle.hp_work.specs.Drained.{IsDrained};
+ghost use Rattle.hp_work.specs.Worked.{IsFirstOpen, HasNoneOpen};
 ghost use Rattle.hp_work.specs.Follows.{HasQueue, OpensBy, FollowsLawful, OpensAsBefore};
 
 use crate::chains::{Chains, UNBOUND};
@@ -187,6 +188,16 @@ impl Queues {
         ensures { result ≡ is_open self.now cpu }
     {
         self.opened.has(cpu)
+    }
+
+    /// The lowest open processor whose number is at least `from`. None where there is none.
+    ///
+    /// `from` may be any number. Takes no memory, and a constant time. This project's own.
+    pub fn first_open(&self, from: u32) -> Option<u32>
+        ensures some { IfSome result (λ cpu. IsFirstOpen self.now from cpu) }
+        ensures none { IfNone result (HasNoneOpen self.now from) }
+    {
+        self.opened.first_from(from)
     }
 
     /// How many items were put. Takes no memory. This project's own.
