@@ -3,7 +3,7 @@ use Rattle.std.proofs.Common.{◌≡◌, length, subst, ◌∙◌}
 use Rattle.hp_edge.specs.Scripts.{counted_hooks}
 use Rattle.hp_edge.proofs.Holding.{plays, enough}
 use Rattle.hp_script.specs.Judged.{IsRead}
-use Rattle.hp_run.proofs.run.text_of_run.Goals as goal
+use Rattle.hp_run.proofs.run.text_of_command.Goals as goal
 
 pub text_of_script-requires-clause-script : goal.text_of_script-requires-clause-script
 text_of_script-requires-clause-script g c κs within = plays _ _ _ c.in_ok-script.ensures.read.is_script
