@@ -1,2 +1,3 @@
-mod Alone
 mod Parts
+mod Spoken
+mod Lines

@@ -5,7 +5,9 @@ use Rattle.hp_io.specs.declared.sink.Sink as Sink
 use Rattle.hp_hook.specs.declared.rack.Rack.{Rack}
 use Rattle.hp_edge.specs.declared.status.TheConstants.{DONE, NO_MEMORY}
 use Rattle.hp_edge.specs.Scripts.{HoldsScript}
-use Rattle.hp_run.specs.Main.{Answer, AskForRun, IsScriptRun, Writes, WritesPart}
+use Rattle.hp_run.specs.declared.command.Command.{Command}
+use Rattle.hp_run.specs.Commands.{AskForSome}
+use Rattle.hp_run.specs.Main.{Answer, IsScriptDone, Writes, WritesPart}
 
 -- the words; how many hooks the rack has; what is left of the source, and what the sink took, before and now; and
 -- their counts of faults
@@ -37,10 +39,10 @@ call from to words source source_now sink sink_now rack = record {
   write_faults_now = to.faults sink_now;
 }
 
--- where the words ask for a run and the source holds a script, it is done, or memory is wanting, where no object fails
+-- where the words ask for a command and the source holds a script, it is done, or memory is wanting, where no object fails
 abbrev pub IsDoneIfFine : Call → (status : ℕ) → Type 0
 IsDoneIfFine c status =
-    AskForRun c.words → HoldsScript c.hooks c.left → c.read_faults_now ≡ c.read_faults →
+    AskForSome c.words → HoldsScript c.hooks c.left → c.read_faults_now ≡ c.read_faults →
     c.write_faults_now ≡ c.write_faults → (status ≡ DONE) ⊎ (status ≡ NO_MEMORY)
 
 -- the sink took this answer to it
@@ -49,7 +51,7 @@ EndsWith answer c = Writes answer c.words c.hooks c.left c.left_now c.taken c.ta
 
 -- a read failed, and nothing was written
 abbrev pub EndsUnread : Call → Type 0
-EndsUnread c = AskForRun c.words × (c.read_faults_now ≡ c.read_faults + 1) × (c.taken_now ≡ c.taken)
+EndsUnread c = AskForSome c.words × (c.read_faults_now ≡ c.read_faults + 1) × (c.taken_now ≡ c.taken)
 
 -- a write failed, and the sink took a part of some answer
 abbrev pub EndsHalfWritten : Call → Type 0
@@ -57,11 +59,11 @@ EndsHalfWritten c =
     (c.write_faults_now ≡ c.write_faults + 1)
     × WritesPart c.words c.hooks c.left c.left_now c.taken c.taken_now
 
--- memory was wanting for a run, and nothing was written
+-- memory was wanting for a command, and nothing was written
 abbrev pub EndsWanting : Call → Type 0
-EndsWanting c = AskForRun c.words × (c.taken_now ≡ c.taken)
+EndsWanting c = AskForSome c.words × (c.taken_now ≡ c.taken)
 
--- what is written of the script that the source holds
-abbrev pub Runs : {S H Z : Type 0} → Source.Ghosts S → (source source_now : S) → (rack : Rack H) → (text : Vec ℕ Z) → Type 0
-Runs from source source_now rack =
-    λ text. IsScriptRun (length rack.hooks.items) (from.left source) (from.left source_now) text.items
+-- what is written under a command, of the script that the source holds
+abbrev pub Does : {S H Z : Type 0} → Source.Ghosts S → (source source_now : S) → (rack : Rack H) → Command → (text : Vec ℕ Z) → Type 0
+Does from source source_now rack command =
+    λ text. IsScriptDone command (length rack.hooks.items) (from.left source) (from.left source_now) text.items

@@ -1,2 +1,4 @@
+pub mod Commands
+pub mod WorkLines
 pub mod Main
 pub mod Calls

@@ -4,8 +4,8 @@ ghost use Rattle.std.specs.Prelude.{◌≡◌, ◌≢◌, ◌<◌, ◌≤◌};
 ghost use Rattle.hp_run.specs.Main.{Answer};
 ghost use Rattle.hp_run.specs.Calls.{call, IsDoneIfFine, EndsWith, EndsUnread, EndsHalfWritten, EndsWanting};
 
-use crate::run::text_of_run;
-use crate::words::ask_for_run;
+use crate::command::command_of;
+use crate::run::text_of_command;
 use hp_edge::{
     BAD_SCRIPT, BAD_WORDS, DONE, NO_MEMORY, NoScript, READ_FAULT, WRITE_FAULT, write_answer,
 };
@@ -16,17 +16,18 @@ use std::alloc::Global;
 use std::sync::Wait;
 use std::thread::Threads;
 
-const USAGE: &[u8] = b"usage: hpd run\n";
+const USAGE: &[u8] = b"usage: hpd run|work STATE\n";
 
 /// The program `hpd`: runs a script on threads, and answers the exit status.
 ///
-/// The words are exactly `run`. The script that the source holds is read; its schedule isn't used. Each actor is a
+/// The words are exactly `run`, or `work` and a state from 1 to 198. The script that the source holds is read; its schedule
+/// isn't used. Each actor is a
 /// client's seat on a thread of its own, and so is the hotplug thread of each processor. Each setup is given a hook of the
 /// rack, which has as many as the script has setups. The gate is passed before each lock section of a seat.
 ///
 /// | Status | comes | written |
 /// |---|---|---|
-/// | 0 | done | the text of the journal of the run, then its summary |
+/// | 0 | done | the text of the journal of the run, then its summary; under `work`, then what queues that follow the state hold after it |
 /// | 1 | exactly where the words are others, if no write fails; nothing is read | the usage line |
 /// | 2 | exactly where the script is refused | its first refused line and the cause: `error: line 3: bad word` |
 /// | 3 | only where a read failed | nothing |
@@ -76,10 +77,10 @@ pub fn hpd_main<R: Threads + Wait + Sync, S: Source, K: Sink, G: Gate + Sync, H:
     ensures source_faults { result ≢ READ_FAULT → S.faults source.new ≡ S.faults source.old }
     ensures sink_faults { result ≢ WRITE_FAULT → K.faults sink.new ≡ K.faults sink.old }
 {
-    if !ask_for_run(words) {
+    let Some(command) = command_of(words) else {
         return write_answer(sink, USAGE, BAD_WORDS);
-    }
-    match text_of_run(rt, alloc, source, rack, gate) {
+    };
+    match text_of_command(rt, alloc, command, source, rack, gate) {
         Ok(text) => write_answer(sink, &text, DONE),
         Err(NoScript::Refused(line)) => write_answer(sink, &line, BAD_SCRIPT),
         Err(NoScript::ReadFault) => READ_FAULT,

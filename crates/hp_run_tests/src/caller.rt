@@ -81,7 +81,23 @@ pub fn run<R: Abort + Threads + Wait + Sync, H: Hook + Send, G: Gate + Sync>(
     Ok((status, sink.bytes))
 }
 
-/// The same with so many hooks of scripts and a gate that does nothing.
+/// The same of the command `work`, with the word of a state, so many hooks of scripts, and a gate that does nothing.
+pub fn work_alone<R: Abort + Threads + Wait + Sync>(
+    rt: &R,
+    alloc: Global,
+    state: &str,
+    script: &str,
+    hooks: u32,
+) -> Result<(u8, Vec<u8>), Fail> {
+    let mut source = source_of(alloc, script.as_bytes())?;
+    let mut sink = ample_sink(alloc)?;
+    let rack = some_hooks(alloc, hooks)?;
+    let words = ["work", state];
+    let status = run_with(rt, alloc, &words, &mut source, &mut sink, rack, &FreeGate)?;
+    Ok((status, sink.bytes))
+}
+
+/// The same of the command `run`.
 pub fn run_alone<R: Abort + Threads + Wait + Sync>(
     rt: &R,
     alloc: Global,

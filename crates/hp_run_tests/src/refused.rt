@@ -74,7 +74,7 @@ fn scripts_that_are_refused(rt: HostRuntime) -> Result<(), Fail> {
     check(&rt, rt.alloc(), SCRIPTS)
 }
 
-const USAGE: &str = "usage: hpd run\n";
+const USAGE: &str = "usage: hpd run|work STATE\n";
 
 const WORDS: &[Row] = &[
     Row {
@@ -94,6 +94,48 @@ const WORDS: &[Row] = &[
     Row {
         name: "a further word",
         words: &["run", "run"],
+        input: "",
+        status: 1,
+        output: USAGE,
+    },
+    Row {
+        name: "no state",
+        words: &["work"],
+        input: "",
+        status: 1,
+        output: USAGE,
+    },
+    Row {
+        name: "state 0",
+        words: &["work", "0"],
+        input: "",
+        status: 1,
+        output: USAGE,
+    },
+    Row {
+        name: "a state too high",
+        words: &["work", "199"],
+        input: "",
+        status: 1,
+        output: USAGE,
+    },
+    Row {
+        name: "a zero before a state",
+        words: &["work", "0120"],
+        input: "",
+        status: 1,
+        output: USAGE,
+    },
+    Row {
+        name: "a word behind a state",
+        words: &["work", "120", "1"],
+        input: "",
+        status: 1,
+        output: USAGE,
+    },
+    Row {
+        name: "a state of a run",
+        words: &["run", "120"],
         input: "",
         status: 1,
         output: USAGE,

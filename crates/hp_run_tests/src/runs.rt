@@ -1,6 +1,8 @@
 //! Scripts that are run, with what is written of them.
 
-use crate::caller::{ample_sink, assert_text, run, run_alone, source_of, written_of_two_startups};
+use crate::caller::{
+    ample_sink, assert_text, run, run_alone, source_of, work_alone, written_of_two_startups,
+};
 use hp_hook::{Rack, ScriptHook};
 use hp_live::FreeGate;
 use hp_play::hp_main;
@@ -60,5 +62,42 @@ fn twelve_subsystems_end_alike(rt: HostRuntime) -> Result<(), Fail> {
     let (status, summary) = replayed(alloc, &written)?;
     assert!(rt; status == 0, "replay: status {status}");
     assert_text(&rt, TWELVE_SUBSYSTEMS.name, &summary, wanted.as_bytes());
+    Ok(())
+}
+
+/// The lines of the queues of state 120, as worked out by hand: after each of the 18 events an item is put on each open
+/// processor, and after each third the fronts run.
+const TWO_STARTUPS_WORKED: &str = "ran 0 1 2 8 3 10 4 12\n\
+    drained 0 5 6 7 9 11 13 15 17 19\n\
+    drained 1 14 16 18 20\n\
+    unbound -\n";
+
+#[test]
+fn queues_go_through_a_run(rt: HostRuntime) -> Result<(), Fail> {
+    let alloc = rt.alloc();
+    let (status, written) = work_alone(&rt, alloc, "120", TWO_STARTUPS.script, 2)?;
+    assert!(rt; status == 0);
+    let mut wanted = written_of_two_startups(alloc)?;
+    wanted.push_str(TWO_STARTUPS_WORKED)?;
+    assert_text(&rt, TWO_STARTUPS.name, &written, wanted.as_bytes());
+    Ok(())
+}
+
+/// The processor goes down at the end of the script: its queue moves behind the other's.
+const DOWN_AGAIN_WORKED: &str = "ran 0 1 2 8 3 10 4 12 5 6\n\
+    drained 0 7 9 11 13 15 17 19 14 16 18 20 21 22 23 24 25 26\n\
+    unbound -\n";
+
+#[test]
+fn a_queue_moves_in_a_run(rt: HostRuntime) -> Result<(), Fail> {
+    let alloc = rt.alloc();
+    let mut script = String::from_str(alloc, TWO_STARTUPS.script)?;
+    script.push_str("down 1\n")?;
+    let (status, written) = work_alone(&rt, alloc, "120", script.as_str(), 2)?;
+    assert!(rt; status == 0);
+    assert!(rt;
+        written.ends_with(DOWN_AGAIN_WORKED.as_bytes()),
+        "other lines"
+    );
     Ok(())
 }

@@ -1,0 +1,9 @@
+pub mod Lists
+pub mod Work
+pub mod Changes
+pub mod Follows
+pub mod Steps
+pub mod Drained
+pub mod Worked
+pub mod Chained
+pub mod Inside
