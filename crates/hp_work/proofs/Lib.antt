@@ -1,9 +1,11 @@
 pub mod Counting
 pub mod Links
 pub mod Chaining
+pub mod Moving
 pub mod Sets
 pub mod Standing
 pub mod Order
+pub mod Between
 pub mod Sound
 pub mod Following
 pub mod Draining

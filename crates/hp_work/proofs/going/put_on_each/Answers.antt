@@ -1,5 +1,4 @@
-use Rattle.std.proofs.Common.{rules, ◌≡◌, ◌+◌, ◌≤◌, refl, sym, ap, ◌∙◌, arith}
-use Rattle.hp_work.specs.declared.limits.TheConstants.{MAX_ITEMS}
+use Rattle.std.proofs.Common.{rules, ◌≡◌, refl, sym, ap, ◌∙◌, arith}
 use Rattle.hp_work.specs.Work.{Work}
 use Rattle.hp_work.specs.Changes.{put_on}
 use Rattle.hp_work.specs.Worked.{put_if_room}

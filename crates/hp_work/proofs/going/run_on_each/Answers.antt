@@ -1,4 +1,4 @@
-use Rattle.std.proofs.Common.{◌≡◌, ◌+◌, ◌≤◌, refl, sym, ap, ◌∙◌, arith}
+use Rattle.std.proofs.Common.{refl, sym, ap, ◌∙◌, arith}
 use Rattle.hp_work.specs.Work.{Work}
 use Rattle.hp_work.specs.Changes.{ran_on}
 use Rattle.hp_work.proofs.Through.{done_none, done_one, run_all}

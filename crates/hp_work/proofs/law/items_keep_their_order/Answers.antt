@@ -1,4 +1,4 @@
-use Rattle.hp_work.proofs.Order.{keeps_order}
+use Rattle.hp_work.proofs.Between.{keeps_order}
 use Rattle.hp_work.proofs.law.items_keep_their_order.Goals as goal
 
 pub returns : goal.returns

@@ -2,7 +2,8 @@ use Rattle.std.proofs.Common.{◌+◌, sym, ap, ◌∙◌, subst, arith}
 use Rattle.std.proofs.Math.ListN.{set}
 use Rattle.hp_work.specs.Lists.{moved}
 use Rattle.hp_work.specs.Chained.{lists_of, chain_at, no_items}
-use Rattle.hp_work.proofs.Chaining.{Made, one_more, few_both, moved_whole, moved_behind}
+use Rattle.hp_work.proofs.Chaining.{Made, one_more, few_both}
+use Rattle.hp_work.proofs.Moving.{moved_whole, moved_behind}
 use Rattle.hp_work.proofs.chains.Chains.append.Goals as goal
 
 whole_made : (c : goal.Then-before-eq0) →

@@ -3,7 +3,8 @@ use Rattle.std.specs.Prelude.{slice_get}
 use Rattle.std.proofs.Math.ListN.{set}
 use Rattle.hp_work.specs.Lists.{list, popped}
 use Rattle.hp_work.specs.Chained.{lists_of, chain_at}
-use Rattle.hp_work.proofs.Chaining.{Made, one_more, chain_is, first_some, front_taken, popped_taken}
+use Rattle.hp_work.proofs.Chaining.{Made, one_more, chain_is, first_some}
+use Rattle.hp_work.proofs.Moving.{front_taken, popped_taken}
 use Rattle.hp_work.proofs.chains.Chains.pop.Goals as goal
 
 pub remove-node-requires : goal.remove-node-requires

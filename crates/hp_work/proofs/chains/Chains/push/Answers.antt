@@ -2,7 +2,8 @@ use Rattle.std.proofs.Common.{◌+◌, sym, ap, ◌∙◌, subst, arith}
 use Rattle.std.proofs.Math.ListN.{set}
 use Rattle.hp_work.specs.Lists.{pushed}
 use Rattle.hp_work.specs.Chained.{lists_of, chain_at}
-use Rattle.hp_work.proofs.Chaining.{Made, one_more, few_at, pushed_first, pushed_more}
+use Rattle.hp_work.proofs.Chaining.{Made, one_more, few_at}
+use Rattle.hp_work.proofs.Moving.{pushed_first, pushed_more}
 use Rattle.hp_work.proofs.chains.Chains.push.Goals as goal
 
 pub insert_reserved-key-requires : goal.insert_reserved-key-requires
