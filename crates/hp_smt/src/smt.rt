@@ -8,6 +8,7 @@ ghost use Rattle.hp_model.specs.Registrations.{registration};
 ghost use Rattle.hp_smt.specs.Modes.{is_off};
 ghost use Rattle.hp_smt.specs.Shut.{ArePrimaries};
 ghost use Rattle.hp_smt.specs.Siblings.{lowest_of};
+ghost use Rattle.hp_smt.specs.Sound.{IsSmt};
 ghost use Rattle.hp_smt.specs.Writes.{at_rest};
 
 use crate::mode::Mode;
@@ -110,8 +111,10 @@ impl<H: Hook> Smt<H> {
     /// What is so of SMT control at any time, which callers cite: it does nothing.
     ///
     /// While the mode is Off or ForceOff every processor that is online is a primary. The journal is lawful, and has the
-    /// headline. Takes no memory. This project's own.
+    /// headline. No hook is lent, and a write in flight is under way, as `specs/Sound.antt` says. Takes no memory. This
+    /// project's own.
     pub fn sound(&self)
+        ensures kept { IsSmt self.now.board self.now.threads self.now.setting }
         ensures primaries { is_off self.now.setting.mode ≡ true → ArePrimaries self.now.threads self.now.board.events }
         ensures lawful { IsLawful self.now.board.head self.now.board.events }
         ensures headline { Headline self.now.board.head self.now.board.events }

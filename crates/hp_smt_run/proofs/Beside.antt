@@ -261,6 +261,13 @@ going_without head actors xs ns i op g u free plain = record {
 
 -- ---- scripts
 
+pub all_none : {X : Type 0} (Is : X → Type 0) → All Is []
+all_none Is i d below = absurd (omega (arith, below))
+
+pub all_one : {X : Type 0} (Is : X → Type 0) (x : X) → Is x → All Is (x ∷ [])
+all_one Is x h zero d below = h
+all_one Is x h (suc i) d below = absurd (omega (arith, below))
+
 -- with an operation that a client may ask for, and which locks nothing
 pub script_beside : (head : Head) (ops : List (List Op)) (own : Option Op) → IsScript head ops →
     length (present head) + length ops + 1 ≤ MAX_SEATS → All (λ op. names_sub head op ≡ true) (option_to_list own) →
@@ -270,15 +277,11 @@ script_beside head ops own s few subs plain = record {
   few_seats = let l = long_beside ops (option_to_list own) in omega (arith, few, l);
   has_subs =
       All-append (λ (a : List Op). All (λ op. names_sub head op ≡ true) a) ops (option_to_list own ∷ []) s.has_subs
-      (one (λ (a : List Op). All (λ op. names_sub head op ≡ true) a) (option_to_list own) subs);
+      (all_one (λ (a : List Op). All (λ op. names_sub head op ≡ true) a) (option_to_list own) subs);
   end_unlocked =
       All-append (λ (a : List Op). is_locked a ≡ false) ops (option_to_list own ∷ []) s.end_unlocked
-      (one (λ (a : List Op). is_locked a ≡ false) (option_to_list own) plain);
+      (all_one (λ (a : List Op). is_locked a ≡ false) (option_to_list own) plain);
 }
-  where
-    one : {X : Type 0} (Is : X → Type 0) (x : X) → Is x → All Is (x ∷ [])
-    one Is x h zero d below = h
-    one Is x h (suc i) d below = absurd (omega (arith, below))
 
 pub start_beside : (head : Head) (ops : List (List Op)) → IsScript head ops → length (present head) + length ops + 1 ≤ MAX_SEATS →
     Going head (beside ops None) (admissions head (ops ++ [] ∷ [])) (replicate (length ops) 0 ++ 0 ∷ [])
@@ -287,4 +290,4 @@ start_beside head ops s few =
     let r : replicate (length (ops ++ [] ∷ [])) 0 ≡ replicate (length ops) 0 ++ 0 ∷ [] =
     ap (λ z. replicate z 0) n ∙ sym (replicate-append-replicate (length ops) 1 0) in
     subst (λ ns. Going head (ops ++ [] ∷ []) (admissions head (ops ++ [] ∷ [])) ns) r
-    (start_going head (ops ++ [] ∷ []) (script_beside head ops None s few (λ i d below. absurd (omega (arith, below))) refl))
+    (start_going head (ops ++ [] ∷ []) (script_beside head ops None s few (all_none (λ op. names_sub head op ≡ true)) refl))

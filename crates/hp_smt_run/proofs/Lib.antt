@@ -1,1 +1,4 @@
 pub mod Beside
+pub mod Kept
+pub mod Further
+pub mod Moving
