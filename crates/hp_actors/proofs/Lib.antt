@@ -1,20 +1,20 @@
-mod Agendas
-mod Busy
-mod Progressing
-mod Holding
-mod Playing
-mod TurnsAsked
-mod RoundLaws
-mod Resting
-mod Admissions
-mod Turning
-mod Taking
-mod Opening
-mod Waiting
-mod PassedOverStay
-mod ThreadsTurn
-mod ThreadSeats
-mod HooksTurned
-mod Later
-mod Giving
-mod Loading
+pub mod Agendas
+pub mod Busy
+pub mod Progressing
+pub mod Holding
+pub mod Playing
+pub mod TurnsAsked
+pub mod RoundLaws
+pub mod Resting
+pub mod Admissions
+pub mod Turning
+pub mod Taking
+pub mod Opening
+pub mod Waiting
+pub mod PassedOverStay
+pub mod ThreadsTurn
+pub mod ThreadSeats
+pub mod HooksTurned
+pub mod Later
+pub mod Giving
+pub mod Loading

@@ -28,14 +28,14 @@ use Rattle.hp_actors.proofs.Admissions.{clients_are}
 use Rattle.hp_actors.proofs.Playing.{idle_hook}
 use Rattle.hp_actors.proofs.Progressing.{turns_none}
 
-none_answered : {H : Type 0} (actors : List (Actor H)) → IsFresh actors → map answered_of actors ≡ replicate (length actors) 0
+pub none_answered : {H : Type 0} (actors : List (Actor H)) → IsFresh actors → map answered_of actors ≡ replicate (length actors) 0
 none_answered [] fresh = refl
 none_answered {H} (a ∷ more) fresh =
     let first : a.answered ≡ 0 = ap (λ (x : Actor H). x.answered) (fresh 0 a (omega arith)).0 in
     ap (λ (n : ℕ). n ∷ map answered_of more) first
     ∙ ap (λ ns. 0 ∷ ns) (none_answered more (λ k d below. fresh (suc k) d (omega (arith, below))))
 
-idle_first : (head : Head) (actors : List (List Op)) (k : ℕ) → is_busy k (admissions head actors) ≡ false
+pub idle_first : (head : Head) (actors : List (List Op)) (k : ℕ) → is_busy k (admissions head actors) ≡ false
 idle_first head actors k =
     ap (λ o. holds_map k o || registers k (registration (admissions head actors))) (operation_first head actors)
     ∙ ap (registers k) (registration_first head actors)
@@ -44,7 +44,7 @@ idle_first head actors k =
 pub same_admissions : (head : Head) (actors : List (List Op)) → admissions head (replicate (length actors) []) ≡ admissions head actors
 same_admissions head actors = ap (λ es. ap_admits 0 (present head) ++ es) (sym (clients_are (length (present head)) actors))
 
-loaded_hook : {H : Type 0} (events : List Event) (k : ℕ) (actor : Actor H) → is_busy k events ≡ false → AreLoaded actor.asks →
+pub loaded_hook : {H : Type 0} (events : List Event) (k : ℕ) (actor : Actor H) → is_busy k events ≡ false → AreLoaded actor.asks →
     HasHook events k actor
 loaded_hook events k actor idle loaded = λ ask at.
     subst (λ x. is_some x.hook ≡ is_setup x.op) (get_or_from_slice_get actor.asks actor.answered ask ask at)
@@ -61,7 +61,7 @@ pub record Opened {H : Type 0} (board : Contents) (threads : ℕ) (actors : List
     pub fresh : IsFresh actors
     pub none_yet : hook_count board.places ≡ 0
 
-at_start : {H : Type 0} (board : Contents) (threads : ℕ) (actors : List (Actor H)) (head : Head) (ops : List (List Op)) →
+pub at_start : {H : Type 0} (board : Contents) (threads : ℕ) (actors : List (Actor H)) (head : Head) (ops : List (List Op)) →
     Opened board threads actors head ops → progress_of board.events actors ≡ start head ops
 at_start board threads actors head ops o =
     let n : length actors ≡ length ops = sym (length-map actors ops_of) ∙ ap length o.ops_are in

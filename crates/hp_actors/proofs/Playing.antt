@@ -50,7 +50,7 @@ pub record Grows (head : Head) (before after : List Event) (seat : ℕ) : Type 0
   pub after_is : after ≡ before ++ option_to_list next
   pub stands : IfSome next (λ e. Stands head before e × (seat_of e ≡ seat))
 
-busy_kept : (head : Head) (before after : List Event) (k j : ℕ) → Grows head before after k → k ≢ j →
+pub busy_kept : (head : Head) (before after : List Event) (k j : ℕ) → Grows head before after k → k ≢ j →
     is_busy j after ≡ is_busy j before
 busy_kept head before after k j g other = ap (is_busy j) g.after_is ∙ go g.next g.stands
   where
@@ -59,7 +59,7 @@ busy_kept head before after k j g other = ap (is_busy j) g.after_is ∙ go g.nex
     go None s = ap (is_busy j) (append-nil before)
     go (Some e) s = others_keep head before e j s.0 (λ is. other (sym s.1 ∙ is))
 
-hook_kept : {H : Type 0} (before after : List Event) (k : ℕ) (actor : Actor H) → is_busy k after ≡ is_busy k before →
+pub hook_kept : {H : Type 0} (before after : List Event) (k : ℕ) (actor : Actor H) → is_busy k after ≡ is_busy k before →
     HasHook before k actor → HasHook after k actor
 hook_kept before after k actor same h = λ ask at. h ask at ∙ ap (λ b. is_setup ask.op && not b) (sym same)
 
@@ -71,7 +71,7 @@ idle_hook events k op idle = sym (ap (λ b. is_setup op && not b) idle ∙ and_t
     and_true true = refl
     and_true false = refl
 
-due_grows : (head : Head) (before after : List Event) (k : ℕ) → after ≡ before ++ option_to_list (due_entry head before k) →
+pub due_grows : (head : Head) (before after : List Event) (k : ℕ) → after ≡ before ++ option_to_list (due_entry head before k) →
     Grows head before after k
 due_grows head before after k is = record { next = due_entry head before k; after_is = is; stands = go (due_entry head before k) refl }
   where
@@ -166,7 +166,7 @@ counts : (b : Bool) (i : ℕ) (ns : List ℕ) (n : ℕ) → n ≡ get_or ns i 0 
 counts true i ns n is = ap (set ns i) is
 counts false i ns n is = let e : n ≡ get_or ns i 0 = omega (arith, is) in ap (set ns i) e ∙ set-get_or ns i 0
 
-answers_are : {H : Type 0} (actors : List (Actor H)) (i : ℕ) (actor now : Actor H) (b : Bool) → slice_get actors i ≡ Some actor →
+pub answers_are : {H : Type 0} (actors : List (Actor H)) (i : ℕ) (actor now : Actor H) (b : Bool) → slice_get actors i ≡ Some actor →
     now.answered ≡ actor.answered + (cond b 1 0) → map answered_of (set actors i now) ≡ counted i b (map answered_of actors)
 answers_are actors i actor now b at is =
     let count : slice_get (map answered_of actors) i ≡ Some (answered_of actor) =
@@ -176,7 +176,7 @@ answers_are actors i actor now b at is =
     map-set answered_of actors i now
     ∙ counts b i (map answered_of actors) now.answered (is ∙ ap (λ z. z + (cond b 1 0)) (sym n))
 
-ops_kept : {H : Type 0} (actors : List (Actor H)) (i : ℕ) (actor now : Actor H) → slice_get actors i ≡ Some actor →
+pub ops_kept : {H : Type 0} (actors : List (Actor H)) (i : ℕ) (actor now : Actor H) → slice_get actors i ≡ Some actor →
     ops_of now ≡ ops_of actor → map ops_of (set actors i now) ≡ map ops_of actors
 ops_kept actors i actor now at is =
     map-set_same ops_of actors i now actor (is ∙ ap ops_of (sym (get_or_from_slice_get actors i actor actor at)))

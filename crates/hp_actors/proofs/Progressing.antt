@@ -37,7 +37,7 @@ pub reached_more : (head : Head) (actors : List (List Op)) (at : RunState) (k : 
 reached_more head actors at k r =
     (r.0 ++ k ∷ [], ap (λ z. turn head actors z k) r.1 ∙ sym (turns_push head actors (start head actors) r.0 k))
 
-entry_is : (o : Option Event) (at : RunState) → after_entry o at ≡ record { events = at.events ++ option_to_list o; answers = at.answers }
+pub entry_is : (o : Option Event) (at : RunState) → after_entry o at ≡ record { events = at.events ++ option_to_list o; answers = at.answers }
 entry_is None at = ap (λ es. record { events = es; answers = at.answers }) (sym (append-nil at.events))
 entry_is (Some e) at = refl
 
@@ -51,13 +51,13 @@ pub idle_turn : (head : Head) (actors : List (List Op)) (at : RunState) (k : ℕ
     due_entry head at.events k ≡ None → turn head actors at k ≡ at
 idle_turn head actors at k below none = rw (lt-ltb k (length (present head)) below, none) refl
 
-event_is : (i : ℕ) (o : Option Event) (full : Bool) (at : RunState) →
+pub event_is : (i : ℕ) (o : Option Event) (full : Bool) (at : RunState) →
     after_event i o full at
     ≡ record { events = at.events ++ option_to_list o; answers = counted i (is_answered o full) at.answers }
 event_is i None full at = ap (λ es. record { events = es; answers = counted i full at.answers }) (sym (append-nil at.events))
 event_is i (Some e) full at = refl
 
-asking_is : (head : Head) (k i : ℕ) (o : Option Op) (at : RunState) →
+pub asking_is : (head : Head) (k i : ℕ) (o : Option Op) (at : RunState) →
     after_asking head k i o at
     ≡ record {
       events = at.events ++ option_to_list (event_for head at.events k o);

@@ -87,7 +87,7 @@ frees head before k op lawful = go (next_event head before k op) refl
         subst (λ z. is_busy z (before ++ e ∷ []) ≡ false) s.1 (answer_frees head before e lawful s.0.0 a)
 
 -- the one behind the operation that comes next
-next_loaded : {H : Type 0} (asks : List (Ask H)) (n : ℕ) (x : Ask H) → AreLoaded (drop (n + 1) asks) → slice_get asks (n + 1) ≡ Some x →
+pub next_loaded : {H : Type 0} (asks : List (Ask H)) (n : ℕ) (x : Ask H) → AreLoaded (drop (n + 1) asks) → slice_get asks (n + 1) ≡ Some x →
     is_some x.hook ≡ is_setup x.op
 next_loaded asks n x later at =
     let below = slice_get_within asks (n + 1) x at in

@@ -58,8 +58,10 @@ impl<H: Hook> Run<H> {
     }
 }
 
-/// Puts the hooks that actors have behind those of the rack.
-fn give_back<H: Hook>(actors: Vec<Actor<H>>, rack: &mut Rack<H>) -> Result<(), NoMemory>
+/// Gives actors up: the hooks that their operations have go behind those of the rack, by actor and operation.
+///
+/// Takes memory for places in the rack; where that is wanting, some hooks are lost: `NoMemory`. This project's own.
+pub fn give_back<H: Hook>(actors: Vec<Actor<H>>, rack: &mut Rack<H>) -> Result<(), NoMemory>
     ensures { OnOk result (rack.new.hooks.items ≡ rack.old.hooks.items ++ actors_hooks actors.items) }
 {
     for actor in actors {

@@ -6,7 +6,8 @@
 //! `Run::start` seats the thread of each present processor and a client for each actor, and gives each
 //! setup a hook of a rack. `play` makes the turns of the schedule, and then rounds until every operation is
 //! answered; `turn` makes one turn of any seat. `board` shows the machine, `rests` says what holds where all
-//! is answered, and `finish` gives the run up: its hooks go back to the rack.
+//! is answered, and `finish` gives the run up: its hooks go back to the rack. Who makes turns of another kind of actors
+//! on a machine of its own has the parts of it: `seated_board`, `present_count`, `actors_of` and `give_back`.
 //!
 //! Contracts see an actor as an `Agenda` (`specs/Actors.antt`; `Lending.antt` says what it is after its next
 //! operation was lent), and how far a run has come, as a `Position` (`Positions.antt`); what a turn, a round and a
@@ -29,4 +30,7 @@ mod start;
 mod step;
 
 pub use actor::{Actor, Waits};
+pub use finish::give_back;
 pub use run::Run;
+pub use seating::{present_count, seated_board};
+pub use start::actors_of;

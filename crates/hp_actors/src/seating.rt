@@ -21,7 +21,7 @@ use std::alloc::Global;
 ///
 /// The head is one that a machine can be started with, and there are seats for all. Takes memory; where there
 /// is none: `NoMemory`. That a thread for each present processor is in is that of `kernel/cpu.c`.
-pub(crate) fn seated_board<H: Hook>(
+pub fn seated_board<H: Hook>(
     alloc: Global,
     head: &Head,
     clients: u32,
@@ -58,7 +58,7 @@ fn seat_all<H: Hook>(board: &mut Board<H>, head: &Head, clients: u32) -> Result<
 }
 
 /// How many processors are present. Takes no memory.
-pub(crate) fn present_count(head: &Head) -> u32
+pub fn present_count(head: &Head) -> u32
     ensures { result ≡ length (present head.now) }
 {
     let mut count = 0;

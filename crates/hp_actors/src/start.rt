@@ -42,8 +42,12 @@ impl<H: Hook> Run<H> {
     }
 }
 
-/// The actors of a script, of whose operations none is answered.
-fn actors_of<H: Hook>(
+/// The actors of a script, of whose operations none is answered. Each setup has a hook of its own, as it is in the
+/// rack: one after the other they take the last. No other operation has one.
+///
+/// The rack has as many hooks as the script has setups. Takes memory; where there is none, some hooks of the rack
+/// are lost: `NoMemory`. This project's own.
+pub fn actors_of<H: Hook>(
     alloc: Global,
     script: &Script,
     rack: &mut Rack<H>,

@@ -86,6 +86,15 @@ impl<H: Hook> Smt<H> {
         &self.board
     }
 
+    /// The machine alone, as it stands: control of it is given up, and a write in flight with it. Takes no memory. This
+    /// project's own.
+    pub fn into_board(self) -> Board<H>
+        ensures { result ≡ self.board }
+    {
+        let Smt { board, .. } = self;
+        board
+    }
+
     /// The mode. Takes no memory.
     pub fn mode(&self) -> Mode
         ensures { result ≡ self.now.setting.mode }

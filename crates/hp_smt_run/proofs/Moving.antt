@@ -52,7 +52,7 @@ pub record GetsFurther (head : Head) (n : ℕ) (ops : List (List Op)) (want : Co
 
 -- ---- whose turn it is
 
-thread_is : (head : Head) (n : ℕ) (ops : List (List Op)) (want : Control) (at : SmtState) (k : ℕ) → k < length (present head) →
+pub thread_is : (head : Head) (n : ℕ) (ops : List (List Op)) (want : Control) (at : SmtState) (k : ℕ) → k < length (present head) →
     smt_turn head n ops want at k ≡ with_run at (after_entry (due_entry head at.run.events k) at.run)
 thread_is head n ops want at k below = rw (lt-ltb k (length (present head)) below) refl
 
