@@ -5,3 +5,7 @@ pub mod Moving
 pub mod Turned
 pub mod Writing
 pub mod Rounds
+pub mod Online
+pub mod Stepped
+pub mod MayWrite
+pub mod Started
