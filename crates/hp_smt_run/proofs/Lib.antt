@@ -9,3 +9,4 @@ pub mod Online
 pub mod Stepped
 pub mod MayWrite
 pub mod Started
+pub mod Resting

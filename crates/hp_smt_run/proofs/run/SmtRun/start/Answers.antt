@@ -12,10 +12,10 @@ use Rattle.hp_smt_run.proofs.Started.{Started, started_playing, started_state}
 use Rattle.hp_smt_run.proofs.run.SmtRun.start.Goals as goal
 
 pub over-smt-requires-clause-no_operation : goal.over-smt-requires-clause-no_operation
-over-smt-requires-clause-no_operation g c = ap operation c.in_ok-board.ensures.events ∙ operation_first _ _
+over-smt-requires-clause-no_operation g c = ap operation c.in_ok-board.ensures.events ∙ operation_first c.head.result.now (replicate (c.actors.result + 1) [])
 
 pub over-smt-requires-clause-no_registration : goal.over-smt-requires-clause-no_registration
-over-smt-requires-clause-no_registration g c = ap registration c.in_ok-board.ensures.events ∙ registration_first _ _
+over-smt-requires-clause-no_registration g c = ap registration c.in_ok-board.ensures.events ∙ registration_first c.head.result.now (replicate (c.actors.result + 1) [])
 
 pub returns-clause-playing : goal.returns-clause-playing
 returns-clause-playing g c =

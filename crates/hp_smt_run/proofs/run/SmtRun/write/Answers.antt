@@ -24,8 +24,8 @@ returns-in_ok-push-in-Answered g c =
     let run = c.args.self.now in
     let k = run.seats + length run.actors.items in
     let same : c.len.result ≡ length run.actors.items = c.len.ensures ∙ run.actors.ok.0 in
-    let control = subst (λ n. IsControl (run.seats + n) c.in-Some.want run.smt c.control.new.self c.in_ok-control.field-0) same
-    c.in_ok-control.ensures.turn in
+    let control = subst (λ n. IsControl (run.seats + n) c.in-Some.want run.smt c.control.new.self c.in_ok-answer.field-0) same
+    c.in_ok-answer.ensures.turn in
     write_turned k c.in-Some.want (Answered c.in-Answered.at c.in-Answered.answer) run _ c.requires
     (record {
       seat_is = refl;
@@ -36,11 +36,11 @@ returns-in_ok-push-in-Answered g c =
       want_is = refl;
       denied_are = refl;
       notes = record {
-        written = record { want = c.in-Some.want; answer = c.in-Answered.answer; online = c.in_ok-online.online };
+        written = record { want = c.in-Some.want; answer = c.in-Answered.answer; online = c.in_ok-online-in-Answered.online };
         pushed = c.in_ok-push-in-Answered.ensures.items;
         want_is = refl;
         answer_is = refl;
-        online_are = c.in_ok-online.ensures ∙ ap (λ (b : Contents). online b.head b.events) c.board.ensures;
+        online_are = c.in_ok-online-in-Answered.ensures ∙ ap (λ (b : Contents). online b.head b.events) c.board.ensures;
       };
     })
 
@@ -49,8 +49,8 @@ returns-in-Made g c =
     let run = c.args.self.now in
     let k = run.seats + length run.actors.items in
     let same : c.len.result ≡ length run.actors.items = c.len.ensures ∙ run.actors.ok.0 in
-    let control = subst (λ n. IsControl (run.seats + n) c.in-Some.want run.smt c.control.new.self c.in_ok-control.field-0) same
-    c.in_ok-control.ensures.turn in
+    let control = subst (λ n. IsControl (run.seats + n) c.in-Some.want run.smt c.control.new.self c.in_ok-answer.field-0) same
+    c.in_ok-answer.ensures.turn in
     write_turned k c.in-Some.want (Made c.in-Made.at) run _ c.requires
     (record {
       seat_is = refl;
@@ -68,8 +68,8 @@ returns-in-NotYet g c =
     let run = c.args.self.now in
     let k = run.seats + length run.actors.items in
     let same : c.len.result ≡ length run.actors.items = c.len.ensures ∙ run.actors.ok.0 in
-    let control = subst (λ n. IsControl (run.seats + n) c.in-Some.want run.smt c.control.new.self c.in_ok-control.field-0) same
-    c.in_ok-control.ensures.turn in
+    let control = subst (λ n. IsControl (run.seats + n) c.in-Some.want run.smt c.control.new.self c.in_ok-answer.field-0) same
+    c.in_ok-answer.ensures.turn in
     write_turned k c.in-Some.want (NotYet c.in-NotYet.field-0) run _ c.requires
     (record {
       seat_is = refl;
