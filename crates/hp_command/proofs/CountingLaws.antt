@@ -14,7 +14,7 @@ none_up_to most n word small fits e out m says =
     let same : n ≡ m = decimal_injective n m fits (omega arith) (sym e ∙ says.0) in
     out (rw same says.1)
 
-pub two_words : (a b c d : Word) → a ∷ b ∷ [] ≡ c ∷ d ∷ [] → (a ≡ c) × (b ≡ d)
+two_words : (a b c d : Word) → a ∷ b ∷ [] ≡ c ∷ d ∷ [] → (a ≡ c) × (b ≡ d)
 two_words a b c d e = (cc, cc)
 
 fields_same : (a b : Counting) → a.state ≡ b.state → a.batch ≡ b.batch → a ≡ b

@@ -1,7 +1,6 @@
 pub mod Reading
 pub mod OptionLaws
 pub mod CountingLaws
-pub mod ControllingLaws
 pub mod CommandLaws
 pub mod ClapWords
 pub mod ClapRules

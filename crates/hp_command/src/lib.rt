@@ -8,7 +8,6 @@
 #![tactic(auto)]
 
 mod command;
-mod controlling;
 mod counting;
 mod law;
 mod number;
@@ -16,7 +15,6 @@ mod options;
 mod texts;
 
 pub use command::{Command, command_of};
-pub use controlling::Controlling;
 pub use counting::Counting;
 pub use law::words_determine_the_command;
 pub use number::number_of;
