@@ -1,8 +1,8 @@
 -- What every run under SMT control keeps: the client that writes is as an actor more, whose operation is the one that its write has in
 -- flight; and a write in flight is the one that comes next.
-use Rattle.std.proofs.Common.{◌≡◌, ℕ, zero, suc, ◌+◌, ◌-◌, ◌<◌, ◌≤◌, Bool, true, false, cond, not, ◌&&◌, ◌||◌, eqb, ltb, is_some, Option, Some, None, List, [], ◌∷◌, ◌++◌, length, length-append, append-nil, replicate, refl, ap, sym, ◌∙◌, subst, inl, inr, ◌⊎◌, arith}
-use Rattle.std.specs.Prelude.{All, fold, pos, slice_get, option_to_list}
-use Rattle.std.proofs.lemmas.Bool.{true≢false, eqb-true, eq-eqb, and_parts, ltb-true, ltb-false}
+use Rattle.std.proofs.Common.{◌≡◌, ℕ, ◌+◌, ◌-◌, ◌<◌, ◌≤◌, Bool, true, false, cond, not, ◌&&◌, ◌||◌, eqb, ltb, is_some, Option, Some, None, List, [], ◌∷◌, ◌++◌, length, length-append, append-nil, refl, ap, sym, ◌∙◌, subst, inl, inr, ◌⊎◌, arith}
+use Rattle.std.specs.Prelude.{fold, pos, slice_get, option_to_list}
+use Rattle.std.proofs.lemmas.Bool.{true≢false, eqb-true, eq-eqb, and_parts, ltb-false}
 use Rattle.std.proofs.lemmas.List.{length-replicate}
 use Rattle.std.proofs.lemmas.Option.{slice_get_within}
 use Rattle.hp_states.proofs.Basics.{none_some, same_some, not_below}
@@ -14,11 +14,10 @@ use Rattle.hp_event.specs.declared.op.Op.{Op}
 use Rattle.hp_event.specs.declared.op.Op.TheVariants as op
 use Rattle.hp_event.specs.declared.head.Head.{Head}
 use Rattle.hp_event.specs.declared.event.Event.{Event}
-use Rattle.hp_model.specs.Events.{seat_of, is_answer, answer_by}
+use Rattle.hp_model.specs.Events.{is_answer, answer_by}
 use Rattle.hp_model.specs.Lists.{is_empty}
 use Rattle.hp_model.specs.MapLock.{is_map_held}
 use Rattle.hp_model.specs.NextEvent.{due_entry, next_event, is_full}
-use Rattle.hp_model.specs.Pending.{IsInFlight}
 use Rattle.hp_model.specs.Processors.{present}
 use Rattle.hp_model.specs.Scripts.{IsScript, lock_step, is_locked}
 use Rattle.hp_model.specs.ScriptTurns.{RunState, unanswered, counted, after_entry, after_event, turn}

@@ -1,7 +1,7 @@
 -- While a run under SMT control isn't over, some seat's turn gets further.
 use Rattle.std.proofs.Common.{◌≡◌, ℕ, zero, suc, ◌+◌, ◌-◌, ◌<◌, ◌≤◌, Bool, true, false, cond, not, ◌&&◌, ◌||◌, eqb, ltb, is_some, is_none, Option, Some, None, List, [], ◌∷◌, ◌++◌, length, length-append, refl, ap, sym, ◌∙◌, subst, inl, inr, ◌⊎◌, arith}
-use Rattle.std.specs.Prelude.{fold, pos, slice_get, get_or, option_to_list, sum, sum_by}
-use Rattle.std.proofs.lemmas.Bool.{true≢false, eqb-true, eqb-false, eq-eqb, ltb-true, ltb-false, lt-ltb}
+use Rattle.std.specs.Prelude.{pos, slice_get, get_or, option_to_list, sum, sum_by}
+use Rattle.std.proofs.lemmas.Bool.{true≢false, eqb-true, eqb-false, eq-eqb, ltb-false, lt-ltb}
 use Rattle.std.proofs.lemmas.List.{get_or_append_left}
 use Rattle.std.proofs.lemmas.List.Sums.{sum_by-append, sum_by-cons}
 use Rattle.hp_states.proofs.Basics.{none_some, not_below, less_or}
@@ -13,8 +13,8 @@ use Rattle.hp_event.specs.declared.op.Op.{Op}
 use Rattle.hp_event.specs.declared.head.Head.{Head}
 use Rattle.hp_event.specs.declared.event.Event.{Event}
 use Rattle.hp_model.specs.Distance.{distance}
-use Rattle.hp_model.specs.Events.{is_answer, answer_by}
-use Rattle.hp_model.specs.Lists.{is_empty, numbers}
+use Rattle.hp_model.specs.Events.{answer_by}
+use Rattle.hp_model.specs.Lists.{is_empty}
 use Rattle.hp_model.specs.MapLock.{Operation, operation, is_map_held}
 use Rattle.hp_model.specs.NextEvent.{due_entry, next_event, is_full}
 use Rattle.hp_model.specs.Processors.{present}
@@ -24,7 +24,6 @@ use Rattle.hp_model.specs.ScriptTurns as plain
 use Rattle.hp_model.specs.Scripts.{IsScript}
 use Rattle.hp_model.specs.Suspend.{is_disabled, frozen}
 use Rattle.hp_model.specs.TurnMakes.{CanTake, LacksRoom, task, Stays}
-use Rattle.hp_model.proofs.AnswerCounts.{nth_of}
 use Rattle.hp_model.proofs.Going.{Going, IsGoing}
 use Rattle.hp_model.proofs.MovesOn.{Moves, moves}
 use Rattle.hp_model.proofs.OneNext.{owners}
@@ -38,7 +37,6 @@ use Rattle.hp_smt.specs.Turns.{is_denied_by}
 use Rattle.hp_smt.specs.Writes.{Step, current, after_own, after_answer, finished, gone_on_with, own_cpu, or_chosen, unless_at_once, at_once, is_done, goes_on as step_on, answers, at_rest, mode_before, under, recorded_after, taking_of}
 use Rattle.hp_smt.specs.declared.mode.Control.{Control}
 use Rattle.hp_smt.specs.declared.mode.Control.TheVariants.{On}
-use Rattle.hp_smt.specs.declared.setting.Setting.{Setting}
 use Rattle.hp_smt.specs.declared.setting.Write.{Write}
 use Rattle.hp_smt_run.proofs.Beside.{beside, with_none, long_beside, un_left, un_last, asking_beside}
 use Rattle.hp_smt_run.proofs.Kept.{op_for, op_of_write, IsWriterOf, Kept, Fits, none_script, own_script, other_own, Writing, writing_of}

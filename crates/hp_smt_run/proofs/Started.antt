@@ -1,6 +1,5 @@
 -- A run at its start.
-use Rattle.std.proofs.Common.{◌≡◌, ℕ, ◌+◌, ◌<◌, ◌≤◌, Bool, true, false, Option, Some, None, List, [], ◌∷◌, ◌++◌, length, length-append, map, replicate, is_some, refl, ap, sym, subst, ◌∙◌, arith}
-use Rattle.std.specs.Prelude.{slice_get, fold}
+use Rattle.std.proofs.Common.{◌≡◌, ℕ, ◌+◌, ◌≤◌, Bool, true, false, None, List, [], ◌∷◌, ◌++◌, length, length-append, map, replicate, is_some, refl, ap, sym, subst, ◌∙◌, arith}
 use Rattle.std.proofs.lemmas.List.{length-map}
 use Rattle.std.proofs.lemmas.Option.{slice_get_within, get_or_from_slice_get}
 use Rattle.hp_states.specs.declared.limits.TheConstants.{MAX_SEATS}
@@ -8,9 +7,7 @@ use Rattle.hp_states.specs.declared.cpu_set.CpuSet.{CpuSet}
 use Rattle.hp_states.specs.CpuSets.{has}
 use Rattle.hp_event.specs.declared.op.Op.{Op}
 use Rattle.hp_event.specs.declared.head.Head.{Head}
-use Rattle.hp_event.specs.declared.event.Event.{Event}
 use Rattle.hp_model.specs.Admissions.{admissions}
-use Rattle.hp_model.specs.Listed.{listed}
 use Rattle.hp_model.specs.Processors.{present}
 use Rattle.hp_model.specs.Scripts.{IsScript}
 use Rattle.hp_model.specs.SetOf.{set_of, IsSet}
@@ -19,10 +16,8 @@ use Rattle.hp_actors.specs.Actors.{AreLoaded}
 use Rattle.hp_actors.specs.declared.actor.Actor.{Actor}
 use Rattle.hp_actors.specs.Positions.{ops_of, answered_of}
 use Rattle.hp_actors.specs.Racks.{IsFresh}
-use Rattle.hp_actors.specs.RunInvariant.{HasHook}
 use Rattle.hp_actors.proofs.Opening.{none_answered, same_admissions, idle_first, loaded_hook}
 use Rattle.hp_model.specs.Seats.{is_busy}
-use Rattle.hp_smt.specs.Modes.{is_on}
 use Rattle.hp_smt.specs.Run.{smt_start}
 use Rattle.hp_smt.specs.Siblings.{lowest_of}
 use Rattle.hp_smt.specs.Writes.{at_rest}

@@ -1,9 +1,9 @@
 -- A turn of the machine under SMT control for the operation of an actor.
-use Rattle.std.proofs.Common.{◌≡◌, ℕ, ◌+◌, ◌<◌, ◌≤◌, Bool, true, false, cond, not, ◌&&◌, eqb, is_some, Option, Some, None, List, [], ◌∷◌, ◌++◌, length, map, set, drop, refl, ap, sym, subst, ◌∙◌, inl, inr, ◌⊎◌, arith}
+use Rattle.std.proofs.Common.{◌≡◌, ℕ, ◌+◌, ◌<◌, Bool, true, false, cond, not, ◌&&◌, eqb, Option, Some, None, List, [], ◌∷◌, ◌++◌, length, map, drop, refl, ap, sym, subst, ◌∙◌, inl, inr, arith}
 use Rattle.std.specs.Prelude.{option_map, slice_get, option_to_list}
 use Rattle.std.proofs.lemmas.Bool.{and_parts, eqb-true}
 use Rattle.std.proofs.lemmas.List.{length-map}
-use Rattle.hp_states.proofs.Basics.{none_some, same_some}
+use Rattle.hp_states.proofs.Basics.{same_some}
 use Rattle.hp_event.specs.declared.op.Op.{Op}
 use Rattle.hp_event.specs.declared.event.Event.{Event}
 use Rattle.hp_account.specs.Table.{IsTableOf}
@@ -18,35 +18,31 @@ use Rattle.hp_model.specs.MapLock.{Operation, operation}
 use Rattle.hp_model.specs.Registrations.{Registration, registration}
 use Rattle.hp_model.proofs.AnswerCounts.{nth_of}
 use Rattle.hp_model.proofs.Going.{asks_allowed}
-use Rattle.hp_board.specs.Contents.{Contents}
 use Rattle.hp_board.specs.declared.turn.Ask.{Ask}
 use Rattle.hp_board.specs.declared.turn.Turn.{Turn}
 use Rattle.hp_board.specs.declared.turn.Turn.TheVariants.{Answered}
 use Rattle.hp_event.specs.declared.answer.Answer.{Answer}
 use Rattle.hp_hook.specs.Counted.{Counts}
 use Rattle.hp_actors.specs.Actors.{AreLoaded, noted, with_ask}
-use Rattle.hp_actors.specs.ActorTurns.{asked}
 use Rattle.hp_actors.specs.Positions.{op_of, ops_of}
 use Rattle.hp_actors.specs.RunInvariant.{HasHook}
 use Rattle.hp_actors.specs.declared.actor.Actor.{Actor}
 use Rattle.hp_actors.proofs.Playing.{ActorTurned, asked_is, idle_hook, in_place}
-use Rattle.hp_actors.proofs.TurnsAsked.{asked_turned, next_loaded, same_ask}
+use Rattle.hp_actors.proofs.TurnsAsked.{asked_turned, next_loaded}
 use Rattle.hp_smt.specs.Contents.{Controlled}
 use Rattle.hp_smt.specs.Hooks.{LeavesHook, HasHookAgain}
 use Rattle.hp_smt.specs.Modes.{is_on}
 use Rattle.hp_smt.specs.Run.{writes}
 use Rattle.hp_smt.specs.Siblings.{is_up_of_sibling}
-use Rattle.hp_smt.specs.Sound.{MayWrite, IsSameWrite}
 use Rattle.hp_smt.specs.Turns.{IsSmtTurn, is_denied}
 use Rattle.hp_smt.specs.Writes.{write_by}
-use Rattle.hp_smt.specs.declared.mode.Control.{Control}
 use Rattle.hp_smt.specs.declared.setting.Write.{Write}
 use Rattle.hp_smt.specs.declared.turn.SmtTurn.{SmtTurn}
 use Rattle.hp_smt.specs.declared.turn.SmtTurn.TheVariants.{Board, Denied}
-use Rattle.hp_smt_run.specs.Asked.{IsDenied, IsLetThrough, IsStepped}
-use Rattle.hp_smt_run.specs.Playing.{ops_in, state_of, written_as, IsPlaying}
+use Rattle.hp_smt_run.specs.Asked.{IsStepped}
+use Rattle.hp_smt_run.specs.Playing.{ops_in, state_of, IsPlaying}
 use Rattle.hp_smt_run.specs.declared.run.SmtRun.{SmtRun}
-use Rattle.hp_smt_run.proofs.Beside.{beside, un_left, long_beside}
+use Rattle.hp_smt_run.proofs.Beside.{beside, un_left}
 use Rattle.hp_smt_run.proofs.Kept.{op_of_write, IsWriterOf, script_of}
 use Rattle.hp_smt_run.proofs.Rounds.{fits, kept_of}
 

@@ -1,5 +1,5 @@
 -- The machine's turn is the actor's.
-use Rattle.std.proofs.Common.{◌≡◌, ◌+◌, ◌<◌, None, length, ap, sym, subst, ◌∙◌}
+use Rattle.std.proofs.Common.{◌<◌, None, length, ap, sym, subst, ◌∙◌}
 use Rattle.hp_event.specs.declared.answer.Answer.TheVariants.{Refused}
 use Rattle.std.proofs.lemmas.List.{length-set, length-append}
 use Rattle.std.proofs.lemmas.Option.{slice_get_within}

@@ -1,4 +1,4 @@
-use Rattle.std.proofs.Common.{◌≡◌, ◌∷◌, [], ◌++◌, ap, sym, ◌∙◌}
+use Rattle.std.proofs.Common.{◌∷◌, [], ◌++◌, ap, sym, ◌∙◌}
 use Rattle.hp_smt_run.proofs.Online.{with_one, without_one}
 use Rattle.hp_smt_run.proofs.written.online_on.Goals as goal
 use Rattle.hp_smt_run.proofs.written.online_on.Goals.{then-online+in_ok-push, else-online}

@@ -3,7 +3,6 @@ use Rattle.std.proofs.Common.{◌≡◌, false, None, Some, is_none, map, refl, 
 use Rattle.std.specs.Prelude.{option_map, slice_get}
 use Rattle.std.proofs.lemmas.List.{length-map}
 use Rattle.std.proofs.lemmas.Option.{slice_get_read}
-use Rattle.hp_model.specs.ScriptTurns.{unanswered}
 use Rattle.hp_actors.specs.Positions.{op_of, ops_of, answered_of}
 use Rattle.hp_actors.specs.ActorTurns.{asked}
 use Rattle.hp_actors.proofs.Playing.{asked_is}

@@ -1,5 +1,5 @@
 -- An actor's turn is one of the run.
-use Rattle.std.proofs.Common.{◌≡◌, ◌+◌, Some, length, refl}
+use Rattle.std.proofs.Common.{◌≡◌, Some, length, refl}
 use Rattle.std.specs.Prelude.{slice_get}
 use Rattle.std.proofs.lemmas.Option.{slice_get_read}
 use Rattle.std.proofs.lemmas.Result.{on_ok_weaker}

@@ -1,5 +1,5 @@
 -- The hooks of operations go back, and behind them those of the registered states.
-use Rattle.std.proofs.Common.{◌≡◌, ap, sym, subst, ◌∙◌}
+use Rattle.std.proofs.Common.{ap, sym, subst, ◌∙◌}
 use Rattle.hp_table.specs.Step.{AllHome}
 use Rattle.hp_board.specs.Contents.{Contents}
 use Rattle.hp_board.specs.Retired.{IsRacked, registered_hooks}

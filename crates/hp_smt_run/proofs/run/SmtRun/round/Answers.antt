@@ -1,8 +1,7 @@
 -- Each seat has its turn.
-use Rattle.std.proofs.Common.{◌≡◌, ◌+◌, length, refl, ap, sym, ◌∙◌, arith}
+use Rattle.std.proofs.Common.{◌≡◌, ◌+◌, length, refl, ap, ◌∙◌, arith}
 use Rattle.std.proofs.lemmas.List.{length-map}
 use Rattle.std.proofs.lemmas.Result.{on_ok_weaker}
-use Rattle.hp_model.specs.Processors.{present}
 use Rattle.hp_actors.specs.Positions.{ops_of}
 use Rattle.hp_smt_run.proofs.Turned.{one_more, whole_round, seats_same, actors_same}
 use Rattle.hp_smt_run.proofs.run.SmtRun.round.Goals as goal

@@ -1,5 +1,5 @@
 -- The run is at its start.
-use Rattle.std.proofs.Common.{◌≡◌, ◌+◌, [], length, replicate, refl, ap, sym, subst, ◌∙◌}
+use Rattle.std.proofs.Common.{◌+◌, [], length, replicate, refl, ap, subst, ◌∙◌}
 use Rattle.hp_model.specs.Admissions.{admissions}
 use Rattle.hp_model.specs.MapLock.{operation}
 use Rattle.hp_model.specs.Processors.{present}

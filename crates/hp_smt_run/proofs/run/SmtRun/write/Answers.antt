@@ -1,11 +1,9 @@
 -- A write of control is a turn of the client.
-use Rattle.std.proofs.Common.{◌≡◌, ◌+◌, Some, length, refl, ap, sym, subst, ◌∙◌}
-use Rattle.std.specs.Prelude.{slice_get}
+use Rattle.std.proofs.Common.{◌≡◌, ◌+◌, length, refl, ap, sym, subst, ◌∙◌}
 use Rattle.hp_board.specs.Contents.{Contents}
 use Rattle.hp_board.specs.declared.turn.Turn.{Turn}
 use Rattle.hp_board.specs.declared.turn.Turn.TheVariants.{Made, Answered, NotYet}
 use Rattle.hp_model.specs.Processors.{online}
-use Rattle.hp_smt.specs.Run.{writes}
 use Rattle.hp_smt.specs.Sound.{MayWrite}
 use Rattle.hp_smt.specs.Turns.{IsControl}
 use Rattle.hp_smt_run.proofs.MayWrite.{may_write}
