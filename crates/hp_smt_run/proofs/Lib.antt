@@ -1,6 +1,8 @@
 pub mod Beside
+pub mod Client
 pub mod Kept
 pub mod Further
+pub mod Seats
 pub mod Moving
 pub mod Turned
 pub mod Writing
