@@ -21,11 +21,7 @@ use std::alloc::Global;
 ///
 /// The head is one that a machine can be started with, and there are seats for all. Takes memory; where there
 /// is none: `NoMemory`. That a thread for each present processor is in is that of `kernel/cpu.c`.
-pub fn seated_board<H: Hook>(
-    alloc: Global,
-    head: &Head,
-    clients: u32,
-) -> Result<Board<H>, NoMemory>
+pub fn seated_board<H: Hook>(alloc: Global, head: &Head, clients: u32) -> Result<Board<H>, NoMemory>
     requires head { IsHead head.now }
     requires few { length (present head.now) + clients ≤ MAX_SEATS }
     ensures head { IfOk result (λ board. board.head ≡ head.now) }

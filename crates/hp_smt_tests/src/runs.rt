@@ -56,7 +56,14 @@ fn siblings_go_off_and_come_back(rt: HostRuntime) -> Result<(), Fail> {
     let run = run(rt.alloc(), &SIBLINGS_GO_OFF, Control::Off)?;
     assert!(rt; first_other(rt.alloc(), &run, &SIBLINGS_GO_OFF)? == None);
     assert!(rt; is_so(run.written.get(0), Control::Off, Answer::Ok(0), &[0, 2]));
-    assert!(rt; is_so(run.written.get(1), Control::On, Answer::Ok(0), &[0, 1, 2, 3]));
+    assert!(rt;
+        is_so(
+            run.written.get(1),
+            Control::On,
+            Answer::Ok(0),
+            &[0, 1, 2, 3]
+        )
+    );
     assert!(rt; run.denied.as_slice() == [4u32].as_slice());
     Ok(())
 }
@@ -65,7 +72,14 @@ fn siblings_go_off_and_come_back(rt: HostRuntime) -> Result<(), Fail> {
 fn siblings_stay_off(rt: HostRuntime) -> Result<(), Fail> {
     let run = run(rt.alloc(), &SIBLINGS_STAY_OFF, Control::ForceOff)?;
     assert!(rt; first_other(rt.alloc(), &run, &SIBLINGS_STAY_OFF)? == None);
-    assert!(rt; is_so(run.written.get(0), Control::ForceOff, Answer::Ok(0), &[0, 2]));
+    assert!(rt;
+        is_so(
+            run.written.get(0),
+            Control::ForceOff,
+            Answer::Ok(0),
+            &[0, 2]
+        )
+    );
     assert!(rt; is_so(run.written.get(1), Control::On, Answer::Refused(1), &[0, 2]));
     assert!(rt; run.denied.as_slice() == [4u32].as_slice());
     Ok(())
@@ -75,8 +89,22 @@ fn siblings_stay_off(rt: HostRuntime) -> Result<(), Fail> {
 fn an_off_fails_half_way(rt: HostRuntime) -> Result<(), Fail> {
     let run = run(rt.alloc(), &AN_OFF_FAILS, Control::Off)?;
     assert!(rt; first_other(rt.alloc(), &run, &AN_OFF_FAILS)? == None);
-    assert!(rt; is_so(run.written.get(0), Control::Off, Answer::Fault(6), &[0, 2, 3]));
-    assert!(rt; is_so(run.written.get(1), Control::On, Answer::Ok(0), &[0, 1, 2, 3]));
+    assert!(rt;
+        is_so(
+            run.written.get(0),
+            Control::Off,
+            Answer::Fault(6),
+            &[0, 2, 3]
+        )
+    );
+    assert!(rt;
+        is_so(
+            run.written.get(1),
+            Control::On,
+            Answer::Ok(0),
+            &[0, 1, 2, 3]
+        )
+    );
     assert!(rt; run.denied.is_empty());
     Ok(())
 }
