@@ -9,7 +9,7 @@
 //! of machine and setting, as a function, and `Turns.antt` what a turn answers by it. `Shut.antt` is what holds while no
 //! sibling may be online, `Brought.antt` what a write of On has done, `Sound.antt` what is so at any time, and
 //! `Hooks.antt` what becomes of the hook that is asked with. `Run.antt` is the run of a script beside a client more that
-//! writes a mode and then On; `run.rt` has what is so of it, and no function makes it yet.
+//! writes a mode and then On; `run.rt` has what is so of it, and hp_smt_run makes it.
 #![tactic(auto)]
 
 mod control;

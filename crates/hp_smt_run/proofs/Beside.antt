@@ -1,34 +1,31 @@
 -- A client beside the actors of a script: as an actor more, whose only operation is the one that the client has in flight.
-use Rattle.std.proofs.Common.{◌≡◌, ℕ, zero, suc, ◌+◌, ◌-◌, ◌<◌, ◌≤◌, Bool, true, false, cond, eqb, ltb, Option, Some, None, List, [], ◌∷◌, ◌++◌, length, length-append, get_or, take, set, replicate, refl, ap, sym, ◌∙◌, subst, arith}
+use Rattle.std.proofs.Common.{◌≡◌, ℕ, zero, suc, ◌+◌, ◌<◌, ◌≤◌, Bool, true, false, eqb, ltb, Option, Some, None, List, [], ◌∷◌, ◌++◌, length, length-append, get_or, take, set, replicate, refl, ap, sym, ◌∙◌, subst, arith}
 use Rattle.std.specs.Prelude.{All, slice_get, option_to_list}
-use Rattle.std.proofs.lemmas.Bool.{true≢false, eqb-true, eqb-false, ltb-true, ltb-false}
+use Rattle.std.proofs.lemmas.Bool.{true≢false, eqb-true, ltb-true, ltb-false}
 use Rattle.std.proofs.lemmas.Bool.Decides.{nat_tests}
 use Rattle.std.proofs.lemmas.List.{get_or_append_left, set-append_left, replicate-append-replicate}
 use Rattle.std.proofs.lemmas.List.Elements.{All-append}
 use Rattle.std.proofs.Math.Seq.{get_or-append_seam, set-append_seam}
-use Rattle.std.proofs.lemmas.Option.{slice_get_past, slice_get-get_or}
-use Rattle.hp_states.proofs.Basics.{none_some, same_some, not_equal}
+use Rattle.std.proofs.lemmas.Option.{slice_get_past}
+use Rattle.hp_states.proofs.Basics.{none_some, not_equal}
 use Rattle.hp_states.specs.declared.limits.TheConstants.{MAX_SEATS}
 use Rattle.hp_event.specs.declared.op.Op.{Op}
 use Rattle.hp_event.specs.declared.head.Head.{Head}
 use Rattle.hp_event.specs.declared.event.Event.{Event}
 use Rattle.hp_model.specs.Admissions.{admissions}
-use Rattle.hp_model.specs.Events.{seat_of, is_answer, BelongsTo}
+use Rattle.hp_model.specs.Events.{is_answer}
 use Rattle.hp_model.specs.Processors.{present}
 use Rattle.hp_model.specs.Subsystems.{names_sub}
 use Rattle.hp_model.specs.Readers.{is_reading}
-use Rattle.hp_model.specs.Lawful.{Stands, IsLawful}
-use Rattle.hp_model.specs.Pending.{Pending, IsInFlight}
-use Rattle.hp_model.specs.NextEvent.{due_entry, next_event, is_full}
+use Rattle.hp_model.specs.Pending.{IsInFlight}
+use Rattle.hp_model.specs.NextEvent.{next_event, is_full}
 use Rattle.hp_model.specs.Scripts.{IsScript, lock_step, is_locked}
-use Rattle.hp_model.specs.ScriptRun.{start}
-use Rattle.hp_model.specs.ScriptTurns.{RunState, unanswered, counted, after_event, after_asking, turn}
-use Rattle.hp_model.specs.Seats.{is_busy, IsFree}
+use Rattle.hp_model.specs.ScriptTurns.{RunState, unanswered, counted, after_event, after_asking}
+use Rattle.hp_model.specs.Seats.{IsFree}
 use Rattle.hp_model.specs.Tasks.{first_unanswered}
 use Rattle.hp_model.proofs.AnswerCounts.{IsNth, nth_of, counted_long, unanswered_other, done_ops, done_other, done_more, is_locked_push, within_more}
 use Rattle.hp_model.proofs.FlightSteps.{free_not}
-use Rattle.hp_model.proofs.Going.{Going, IsGoing, asks_allowed, going_event, turn_going, start_going}
-use Rattle.hp_model.proofs.NextStands.{next_stands, next_belongs}
+use Rattle.hp_model.proofs.Going.{Going, start_going}
 use Rattle.hp_model.proofs.Roster.{Roster}
 
 abbrev pub beside : List (List Op) → (own : Option Op) → List (List Op)

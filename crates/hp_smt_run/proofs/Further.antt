@@ -1,47 +1,23 @@
 -- Each round of a run under SMT control that isn't over gets further, and there is an end to that.
-use Rattle.std.proofs.Common.{◌≡◌, ℕ, zero, suc, ◌+◌, ◌-◌, ◌<◌, ◌≤◌, Bool, true, false, cond, not, ◌&&◌, ◌||◌, eqb, ltb, is_some, is_none, Option, Some, None, List, [], ◌∷◌, ◌++◌, length, length-append, append-nil, refl, ap, sym, ◌∙◌, subst, inl, inr, ◌⊎◌, arith}
-use Rattle.std.specs.Prelude.{fold, pos, slice_get, option_to_list, sum, sum_by, set, get_or}
-use Rattle.std.proofs.lemmas.Bool.{true≢false, eqb-true, eqb-false, eq-eqb, ltb-true, ltb-false, lt-ltb}
-use Rattle.std.proofs.lemmas.List.Sums.{sum_by-append, sum_by-set, sum_by-cons, fold-append}
-use Rattle.std.proofs.lemmas.Option.{slice_get_within, slice_get_past}
-use Rattle.hp_states.proofs.Basics.{none_some, not_below, less_or}
-use Rattle.hp_states.specs.declared.limits.TheConstants.{MAX_EVENTS}
-use Rattle.hp_states.specs.declared.cpu_set.CpuSet.{CpuSet}
-use Rattle.hp_event.specs.declared.answer.Answer.{Answer}
-use Rattle.hp_event.specs.declared.answer.Answer.TheVariants.{Ok, Refused}
+use Rattle.std.proofs.Common.{◌≡◌, ℕ, zero, suc, ◌+◌, ◌-◌, ◌<◌, ◌≤◌, Bool, true, false, cond, eqb, ltb, Option, Some, None, List, [], ◌∷◌, ◌++◌, length, length-append, refl, ap, sym, ◌∙◌, subst, inl, inr, ◌⊎◌, arith}
+use Rattle.std.specs.Prelude.{fold, slice_get, sum, get_or}
+use Rattle.std.proofs.lemmas.Bool.{true≢false, eqb-true, eqb-false, lt-ltb}
+use Rattle.std.proofs.lemmas.List.Sums.{sum_by-set, sum_by-cons, fold-append}
+use Rattle.hp_states.proofs.Basics.{less_or}
 use Rattle.hp_event.specs.declared.op.Op.{Op}
 use Rattle.hp_event.specs.declared.head.Head.{Head}
 use Rattle.hp_event.specs.declared.event.Event.{Event}
-use Rattle.hp_event.specs.declared.event.Role.TheVariants.{Client}
 use Rattle.hp_model.specs.Distance.{distance}
-use Rattle.hp_model.specs.Events.{is_answer, answer_by}
-use Rattle.hp_model.specs.Lists.{is_empty, numbers}
-use Rattle.hp_model.specs.MapLock.{Operation, operation, is_map_held}
+use Rattle.hp_model.specs.Events.{is_answer}
+use Rattle.hp_model.specs.Lists.{numbers}
 use Rattle.hp_model.specs.NextEvent.{due_entry, next_event, is_full}
 use Rattle.hp_model.specs.Processors.{present}
-use Rattle.hp_model.specs.ScriptRun.{answered_below, is_over as all_answered}
-use Rattle.hp_model.specs.ScriptTurns.{RunState, unanswered, counted, after_entry, after_event, turn}
-use Rattle.hp_model.specs.ScriptTurns as plain
-use Rattle.hp_model.specs.Scripts.{IsScript}
-use Rattle.hp_model.specs.Seats.{role_of}
-use Rattle.hp_model.specs.Suspend.{is_disabled, frozen}
-use Rattle.hp_model.specs.TurnMakes.{Stays}
+use Rattle.hp_model.specs.ScriptTurns.{RunState, unanswered, counted, after_entry, after_event}
 use Rattle.hp_model.proofs.AnswerCounts.{nth_of}
-use Rattle.hp_model.proofs.Going.{Going}
-use Rattle.hp_model.proofs.MovesOn.{Moves, moves}
-use Rattle.hp_model.proofs.OneNext.{owners}
-use Rattle.hp_model.proofs.RoomKept.{promises_fit}
-use Rattle.hp_model.proofs.RoundsEnd.{goes_on}
-use Rattle.hp_model.proofs.TurnsMake.{turn_makes}
-use Rattle.hp_smt.specs.Modes.{wants_on, ended_mode, own_op}
-use Rattle.hp_smt.specs.Run.{SmtState, with_run, without, after_asking, and_event, if_answered, after_write, after_writing, writes, smt_turn, is_over, after_smt_round}
+use Rattle.hp_smt.specs.Run.{SmtState, with_run, without, after_asking, and_event, if_answered, after_write, after_writing, writes, smt_turn}
 use Rattle.hp_smt.specs.Turns.{is_denied_by}
-use Rattle.hp_smt.specs.Writes.{Step, current, after_own, after_answer, finished, gone_on_with, own_cpu, or_chosen, unless_at_once, at_once, control_step, is_done, goes_on as step_on, answers, at_rest, mode_before, under, recorded_after, taking_of}
+use Rattle.hp_smt.specs.Writes.{Step, control_step}
 use Rattle.hp_smt.specs.declared.mode.Control.{Control}
-use Rattle.hp_smt.specs.declared.setting.Setting.{Setting}
-use Rattle.hp_smt.specs.declared.setting.Write.{Write}
-use Rattle.hp_smt_run.proofs.Beside.{beside, with_none, long_beside, un_left, un_last, asking_beside}
-use Rattle.hp_smt_run.proofs.Kept.{op_for, op_of_write, IsWriterOf, Kept, Fits, IsCurrent, current_is, none_script, own_script}
 
 -- how far a run has come: its events, its answers with those that were denied, and its writes, counted together
 abbrev pub reach : SmtState → ℕ

@@ -1,7 +1,14 @@
 pub mod Beside
+pub mod Client
 pub mod Kept
 pub mod Further
+pub mod Seats
 pub mod Moving
 pub mod Turned
 pub mod Writing
 pub mod Rounds
+pub mod Online
+pub mod Stepped
+pub mod MayWrite
+pub mod Started
+pub mod Resting

@@ -1,10 +1,9 @@
 -- Rounds until a run is over make it the run of its script.
-use Rattle.std.proofs.Common.{◌≡◌, ℕ, zero, suc, ◌+◌, ◌-◌, ◌<◌, ◌≤◌, Bool, true, false, ltb, List, length, refl, ap, sym, ◌∙◌, subst, arith}
+use Rattle.std.proofs.Common.{◌≡◌, ℕ, suc, ◌-◌, ◌<◌, Bool, true, false, ltb, refl, ap, sym, ◌∙◌, arith}
 use Rattle.std.proofs.lemmas.Bool.{ltb-true, ltb-false}
 use Rattle.std.proofs.lemmas.List.{length-map}
-use Rattle.hp_model.specs.Processors.{present}
 use Rattle.hp_actors.specs.Positions.{ops_of}
-use Rattle.hp_smt.specs.Run.{SmtState, smt_start, after_smt_round, after_smt_rounds, is_over, IsSmtRun}
+use Rattle.hp_smt.specs.Run.{smt_start, after_smt_round, after_smt_rounds, is_over}
 use Rattle.hp_smt_run.specs.Playing.{Setup, setup_of, ops_in, state_of, IsPlaying, IsRounded, IsPlayed}
 use Rattle.hp_smt_run.specs.declared.run.SmtRun.{SmtRun}
 use Rattle.hp_smt_run.proofs.Further.{reach}

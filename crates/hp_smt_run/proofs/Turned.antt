@@ -1,47 +1,35 @@
 -- A turn of the machine under SMT control is a turn of the run.
-use Rattle.std.proofs.Common.{◌≡◌, ◌≢◌, ℕ, zero, suc, ◌+◌, ◌-◌, ◌<◌, ◌≤◌, Bool, true, false, cond, not, ltb, is_some, IfSome, Option, Some, None, List, [], ◌∷◌, ◌++◌, length, length-append, append-nil, map, set, refl, ap, sym, ◌∙◌, subst, inl, inr, ◌⊎◌, arith}
+use Rattle.std.proofs.Common.{◌≡◌, ℕ, suc, ◌+◌, ◌<◌, true, false, cond, Option, Some, None, List, [], ◌∷◌, ◌++◌, length, append-nil, map, set, refl, ap, sym, ◌∙◌, subst, inl, inr, ◌⊎◌, arith}
 use Rattle.std.specs.Prelude.{fold, slice_get, option_to_list}
-use Rattle.std.proofs.lemmas.Bool.{true≢false, eqb-true}
-use Rattle.std.proofs.lemmas.List.{length-map, map-append, length-set}
+use Rattle.std.proofs.lemmas.List.{length-map}
 use Rattle.std.proofs.lemmas.List.Sums.{fold-append}
 use Rattle.std.proofs.lemmas.Option.{slice_get_within}
-use Rattle.hp_states.proofs.Basics.{none_some}
-use Rattle.hp_event.specs.declared.answer.Answer.{Answer}
 use Rattle.hp_event.specs.declared.op.Op.{Op}
 use Rattle.hp_event.specs.declared.head.Head.{Head}
 use Rattle.hp_event.specs.declared.event.Event.{Event}
-use Rattle.hp_model.specs.Events.{seat_of}
-use Rattle.hp_model.specs.Lawful.{Stands}
 use Rattle.hp_model.specs.Lists.{numbers}
 use Rattle.hp_model.specs.NextEvent.{due_entry, next_event, is_full}
-use Rattle.hp_model.specs.Processors.{present, online}
+use Rattle.hp_model.specs.Processors.{present}
 use Rattle.hp_model.specs.Scripts.{IsScript}
-use Rattle.hp_model.specs.ScriptTurns.{RunState, unanswered, counted, after_event}
-use Rattle.hp_model.specs.ScriptTurns as plain
-use Rattle.hp_model.specs.Seats.{is_busy}
+use Rattle.hp_model.specs.ScriptTurns.{counted, after_event}
 use Rattle.hp_table.specs.Step.{AllHome}
 use Rattle.hp_board.specs.Contents.{Contents}
 use Rattle.hp_board.specs.declared.turn.Turn.{Turn}
-use Rattle.hp_board.specs.declared.turn.Turn.TheVariants.{Made, Answered, NotYet}
 use Rattle.hp_actors.specs.declared.actor.Actor.{Actor}
-use Rattle.hp_actors.specs.ActorTurns.{asked, is_answered, event_for, answers_for}
-use Rattle.hp_actors.specs.Positions.{ops_of, answered_of, progress_of}
+use Rattle.hp_actors.specs.ActorTurns.{asked, event_for, answers_for}
+use Rattle.hp_actors.specs.Positions.{ops_of, answered_of}
 use Rattle.hp_actors.specs.RunInvariant.{HasHook}
 use Rattle.hp_actors.proofs.Playing.{Grows, Served, due_grows, asked_grows, busy_kept, hook_kept, served, asked_is, answers_are, ops_kept, set_at}
 use Rattle.hp_actors.proofs.Progressing.{entry_is, event_is}
-use Rattle.hp_smt.specs.Contents.{Controlled, after_event as board_after, after_step}
+use Rattle.hp_smt.specs.Contents.{Controlled}
 use Rattle.hp_smt.specs.Run.{SmtState, with_run, without, after_asking, and_event, if_answered, after_write, after_writing, writes, smt_turn, after_smt_round, after_smt_rounds, is_over, IsSmtRun}
 use Rattle.hp_smt.specs.Run as smt
-use Rattle.hp_smt.specs.Turns.{IsSmtServed, IsControl, IsGoneOn, SaysStep, MovesBoard, is_denied, is_denied_by, step_of, current_of}
-use Rattle.hp_smt.specs.Writes.{Step, control_step}
-use Rattle.hp_smt.specs.declared.mode.Control.{Control}
-use Rattle.hp_smt.specs.declared.setting.Setting.{Setting}
-use Rattle.hp_smt_run.specs.Asked.{IsDenied, IsLetThrough, IsStepped}
-use Rattle.hp_smt_run.specs.Playing.{Setup, setup_of, ops_in, state_of, run_of, written_as, turn_at, IsPlaying, IsTurned, IsRounded}
+use Rattle.hp_smt.specs.Turns.{IsSmtServed, is_denied_by}
+use Rattle.hp_smt_run.specs.Asked.{IsStepped}
+use Rattle.hp_smt_run.specs.Playing.{Setup, setup_of, ops_in, state_of, run_of, turn_at, IsPlaying, IsTurned, IsRounded}
 use Rattle.hp_smt_run.specs.Reached.{IsReached}
 use Rattle.hp_smt_run.specs.declared.run.SmtRun.{SmtRun}
-use Rattle.hp_smt_run.specs.declared.written.Written.{Written}
-use Rattle.hp_smt_run.proofs.Moving.{thread_is, actor_is, writer_is}
+use Rattle.hp_smt_run.proofs.Moving.{thread_is, actor_is}
 
 -- ---- any turn
 

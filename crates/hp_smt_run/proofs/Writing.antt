@@ -1,10 +1,9 @@
 -- A write of control is a turn of the client that writes.
-use Rattle.std.proofs.Common.{◌≡◌, ◌≢◌, ℕ, zero, suc, ◌+◌, ◌<◌, ◌≤◌, Bool, true, false, cond, not, ◌||◌, eqb, is_some, IfSome, Option, Some, None, List, [], ◌∷◌, ◌++◌, length, append-nil, map, refl, ap, sym, ◌∙◌, subst, inl, inr, ◌⊎◌, arith}
+use Rattle.std.proofs.Common.{◌≡◌, ℕ, ◌+◌, Bool, true, false, cond, not, ◌||◌, eqb, IfSome, Option, Some, None, List, [], ◌∷◌, ◌++◌, length, append-nil, map, refl, ap, sym, ◌∙◌, subst, arith}
 use Rattle.std.specs.Prelude.{slice_get, option_to_list, pos}
-use Rattle.std.proofs.lemmas.Bool.{true≢false, eqb-true}
+use Rattle.std.proofs.lemmas.Bool.{eqb-true}
 use Rattle.std.proofs.lemmas.List.{length-map, map-append}
 use Rattle.std.proofs.lemmas.Option.{slice_get_within}
-use Rattle.hp_states.proofs.Basics.{none_some, same_some}
 use Rattle.hp_states.specs.declared.cpu_set.CpuSet.{CpuSet}
 use Rattle.hp_event.specs.declared.answer.Answer.{Answer}
 use Rattle.hp_event.specs.declared.answer.Answer.TheVariants.{Ok, Refused}
@@ -25,10 +24,9 @@ use Rattle.hp_actors.specs.declared.actor.Actor.{Actor}
 use Rattle.hp_actors.specs.Positions.{ops_of}
 use Rattle.hp_actors.specs.RunInvariant.{HasHook}
 use Rattle.hp_actors.proofs.Playing.{Grows, busy_kept, hook_kept}
-use Rattle.hp_smt.specs.Contents.{Controlled, after_event as board_after, after_step}
+use Rattle.hp_smt.specs.Contents.{Controlled, after_event as board_after}
 use Rattle.hp_smt.specs.Modes.{wants_on, ended_mode, own_op}
-use Rattle.hp_smt.specs.Run.{SmtState, and_event, if_answered, after_write, after_writing, writes}
-use Rattle.hp_smt.specs.Run as smt
+use Rattle.hp_smt.specs.Run.{and_event, if_answered, after_write, after_writing, writes}
 use Rattle.hp_smt.specs.Turns.{IsControl, SaysStep, step_of}
 use Rattle.hp_smt.specs.Writes.{Step, write_by, current, begun, or_begun, after_own, after_answer, finished, gone_on_with, own_cpu, unless_at_once, at_once, control_step, is_done, goes_on, answers, at_rest, mode_before, under, recorded_after, taking_of}
 use Rattle.hp_smt.specs.declared.mode.Control.{Control}

@@ -1,3 +1,4 @@
 pub mod Reached
 pub mod Asked
 pub mod Playing
+pub mod Ended

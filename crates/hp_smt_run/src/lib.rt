@@ -10,6 +10,7 @@
 //! turn makes, and `Asked.antt` what a turn makes of an actor.
 #![tactic(auto)]
 
+mod finish;
 mod play;
 mod run;
 mod step;

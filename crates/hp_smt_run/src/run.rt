@@ -1,21 +1,18 @@
 //! The run of a script under SMT control, from its start to its end.
 
-ghost use Rattle.std.specs.Prelude.{◌≡◌, ◌+◌, ◌++◌, ◌≤◌, true, None, IfOk, OnOk, List, length, sum_by};
-ghost use Rattle.hp_board.specs.Retired.{PutsBehind, registered_hooks};
-ghost use Rattle.hp_hook.specs.Counted.{Counts};
-ghost use Rattle.hp_model.specs.MapLock.{operation};
+ghost use Rattle.std.specs.Prelude.{◌≡◌, ◌+◌, ◌≤◌, IfOk, OnOk, length, sum_by};
 ghost use Rattle.hp_model.specs.Processors.{present};
-ghost use Rattle.hp_model.specs.Registrations.{registration};
 ghost use Rattle.hp_model.specs.Scripts.{IsScript};
 ghost use Rattle.hp_script.specs.Playable.{setups_in};
 ghost use Rattle.hp_states.specs.declared.limits.TheConstants.{MAX_SEATS};
 ghost use Rattle.hp_actors.specs.Racks.{TakesLast};
 ghost use Rattle.hp_smt.specs.Run.{smt_start};
-ghost use Rattle.hp_smt_run.specs.Playing.{IsPlaying, IsOver, setup, setup_of, state_of};
+ghost use Rattle.hp_smt_run.specs.Playing.{IsPlaying, setup, setup_of, state_of};
 
 use crate::written::Written;
-use hp_actors::{Actor, actors_of, give_back, present_count, seated_board};
+use hp_actors::{Actor, actors_of, present_count, seated_board};
 use hp_hook::{Hook, Rack};
+use hp_model::set_is_of_its_numbers;
 use hp_script::Script;
 use hp_smt::{Control, Smt};
 use hp_states::NoMemory;
@@ -66,6 +63,7 @@ impl<H: Hook> SmtRun<H> {
         let board = seated_board(alloc, script.head(), script.actors() + 1)?;
         let seats = present_count(script.head());
         let smt = Smt::over(board, threads);
+        set_is_of_its_numbers(smt.recorded());
         Ok(SmtRun {
             smt,
             seats,

@@ -69,15 +69,19 @@ impl<H: Hook> SmtRun<H> {
             return Ok(());
         };
         let seat = self.seats + self.actors.len() as u32;
-        if let Turn::Answered { answer, .. } = self.smt.control(seat, want)? {
-            let online = online_on(alloc, self.smt.board())?;
-            self.written.push(Written {
-                want,
-                answer,
-                online,
-            })?;
+        match self.smt.control(seat, want)? {
+            Turn::Answered { answer, .. } => {
+                let online = online_on(alloc, self.smt.board())?;
+                self.written.push(Written {
+                    want,
+                    answer,
+                    online,
+                })?;
+                Ok(())
+            }
+            Turn::Made { .. } => Ok(()),
+            Turn::NotYet(_) => Ok(()),
         }
-        Ok(())
     }
 
     /// What the client writes next, if it isn't through. Takes no memory.

@@ -1,7 +1,7 @@
-//! The tests of hp_smt: that siblings go off and come back, what is denied, what a write of control waits for and
+//! The tests of hp_smt and hp_smt_run: that siblings go off and come back, what is denied, what a write of control waits for and
 //! answers, and what is recorded.
 //!
-//! They use hp_smt as any crate does. They stand apart because a crate with tests is proved twice, once with them and
+//! They use both as any crate does. They stand apart because a crate with tests is proved twice, once with them and
 //! once without.
 #![tactic(auto)]
 
@@ -13,6 +13,8 @@ mod machine;
 mod off;
 #[cfg(test)]
 mod played;
+#[cfg(test)]
+mod runs;
 #[cfg(test)]
 mod siblings;
 #[cfg(test)]

@@ -16,10 +16,6 @@ pub(crate) fn stays_on_3(alloc: Global) -> Result<Sub, Fail>
     ensures { IfOk result IsSub }
 {
     let mut name = Name::new(alloc);
-    name.push(b'n')?;
-    name.push(b'e')?;
-    name.push(b't')?;
-    name.push(b':')?;
     name.push(b'a')?;
     let mut plan = HookPlan::none();
     plan.add(Rule {
