@@ -34,31 +34,31 @@ fn words_of(rt: &HostRuntime) -> io::Result<Vec<String>> {
     Ok(words)
 }
 
-/// Does what the words say, and answers the status.
-fn run(rt: &HostRuntime) -> u8 {
-    let alloc = rt.alloc();
-    let Ok(words) = words_of(rt) else {
-        return NO_MEMORY;
-    };
-    let mut hooks: Vec<Box<dyn Hook + Send>> = Vec::new(alloc);
-    for _ in 0..HOOKS {
-        let Ok(hook) = Box::new(alloc, ScriptHook::new()) else {
-            return NO_MEMORY;
-        };
-        if hooks.push(hook).is_err() {
-            return NO_MEMORY;
-        }
-    }
-    let rack = Rack { hooks };
-    let mut source = RealSource::new(rt.reader());
-    let mut sink = RealSink::new(io::writer(rt));
-    hpd_main(rt, alloc, &words, &mut source, &mut sink, rack, &FreeGate)
-}
-
-fn main(rt: HostRuntime) -> ExitCode {
-    let status = run(&rt);
+/// Ends with a status, and says why where nothing was written that does.
+fn end(rt: &HostRuntime, status: u8) -> ExitCode {
     if let Some(cause) = cause_of(status) {
         let _ = eprintln!(rt; "hpd: {cause}");
     }
     ExitCode::from(status)
+}
+
+fn main(rt: HostRuntime) -> ExitCode {
+    let alloc = rt.alloc();
+    let Ok(words) = words_of(&rt) else {
+        return end(&rt, NO_MEMORY);
+    };
+    let mut hooks: Vec<Box<dyn Hook + Send>> = Vec::new(alloc);
+    for _ in 0..HOOKS {
+        let Ok(hook) = Box::new(alloc, ScriptHook::new()) else {
+            return end(&rt, NO_MEMORY);
+        };
+        if hooks.push(hook).is_err() {
+            return end(&rt, NO_MEMORY);
+        }
+    }
+    let rack = Rack { hooks };
+    let mut source = RealSource::new(rt.reader());
+    let mut sink = RealSink::new(io::writer(&rt));
+    let status = hpd_main(&rt, alloc, &words, &mut source, &mut sink, rack, &FreeGate);
+    end(&rt, status)
 }
