@@ -7,7 +7,7 @@ _hpd() {
         compopt -o filenames 2>/dev/null
         mapfile -t COMPREPLY < <(compgen -f -- "$current")
     elif [[ $COMP_CWORD -eq 1 ]]; then
-        mapfile -t COMPREPLY < <(compgen -W run -- "$current")
+        mapfile -t COMPREPLY < <(compgen -W "run work" -- "$current")
     fi
 }
 complete -F _hpd hpd
