@@ -1,0 +1,46 @@
+//! The calls of a client, on two processors with a thread each.
+
+use crate::asking::begins;
+use crate::client::Client;
+use crate::heads::{head, started};
+use crate::jobs::{Part, all_done, of_client, of_threads};
+use hp_event::{Answer, Op};
+use hp_hook::{Hook, ScriptHook};
+use hp_live::{FreeGate, Gate};
+use std::process::Abort;
+use std::sync::Wait;
+use std::test::Fail;
+
+/// What the client does: it brings the second processor up; reads; asks for a setup of state 0, which no subsystem
+/// may have, and gets its hook back; and tries to show a file until it is shown.
+pub(crate) fn plays<H: Hook + Send, R: Wait + Abort, G: Gate>(
+    rt: &R,
+    gate: &G,
+    mut client: Client<'_, H>,
+    hook: Option<H>,
+) -> bool {
+    let up = client.comes_up(rt, gate, 1);
+    let (mut client, reads) = client.reads(rt, gate, Some(true));
+    let refused = client.sets_up(rt, gate, false, (0, 1), hook);
+    let (client, at, shown) = begins(rt, client, Op::ShowState(1), None).to_the_end(rt, gate);
+    client.leaves(rt, gate);
+    assert!(rt; up == Answer::Ok(0), "up: {up:?}");
+    assert!(rt; reads, "a read section");
+    assert!(rt; refused.answer == Answer::Refused(22) && refused.hook.is_some());
+    at.is_some() && shown == Answer::Ok(200)
+}
+
+#[test]
+fn calls_are_answered_over_threads(rt: HostRuntime) -> Result<(), Fail> {
+    let head = head(rt.alloc(), 2, 1)?;
+    let (machine, mut root) = started::<ScriptHook>(rt.alloc(), &head)?;
+    let mut jobs = of_threads(&rt, rt.alloc(), &machine, &mut root, 2);
+    let hook = Some(ScriptHook::new());
+    jobs.push(of_client(&rt, &machine, &head, &mut root, Part::Calls, hook))?;
+    assert!(rt; all_done(&rt, &FreeGate, jobs));
+    let board = machine.close(&rt, root);
+    assert!(rt; board.clients() == 0 && board.is_home());
+    // three seats come in and leave; an up has 4 events, the section 6, the refusal and the file one each
+    assert!(rt; board.journal().len() == 18);
+    Ok(())
+}

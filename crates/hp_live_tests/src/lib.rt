@@ -1,0 +1,34 @@
+//! The tests of the live machine: of what no clause says, with ample memory.
+//!
+//! That clients are answered, alone and on several threads, and what; that a hook is called outside the lock; that a
+//! batch waits for hooks that are lent; and that what twelve threads made together is a lawful journal with each
+//! operation once.
+//!
+//! They use hp_live as any crate does. They stand apart because a crate with tests is proved twice, once with them and
+//! once without.
+#![tactic(auto)]
+
+#[cfg(test)]
+mod asking;
+#[cfg(test)]
+mod batch;
+#[cfg(test)]
+mod calls;
+#[cfg(test)]
+mod client;
+#[cfg(test)]
+mod forms;
+#[cfg(test)]
+mod heads;
+#[cfg(test)]
+mod held;
+#[cfg(test)]
+mod hooks;
+#[cfg(test)]
+mod jobs;
+#[cfg(test)]
+mod many;
+#[cfg(test)]
+mod one;
+#[cfg(test)]
+mod two;
