@@ -1,5 +1,5 @@
 -- What is kept of no events.
-use Rattle.std.proofs.Common.{◌≡◌, ℕ, zero, suc, ◌<◌, ◌≤◌, Option, None, List, [], ◌∷◌, ◌++◌, map, length, get_or, replicate, refl, sym, ap, ◌∙◌, arith}
+use Rattle.std.proofs.Common.{◌≡◌, ℕ, ◌<◌, Option, None, [], replicate, refl, sym, ap, ◌∙◌}
 use Rattle.std.proofs.lemmas.List.{length-map, length-replicate, get_or-replicate, get_or-map}
 use Rattle.hp_states.specs.Sections.{first_state}
 use Rattle.hp_event.specs.declared.head.Head.{Head}
@@ -11,10 +11,10 @@ use Rattle.hp_model.specs.Settled.{settled}
 use Rattle.hp_model.specs.Walks.{walk, walk_entries}
 use Rattle.hp_model.proofs.SumLemmas.{length-numbers}
 use Rattle.hp_print.specs.Tallies.{IsStateTally}
-use Rattle.hp_timeline.specs.declared.scene.Lane.{Lane}
 use Rattle.hp_timeline.specs.declared.scene.Scene.{Scene}
 use Rattle.hp_timeline.specs.Scenes.{lane_of, lane_at, no_lane, stood, first_lanes, section_begun, IsScene}
 use Rattle.hp_timeline.proofs.Numbers.{number_at}
+use Rattle.hp_timeline.proofs.StateSteps.{knows_of}
 
 first_lane : (head : Head) (c : ℕ) → lane_of head [] c ≡ stood (first_state c)
 unfolding settled walk walk_entries
@@ -35,7 +35,7 @@ unfolding operation registration
 first_scene head s lanes states o r sections = record {
   lanes_many = rw lanes (length-map (numbers head.possible) (λ k. stood (first_state k)) ∙ length-numbers head.possible);
   lanes_are = λ c b. rw lanes (lanes_first head head.possible c b);
-  states_are = states;
+  states_are = knows_of head [] s.states states;
   operation_is = o;
   registration_is = r;
   sections_many = rw sections (length-replicate {A = Option ℕ} 96 None);

@@ -6,6 +6,7 @@ pub mod LastKey
 pub mod Places
 pub mod Events
 pub mod StatesKept
+pub mod StateSteps
 pub mod SeatsKept
 pub mod LaneSteps
 pub mod SceneSteps

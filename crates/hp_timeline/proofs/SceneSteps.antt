@@ -1,16 +1,14 @@
 -- One event more, for all that is kept.
-use Rattle.std.proofs.Common.{◌≡◌, ℕ, zero, suc, ◌+◌, ◌<◌, ◌≤◌, ◌^◌, Bool, true, false, ◌==◌, if◌then◌else◌, Option, Some, None, List, [], ◌∷◌, ◌++◌, length, get_or, set, refl, ap, sym, ◌∙◌, ⊎_elim, arith}
+use Rattle.std.proofs.Common.{◌≡◌, ℕ, zero, suc, ◌<◌, ◌≤◌, ◌^◌, Bool, true, false, ◌==◌, if◌then◌else◌, Option, Some, None, List, [], ◌∷◌, ◌++◌, length, get_or, set, refl, ap, ◌∙◌, ⊎_elim, arith}
 use Rattle.std.proofs.lemmas.List.{length-set}
 use Rattle.std.proofs.lemmas.Bool.{cases_lt}
-use Rattle.std.proofs.lemmas.Bool.Decides.{nat_tests}
-use Rattle.hp_states.specs.declared.limits.TheConstants.{ONLINE, MAX_SEATS}
+use Rattle.hp_states.specs.declared.limits.TheConstants.{ONLINE}
 use Rattle.hp_states.specs.declared.dir.Dir.{Dir}
 use Rattle.hp_event.specs.declared.how.How.{How}
 use Rattle.hp_event.specs.declared.head.Head.{Head}
 use Rattle.hp_event.specs.declared.event.Event.{Event}
 use Rattle.hp_event.specs.declared.event.Event.TheVariants.{Enter, WalkBegin, Call, WalkEnd, OpEnd, RegBegin, RegEnd, ReadLock, ReadUnlock}
 use Rattle.hp_model.specs.Crossing.{far}
-use Rattle.hp_model.specs.Calls.{is_called}
 use Rattle.hp_model.specs.Lawful.{IsLawful}
 use Rattle.hp_model.specs.MapLock.{Operation, operation, operation_step}
 use Rattle.hp_model.specs.Readers.{reading_since, reading_since_step}
@@ -18,18 +16,15 @@ use Rattle.hp_model.specs.Registered.{Registered, registered, keys, insts_of, in
 use Rattle.hp_model.specs.Registrations.{Registration, registration, registration_step}
 use Rattle.hp_model.specs.Shown.{is_last}
 use Rattle.hp_model.specs.Subsystems.{is_multi}
-use Rattle.hp_model.specs.Summary.{is_hook_fault}
-use Rattle.hp_model.specs.Walks.{Walk, walk}
 use Rattle.hp_model.proofs.Laws.{operation_push, registration_push, reading_since_push}
 use Rattle.hp_print.specs.declared.state_tally.StateTally.{StateTally}
-use Rattle.hp_print.specs.Steps.{asked_after, subs_after, all_insts_after, calls_after}
-use Rattle.hp_print.specs.Tallies.{sub_of, IsStateTally}
+use Rattle.hp_print.specs.Steps.{asked_after, subs_after, all_insts_after}
+use Rattle.hp_print.specs.Tallies.{sub_of}
 use Rattle.hp_print.proofs.ProcessorTallyStep.{get_or-set}
-use Rattle.hp_print.proofs.StateTallyStep.{states_step}
 use Rattle.hp_timeline.specs.declared.scene.Lane.{Lane}
-use Rattle.hp_timeline.specs.declared.scene.Begun.{Begun}
 use Rattle.hp_timeline.specs.declared.scene.Scene.{Scene}
-use Rattle.hp_timeline.specs.Scenes.{operation_begun, registration_begun, section_begun, lane_at, IsScene, crosses, crossed, set_out, arrived, is_last_of, is_last_key, lanes_after, operation_after, registration_after, sections_after}
+use Rattle.hp_timeline.specs.Scenes.{operation_begun, registration_begun, section_begun, lane_at, KnowsStates, IsScene, crosses, crossed, set_out, arrived, is_last_of, is_last_key, lanes_after, operation_after, registration_after, sections_after}
+use Rattle.hp_timeline.proofs.StateSteps.{states_go}
 use Rattle.hp_timeline.proofs.StatesKept.{none_above, has_list, stays_in_walk}
 use Rattle.hp_timeline.proofs.LaneSteps.{KnowsLast, lane_as}
 
@@ -50,13 +45,13 @@ past_end [] n d h = refl
 past_end (x ∷ xs) zero d h = absurd (omega arith)
 past_end (x ∷ xs) (suc n) d h = past_end xs n d (omega arith)
 
-last_key_as : (head : Head) (xs : List Event) (t : StateTally) (s i : ℕ) → IsLawful head xs → IsStateTally head 201 xs t →
+last_key_as : (head : Head) (xs : List Event) (t : StateTally) (s i : ℕ) → IsLawful head xs → KnowsStates head xs t →
     is_last_key head t s i ≡ is_last (keys head xs s) i
 last_key_as head xs t s i lawful h = ⊎_elim high low (cases_lt ONLINE s)
   where
     high : ONLINE < s → is_last_key head t s i ≡ is_last (keys head xs s) i
     high above =
-        rw (past_end t.subs.items s None (rw h.as_many_subs (omega (arith, above))), none_above head xs lawful s above) refl
+        rw (past_end t.subs.items s None (rw h.many_subs (omega (arith, above))), none_above head xs lawful s above) refl
 
     low : s ≤ ONLINE → is_last_key head t s i ≡ is_last (keys head xs s) i
     low below =
@@ -64,7 +59,7 @@ last_key_as head xs t s i lawful h = ⊎_elim high low (cases_lt ONLINE s)
         rw (h.sub_is s b)
         (last_as head (registered head s xs) (get_or t.insts.items s []) i (λ r is. has_list head s xs r is) (h.insts_is s b))
 
-knows_last : (head : Head) (c : ℕ) (xs : List Event) (s : Scene) → IsLawful head xs → IsStateTally head 201 xs s.states →
+knows_last : (head : Head) (c : ℕ) (xs : List Event) (s : Scene) → IsLawful head xs → KnowsStates head xs s.states →
     KnowsLast head c xs s
 knows_last head c xs s lawful h w is state inst =
     last_key_as head xs s.states state inst lawful h ∙ ap (λ r. is_last (insts_of r) inst) (stays_in_walk head c xs w lawful is state)
@@ -127,15 +122,13 @@ pub scene_step : (head : Head) (xs : List Event) (e : Event) (s u : Scene) → I
     u.sections.items ≡ sections_after (length xs) s.sections.items e →
     u.states.asked ≡ asked_after s.states.asked e →
     u.states.subs.items ≡ subs_after s.states.asked s.states.subs.items e →
-    u.states.insts.items ≡ all_insts_after s.states.asked s.states.subs.items s.states.insts.items e →
-    u.states.made.items ≡ calls_after is_called s.states.made.items e →
-    u.states.faults.items ≡ calls_after is_hook_fault s.states.faults.items e → IsScene head (xs ++ e ∷ []) u
-scene_step head xs e s u lawful few h lanes operation registration sections asked subs insts made faults = record {
+    u.states.insts.items ≡ all_insts_after s.states.asked s.states.subs.items s.states.insts.items e → IsScene head (xs ++ e ∷ []) u
+scene_step head xs e s u lawful few h lanes operation registration sections asked subs insts = record {
   lanes_many = rw lanes (lanes_same head (length xs) s e ∙ h.lanes_many);
   lanes_are = λ c b.
       rw lanes
       (lane_as head c xs e s (rw h.lanes_many b) (h.lanes_are c b) (knows_last head c xs s lawful h.states_are));
-  states_are = states_step head 201 xs e s.states u.states few h.states_are asked subs insts made faults;
+  states_are = states_go head xs e s.states u.states few h.states_are asked subs insts;
   operation_is = rw operation_push (operation ∙ ap (λ o. operation_after (length xs) o e) h.operation_is ∙ operation_as _ xs e);
   registration_is =
       rw registration_push (registration ∙ ap (λ r. registration_after (length xs) r e) h.registration_is ∙ registration_as _ xs e);

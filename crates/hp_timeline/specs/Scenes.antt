@@ -1,5 +1,5 @@
 -- What is kept of the events so far, and what one event more makes of it. This project's own.
-use Rattle.std.specs.Prelude.{◌≡◌, ℕ, ◌<◌, ◌+◌, ◌&&◌, ◌==◌, Bool, true, false, if◌then◌else◌, is_some, option_to_list, Option, Some, None, List, [], ◌∷◌, ◌++◌, length, map, take, slice_set, slice_index_or}
+use Rattle.std.specs.Prelude.{◌≡◌, ℕ, ◌<◌, ◌+◌, ◌&&◌, ◌==◌, Bool, true, false, if◌then◌else◌, is_some, option_to_list, Option, Some, None, List, [], ◌++◌, length, map, slice_set, slice_index_or}
 use Rattle.std.specs.List.{flat_map}
 use Rattle.hp_states.specs.declared.limits.TheConstants.{ONLINE, MAX_SEATS}
 use Rattle.hp_states.specs.declared.dir.Dir.{Dir}
@@ -15,13 +15,14 @@ use Rattle.hp_model.specs.Entries.{is_done}
 use Rattle.hp_model.specs.Lists.{numbers}
 use Rattle.hp_model.specs.MapLock.{Operation, operation}
 use Rattle.hp_model.specs.Readers.{reading_since}
+use Rattle.hp_model.specs.Registered.{registered, instances}
 use Rattle.hp_model.specs.Registrations.{Registration, registration}
 use Rattle.hp_model.specs.Settled.{settled}
 use Rattle.hp_model.specs.Shown.{shown, is_last}
 use Rattle.hp_model.specs.Subsystems.{is_multi}
 use Rattle.hp_model.specs.Walks.{Walk, walk}
 use Rattle.hp_print.specs.declared.state_tally.StateTally.{StateTally}
-use Rattle.hp_print.specs.Tallies.{IsStateTally}
+use Rattle.hp_print.specs.Tallies.{asked_of, sub_of}
 use Rattle.hp_timeline.specs.declared.scene.Walking.{Walking}
 use Rattle.hp_timeline.specs.declared.scene.Lane.{Lane}
 use Rattle.hp_timeline.specs.declared.scene.Begun.{Begun}
@@ -64,10 +65,18 @@ no_lane = record { settled = 0; shown = 0; walk = None }
 abbrev pub lane_at : List Lane → (cpu : ℕ) → Lane
 lane_at lanes c = slice_index_or lanes c no_lane
 
+-- a tally knows what is registered at each state; it needn't count calls
+pub record KnowsStates (head : Head) (events : List Event) (t : StateTally) : Type 0 where
+  pub many_subs : length t.subs.items ≡ ONLINE + 1
+  pub many_insts : length t.insts.items ≡ ONLINE + 1
+  pub asked_is : t.asked ≡ asked_of (registration events)
+  pub sub_is : (s : ℕ) → s < ONLINE + 1 → slice_index_or t.subs.items s None ≡ sub_of (registered head s events)
+  pub insts_is : (s : ℕ) → s < ONLINE + 1 → slice_index_or t.insts.items s [] ≡ instances (registered head s events)
+
 pub record IsScene (head : Head) (events : List Event) (s : Scene) : Type 0 where
   pub lanes_many : length s.lanes.items ≡ head.possible
   pub lanes_are : (c : ℕ) → c < head.possible → lane_at s.lanes.items c ≡ lane_of head events c
-  pub states_are : IsStateTally head (ONLINE + 1) events s.states
+  pub states_are : KnowsStates head events s.states
   pub operation_is : s.operation ≡ operation_begun (operation events)
   pub registration_is : s.registration ≡ registration_begun (registration events)
   pub sections_many : length s.sections.items ≡ MAX_SEATS

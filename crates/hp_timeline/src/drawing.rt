@@ -40,6 +40,7 @@ fn cpu_of(event: &Event) -> Option<u32>
 }
 
 /// Takes the event of a place, which is the next.
+#[inline(always)]
 fn take_event(
     scene: &mut Scene,
     head: &Head,
@@ -151,12 +152,11 @@ fn append_ended(
     ensures { OnOk result (Appends out.old out.new
         (flat_map (span_text sheet.now events.now) (ended_at events.now place))) }
 {
-    append_some(
-        out,
-        sheet,
-        events,
-        scene.ended(place, &events[place as usize]),
-    )
+    let event = &events[place as usize];
+    if let Event::Call { .. } = *event {
+        return Ok(());
+    }
+    append_some(out, sheet, events, scene.ended(place, event))
 }
 
 /// Appends the walks in flight after some events.

@@ -7,7 +7,7 @@ ghost use Rattle.hp_timeline.specs.Sheet.{HasFewClients};
 ghost use Rattle.hp_timeline.specs.Frame.{size_text, lane_style, span_style, mark_style, heading_text, mark_legend, span_legend, tick_count as tick_count_of, tenth as tenth_of, tick_line, tick_name, tick_text, ticks_text, lane_box, absence, lane_name, lane_text, seat_text, opening_text, lanes_text, frame_text};
 
 use crate::sheet::{Sheet, lane_top};
-use crate::text::{append, append_with};
+use crate::text::{append, append_before, append_two_before, append_with};
 use crate::window::Window;
 use hp_event::Head;
 use std::alloc::AllocError;
@@ -185,9 +185,8 @@ fn append_tick_line(out: &mut Vec<u8>, sheet: &Sheet, number: u32) -> Result<(),
     ensures { OnOk result (Appends out.old out.new (tick_line sheet.now number)) }
 {
     let at = sheet.window.middle(number.saturating_sub(1));
-    append_with(out, b"<path class='tick' d='M", at)?;
-    append_with(out, b" 150V", sheet.bottom())?;
-    append(out, b"'/>")
+    let tick = b"<path class='tick' d='M";
+    append_two_before(out, tick, at, b" 150V", sheet.bottom(), b"'/>")
 }
 
 /// Appends the number below it.
@@ -197,10 +196,9 @@ fn append_tick_name(out: &mut Vec<u8>, sheet: &Sheet, number: u32) -> Result<(),
     ensures { OnOk result (Appends out.old out.new (tick_name sheet.now number)) }
 {
     let at = sheet.window.middle(number.saturating_sub(1));
-    append_with(out, b"<text class='small' text-anchor='middle' x='", at)?;
-    append_with(out, b"' y='", sheet.bottom() + 45)?;
-    append_with(out, b"'>", number as usize)?;
-    append(out, b"</text>\n")
+    let name = b"<text class='small' text-anchor='middle' x='";
+    append_two_before(out, name, at, b"' y='", sheet.bottom() + 45, b"'>")?;
+    append_before(out, number as usize, b"</text>\n")
 }
 
 /// Appends the line at the event of a number, and the number below it.

@@ -10,7 +10,9 @@ ghost use Rattle.hp_timeline.specs.Ran.{IsShort, spot_text, ran_line};
 
 use crate::sheet::height;
 use crate::span_text::append_numbered;
-use crate::text::{LONG, append, append_two, push, push_with, put_back, take_out};
+use crate::text::{
+    FEW, LONG, append, append_two, push, push_with, push_with_few, put_back, take_out,
+};
 use crate::window::Window;
 use hp_event::{Event, How};
 use hp_states::Dir;
@@ -99,10 +101,9 @@ impl Ran {
     fn is_short(self) -> bool
         ensures { result ≡ true → IsShort self }
     {
-        let spot = self.left.max(self.top).max(self.number);
-        let key = self.state.max(self.inst);
-        let by = self.seat.max(self.cpu);
-        spot < LONG && (key.max(by) as usize) < LONG
+        let is_near = self.left < LONG && self.top < LONG && self.number < LONG;
+        let is_key_short = self.state < FEW && self.inst < FEW;
+        is_near && is_key_short && self.seat < FEW && self.cpu < FEW
     }
 }
 
@@ -130,10 +131,10 @@ fn push_line(out: &mut Vec<u8>, ran: Ran)
     requires room { vec_len out.old + LINE_BYTES ≤ vec_capacity out.old }
     ensures { Appends out.old out.new (ran_line ran) }
 {
-    push_with(out, b": call ", ran.seat as usize);
-    push_with(out, b" ", ran.cpu as usize);
-    push_with(out, b" ", ran.state as usize);
-    push_with(out, b" ", ran.inst as usize);
+    push_with_few(out, b": call ", ran.seat);
+    push_with_few(out, b" ", ran.cpu);
+    push_with_few(out, b" ", ran.state);
+    push_with_few(out, b" ", ran.inst);
     match ran.dir {
         Dir::Up => push(out, b" up ok\n</title></path>\n"),
         Dir::Down => push(out, b" down ok\n</title></path>\n"),

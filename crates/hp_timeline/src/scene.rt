@@ -2,9 +2,7 @@
 
 ghost use Rattle.std.specs.Prelude.{◌≡◌, [], false, IfOk, OnOk, Some, None, replicate, slice_set, slice_index_or};
 ghost use Rattle.hp_model.specs.Shown.{is_last as is_last_in};
-ghost use Rattle.hp_model.specs.Calls.{is_called};
-ghost use Rattle.hp_model.specs.Summary.{is_hook_fault};
-ghost use Rattle.hp_print.specs.Steps.{asked_after, subs_after, all_insts_after, calls_after};
+ghost use Rattle.hp_print.specs.Steps.{asked_after, subs_after, all_insts_after};
 ghost use Rattle.hp_timeline.specs.Spans.{class_of as class_of_answer};
 ghost use Rattle.hp_timeline.specs.Scenes.{IsScene, first_lanes as first_lanes_of, set_out, arrived, lane_at, crossed, is_last_of, is_last_key as is_last_key_of, lanes_after, operation_after, registration_after, sections_after, walking_span, begun_span, reading_span, one_event as one_event_of, ended_in};
 
@@ -146,25 +144,6 @@ fn put(sections: &mut Vec<Option<u32>>, seat: u32, first: Option<u32>)
     }
 }
 
-/// Takes one event more, for what is registered.
-fn take_states(states: &mut StateTally, event: &Event) -> Result<(), AllocError>
-    ensures asked { OnOk result (states.new.asked ≡ asked_after states.old.asked event.now) }
-    ensures subs { OnOk result (states.new.subs.items ≡ subs_after states.old.asked states.old.subs.items event.now) }
-    ensures insts { OnOk result (states.new.insts.items
-        ≡ all_insts_after states.old.asked states.old.subs.items states.old.insts.items event.now) }
-    ensures made { OnOk result (states.new.made.items ≡ calls_after is_called states.old.made.items event.now) }
-    ensures faults { OnOk result (states.new.faults.items
-        ≡ calls_after is_hook_fault states.old.faults.items event.now) }
-{
-    match *event {
-        Event::Call { state, how, .. } => states.call(state, how),
-        Event::RegBegin { state, op, .. } => states.begin(state, op),
-        Event::RegEnd { answer, .. } => states.end(answer)?,
-        _ => {}
-    }
-    Ok(())
-}
-
 impl Scene {
     /// What is kept of no events.
     pub fn new(alloc: Global, head: &Head) -> Result<Scene, AllocError>
@@ -199,6 +178,7 @@ impl Scene {
     }
 
     /// Takes the event of a place, which is the next.
+    #[inline(always)]
     pub fn take(&mut self, head: &Head, place: u32, event: &Event) -> Result<(), AllocError>
         ensures lanes { OnOk result (self.new.lanes.items ≡ lanes_after head.now place self.old event.now) }
         ensures operation { OnOk result (self.new.operation ≡ operation_after place self.old.operation event.now) }
@@ -211,10 +191,6 @@ impl Scene {
             ≡ subs_after self.old.states.asked self.old.states.subs.items event.now) }
         ensures insts { OnOk result (self.new.states.insts.items
             ≡ all_insts_after self.old.states.asked self.old.states.subs.items self.old.states.insts.items event.now) }
-        ensures made { OnOk result (self.new.states.made.items
-            ≡ calls_after is_called self.old.states.made.items event.now) }
-        ensures faults { OnOk result (self.new.states.faults.items
-            ≡ calls_after is_hook_fault self.old.states.faults.items event.now) }
     {
         match *event {
             Event::WalkBegin { cpu, from, to, .. } => {
@@ -231,13 +207,19 @@ impl Scene {
             Event::WalkEnd { cpu, answer, .. } => end_walk(&mut self.lanes, cpu, answer),
             Event::Enter { seat, .. } => self.operation = Some(Begun { seat, first: place }),
             Event::OpEnd { .. } => self.operation = None,
-            Event::RegBegin { seat, .. } => self.registration = Some(Begun { seat, first: place }),
-            Event::RegEnd { .. } => self.registration = None,
+            Event::RegBegin { seat, state, op } => {
+                self.registration = Some(Begun { seat, first: place });
+                self.states.begin(state, op);
+            }
+            Event::RegEnd { answer, .. } => {
+                self.registration = None;
+                self.states.end(answer)?;
+            }
             Event::ReadLock { seat } => put(&mut self.sections, seat, Some(place)),
             Event::ReadUnlock { seat } => put(&mut self.sections, seat, None),
             _ => {}
         }
-        take_states(&mut self.states, event)
+        Ok(())
     }
 
     /// The state that the file of a processor shows.

@@ -1,13 +1,13 @@
 //! How what lasts is drawn.
 
-ghost use Rattle.std.specs.Prelude.{◌≡◌, ◌++◌, OnOk, slice_get, codes, decimal};
+ghost use Rattle.std.specs.Prelude.{◌≡◌, ◌+◌, ◌≤◌, ◌++◌, OnOk, slice_get, codes, decimal, vec_len, vec_capacity};
 ghost use Rattle.hp_text.specs.Appends.{Appends};
 ghost use Rattle.hp_timeline.specs.Sheet.{HasFewClients};
 ghost use Rattle.hp_timeline.specs.Spans.{row_top as row_top_of, row_height, row_word, class_word, numbered, title_text, words_text, label_by, span_from, span_width, box_text, fill_text, span_text};
 
 use crate::sheet::{Sheet, lane_top};
 use crate::span::{Class, Row, Span};
-use crate::text::{append, append_before, append_two, append_with};
+use crate::text::{append, append_before, append_two_before, push, put_back, take_out};
 use crate::window::Window;
 use hp_event::{Event, Op};
 use hp_print::append_event;
@@ -29,43 +29,53 @@ impl Row {
     }
 }
 
-/// Appends how high what stands in a row is.
+/// So many bytes the two parts of what fills a box take at most.
+const ROW_BYTES: usize = 32;
+
+const CLASS_BYTES: usize = 40;
+
+/// Appends how wide and how high what stands in a row is.
 #[tactic(auto, unfolding(crate::specs::Spans::row_height))]
-fn append_height(out: &mut Vec<u8>, row: Row) -> Result<(), AllocError>
+fn append_size(out: &mut Vec<u8>, width: usize, row: Row) -> Result<(), AllocError>
     ensures { OnOk result (Appends out.old out.new
-        (codes "' height='" ++ (decimal (row_height row) ++ codes "'><title>"))) }
+        (decimal width ++ (codes "' height='" ++ (decimal (row_height row) ++ codes "'><title>")))) }
 {
     match row {
-        Row::Processor(_) => append(out, b"' height='220'><title>"),
-        Row::Operations(_) => append(out, b"' height='78'><title>"),
-        Row::Section(_) => append(out, b"' height='18'><title>"),
+        Row::Processor(_) => append_before(out, width, b"' height='220'><title>"),
+        Row::Operations(_) => append_before(out, width, b"' height='78'><title>"),
+        Row::Section(_) => append_before(out, width, b"' height='18'><title>"),
     }
 }
 
-/// Appends the word of a row, and what stands before it.
-fn append_row_word(out: &mut Vec<u8>, row: Row) -> Result<(), AllocError>
-    ensures { OnOk result (Appends out.old out.new
-        (codes "</title><rect class='" ++ (row_word row ++ codes " "))) }
+/// Pushes the word of a row, and what stands before it.
+#[inline(always)]
+fn push_row_word(out: &mut Vec<u8>, row: Row)
+    requires room { vec_len out.old + ROW_BYTES ≤ vec_capacity out.old }
+    ensures text { Appends out.old out.new
+        (codes "</title><rect class='" ++ (row_word row ++ codes " ")) }
+    ensures many { vec_len out.new ≤ vec_len out.old + ROW_BYTES }
+    ensures room { vec_capacity out.new ≡ vec_capacity out.old }
 {
     match row {
-        Row::Processor(_) => append(out, b"</title><rect class='walk "),
-        Row::Operations(_) => append(out, b"</title><rect class='bar "),
-        Row::Section(_) => append(out, b"</title><rect class='section "),
+        Row::Processor(_) => push(out, b"</title><rect class='walk "),
+        Row::Operations(_) => push(out, b"</title><rect class='bar "),
+        Row::Section(_) => push(out, b"</title><rect class='section "),
     }
 }
 
-/// Appends the word that says how something ended, and what stands behind it.
-fn append_class(out: &mut Vec<u8>, class: Class) -> Result<(), AllocError>
-    ensures { OnOk result (Appends out.old out.new
-        (class_word class ++ codes "' width='100%' height='100%'/>")) }
+/// Pushes the word that says how something ended, and what stands behind it.
+#[inline(always)]
+fn push_class(out: &mut Vec<u8>, class: Class)
+    requires room { vec_len out.old + CLASS_BYTES ≤ vec_capacity out.old }
+    ensures { Appends out.old out.new (class_word class ++ codes "' width='100%' height='100%'/>") }
 {
     match class {
-        Class::Done => append(out, b"ok' width='100%' height='100%'/>"),
-        Class::Refused => append(out, b"refused' width='100%' height='100%'/>"),
-        Class::Faulted => append(out, b"fault' width='100%' height='100%'/>"),
-        Class::Stuck => append(out, b"stuck' width='100%' height='100%'/>"),
-        Class::Full => append(out, b"full' width='100%' height='100%'/>"),
-        Class::Going => append(out, b"going' width='100%' height='100%'/>"),
+        Class::Done => push(out, b"ok' width='100%' height='100%'/>"),
+        Class::Refused => push(out, b"refused' width='100%' height='100%'/>"),
+        Class::Faulted => push(out, b"fault' width='100%' height='100%'/>"),
+        Class::Stuck => push(out, b"stuck' width='100%' height='100%'/>"),
+        Class::Full => push(out, b"full' width='100%' height='100%'/>"),
+        Class::Going => push(out, b"going' width='100%' height='100%'/>"),
     }
 }
 
@@ -93,22 +103,23 @@ fn append_title(out: &mut Vec<u8>, events: &[Event], span: Span) -> Result<(), A
     Ok(())
 }
 
-/// Appends the words of an operation, as they stand in its bar.
+/// Appends the words of an operation, as they stand in its bar, and the bar's end.
 fn append_words(out: &mut Vec<u8>, op: &Op) -> Result<(), AllocError>
-    ensures { OnOk result (Appends out.old out.new (words_text op.now)) }
+    ensures { OnOk result (Appends out.old out.new (words_text op.now ++ codes "</svg>\n")) }
 {
     append(out, b"<text x='9' y='51'>")?;
     append_op(out, op)?;
-    append(out, b"</text>")
+    append(out, b"</text></svg>\n")
 }
 
-/// Appends the words of the operation that the event at a place begins, where it begins one.
+/// Appends the words of the operation that the event at a place begins, where it begins one, and the end.
 fn append_label(out: &mut Vec<u8>, events: &[Event], place: u32) -> Result<(), AllocError>
-    ensures { OnOk result (Appends out.old out.new (label_by (slice_get events.now place))) }
+    ensures { OnOk result (Appends out.old out.new
+        (label_by (slice_get events.now place) ++ codes "</svg>\n")) }
 {
     match events.get(place as usize) {
         Some(Event::Enter { op, .. } | Event::RegBegin { op, .. }) => append_words(out, op),
-        _ => Ok(()),
+        _ => append(out, b"</svg>\n"),
     }
 }
 
@@ -135,15 +146,10 @@ fn append_box(out: &mut Vec<u8>, sheet: &Sheet, span: Span) -> Result<(), AllocE
     requires { HasFewClients sheet.now }
     ensures { OnOk result (Appends out.old out.new (box_text sheet.now span)) }
 {
-    append_two(
-        out,
-        b"<svg x='",
-        left_of(sheet.window, span),
-        b"' y='",
-        span.row.top(sheet),
-    )?;
-    append_with(out, b"' width='", width_of(sheet.window, span))?;
-    append_height(out, span.row)
+    let left = left_of(sheet.window, span);
+    let top = span.row.top(sheet);
+    append_two_before(out, b"<svg x='", left, b"' y='", top, b"' width='")?;
+    append_size(out, width_of(sheet.window, span), span.row)
 }
 
 /// Appends what fills that box.
@@ -151,8 +157,12 @@ fn append_box(out: &mut Vec<u8>, sheet: &Sheet, span: Span) -> Result<(), AllocE
 fn append_fill(out: &mut Vec<u8>, span: Span) -> Result<(), AllocError>
     ensures { OnOk result (Appends out.old out.new (fill_text span)) }
 {
-    append_row_word(out, span.row)?;
-    append_class(out, span.class)
+    out.reserve(ROW_BYTES + CLASS_BYTES)?;
+    let mut text = take_out(out);
+    push_row_word(&mut text, span.row);
+    push_class(&mut text, span.class);
+    put_back(out, text);
+    Ok(())
 }
 
 /// Appends something that lasts.
@@ -170,6 +180,5 @@ pub fn append_span(
     append_box(out, sheet, span)?;
     append_title(out, events, span)?;
     append_fill(out, span)?;
-    append_label(out, events, span.first)?;
-    append(out, b"</svg>\n")
+    append_label(out, events, span.first)
 }

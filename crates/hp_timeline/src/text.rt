@@ -19,6 +19,11 @@ pub const LONG: usize = 1_000_000;
 
 const DIGITS: usize = 6;
 
+/// Numbers below this one have at most `FEW_DIGITS` digits.
+pub const FEW: u32 = 10_000;
+
+const FEW_DIGITS: usize = 4;
+
 /// Pushes bytes for which there is room.
 #[inline(always)]
 pub fn push(out: &mut Vec<u8>, bytes: &[u8])
@@ -63,13 +68,13 @@ fn push_first(out: &mut Vec<u8>, number: u32)
     }
 }
 
-/// Pushes a number below 10,000.
+/// Pushes a number of at most `FEW_DIGITS` digits.
 #[inline(always)]
 fn push_few(out: &mut Vec<u8>, number: u32)
-    requires below { number < 10000 }
-    requires room { vec_len out.old + 4 ≤ vec_capacity out.old }
+    requires below { number < FEW }
+    requires room { vec_len out.old + FEW_DIGITS ≤ vec_capacity out.old }
     ensures text { Appends out.old out.new (decimal number) }
-    ensures many { vec_len out.new ≤ vec_len out.old + 4 }
+    ensures many { vec_len out.new ≤ vec_len out.old + FEW_DIGITS }
     ensures room { vec_capacity out.new ≡ vec_capacity out.old }
 {
     if number < 100 {
@@ -89,7 +94,7 @@ fn push_decimal(out: &mut Vec<u8>, number: u32)
     ensures many { vec_len out.new ≤ vec_len out.old + DIGITS }
     ensures room { vec_capacity out.new ≡ vec_capacity out.old }
 {
-    if number < 10000 {
+    if number < FEW {
         push_few(out, number);
     } else {
         push_first(out, number / 10000);
@@ -119,6 +124,19 @@ pub fn push_with(out: &mut Vec<u8>, bytes: &[u8], number: usize)
 {
     push(out, bytes);
     push_decimal(out, number as u32);
+}
+
+/// Pushes bytes, and behind them a number of at most `FEW_DIGITS` digits.
+#[inline(always)]
+pub fn push_with_few(out: &mut Vec<u8>, bytes: &[u8], number: u32)
+    requires below { number < FEW }
+    requires room { vec_len out.old + (length bytes.now + FEW_DIGITS) ≤ vec_capacity out.old }
+    ensures text { Appends out.old out.new (bytes.now ++ decimal number) }
+    ensures many { vec_len out.new ≤ vec_len out.old + (length bytes.now + FEW_DIGITS) }
+    ensures room { vec_capacity out.new ≡ vec_capacity out.old }
+{
+    push(out, bytes);
+    push_few(out, number);
 }
 
 /// Takes a buffer out of its place, where an empty one stands meanwhile.
@@ -202,6 +220,34 @@ pub fn append_two(
     let mut text = take_out(out);
     push_with(&mut text, bytes, number);
     push_with(&mut text, more, other);
+    put_back(out, text);
+    Ok(())
+}
+
+/// Appends bytes and a number behind them, both once more, and bytes behind that: a few bytes each time.
+#[inline(always)]
+pub fn append_two_before(
+    out: &mut Vec<u8>,
+    bytes: &[u8],
+    number: usize,
+    more: &[u8],
+    other: usize,
+    end: &[u8],
+) -> Result<(), AllocError>
+    requires { length bytes.now + (length more.now + length end.now) ≤ 256 }
+    ensures { OnOk result (Appends out.old out.new
+        (bytes.now ++ (decimal number ++ (more.now ++ (decimal other ++ end.now))))) }
+{
+    if number.max(other) >= LONG {
+        append_long(out, bytes, number)?;
+        append_long(out, more, other)?;
+        return append(out, end);
+    }
+    out.reserve(bytes.len() + DIGITS + (more.len() + DIGITS) + end.len())?;
+    let mut text = take_out(out);
+    push_with(&mut text, bytes, number);
+    push_with(&mut text, more, other);
+    push(&mut text, end);
     put_back(out, text);
     Ok(())
 }

@@ -1,5 +1,5 @@
 -- One event more.
-use Rattle.std.proofs.Common.{◌≡◌, ℕ, List, ◌<◌, ◌≤◌, ◌^◌, length, take, get_or, arith}
+use Rattle.std.proofs.Common.{◌≡◌, ℕ, List, ◌<◌, ◌^◌, length, take, get_or, arith}
 use Rattle.std.proofs.lemmas.List.{take_more}
 use Rattle.hp_event.specs.declared.event.Event.{Event}
 use Rattle.hp_event.specs.declared.event.Event.TheVariants.{Admit}
@@ -20,4 +20,4 @@ returns c =
     rw (take_more events k (Admit 0 Client) low)
     (scene_step c.args.head.now (take k events) e c.args.scene.now c.take.new.self
     (lawful_take c.args.head.now events k c.requires.lawful) few c.requires.scene (rw many s.lanes) (rw many s.operation)
-    (rw many s.registration) (rw many s.sections) s.asked s.subs s.insts s.made s.faults)
+    (rw many s.registration) (rw many s.sections) s.asked s.subs s.insts)

@@ -9,11 +9,9 @@ pub returns : goal.returns
 unfolding tick_name
 returns c =
     simp (
-      c.in_ok-append_with-3.ensures,
+      c.in_ok-append_two_before.ensures,
       c.bottom.ensures.value,
-      c.in_ok-append_with-2.ensures,
       c.saturating_sub.ensures,
       c.middle-at.ensures.value,
-      c.in_ok-append_with.ensures,
       append_assoc,
-    ) at c.append.ensures
+    ) at c.append_before.ensures

@@ -2,7 +2,7 @@ use Rattle.std.proofs.Common.{append_assoc, arith}
 use Rattle.hp_timeline.proofs.Pairs.{four_more}
 use Rattle.hp_timeline.proofs.text.push_decimal.Goals as goal
 
-pub returns-else-number-lt10000-clause-text : goal.returns-else-number-lt10000-clause-text
-returns-else-number-lt10000-clause-text c =
+pub returns-else-number-lt-FEW-clause-text : goal.returns-else-number-lt-FEW-clause-text
+returns-else-number-lt-FEW-clause-text c =
     rw (four_more c.args.number (omega arith) (omega arith))
-    (simp (c.push_pair.ensures.text, c.push_first.ensures.text, append_assoc) at c.push_pair-else-number-lt10000.ensures.text)
+    (simp (c.push_pair.ensures.text, c.push_first.ensures.text, append_assoc) at c.push_pair-else-number-lt-FEW.ensures.text)
