@@ -32,8 +32,10 @@ fn append_how(out: &mut Vec<u8>, how: How) -> Result<(), AllocError>
     }
 }
 
-/// Appends the answer of an operation or a registration.
-fn append_answer(out: &mut Vec<u8>, answer: Answer) -> Result<(), AllocError>
+/// Appends the words of the answer of an operation or a registration, each behind a space.
+///
+/// Takes memory; where it is wanting, the buffer may have a part of that. This project's own.
+pub fn append_answer(out: &mut Vec<u8>, answer: Answer) -> Result<(), AllocError>
     ensures { OnOk result (Appends out.old out.new (spaced (answer_words answer))) }
 {
     match answer {

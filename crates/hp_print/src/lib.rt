@@ -21,7 +21,7 @@ mod summary_lines;
 mod suspend_tally;
 mod tally;
 
-pub use event::{append_event, event_line, has_line};
+pub use event::{append_answer, append_event, event_line, has_line};
 pub use instance_list::InstanceList;
 pub use journal::journal_text;
 pub use law::names_are_unescaped;

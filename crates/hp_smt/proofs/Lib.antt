@@ -3,6 +3,7 @@ pub mod Sets
 pub mod Shutting
 pub mod OwnOps
 pub mod OwnTurns
+pub mod OwnHooks
 pub mod Going
 pub mod Taking
 pub mod Runs

@@ -1,5 +1,5 @@
 -- A script has one run under SMT control, and that is lawful.
-use Rattle.std.proofs.Common.{◌≡◌, ℕ, zero, suc, ◌+◌, ◌-◌, ◌≤◌, Bool, true, false, cond, not, ◌&&◌, ◌||◌, eqb, ltb, is_some, Option, Some, None, List, [], ◌∷◌, ◌++◌, length, length-append, refl, ap, sym, ◌∙◌, subst, arith}
+use Rattle.std.proofs.Common.{◌≡◌, ℕ, zero, suc, ◌+◌, ◌-◌, ◌≤◌, Bool, true, false, cond, not, ◌||◌, eqb, ltb, Option, Some, None, List, [], ◌∷◌, ◌++◌, length, length-append, refl, ap, sym, ◌∙◌, subst, arith}
 use Rattle.std.specs.Prelude.{fold, pos, slice_get}
 use Rattle.std.proofs.lemmas.Bool.{true≢false, ltb-true, ltb-false}
 use Rattle.hp_states.specs.declared.limits.TheConstants.{MAX_SEATS}
@@ -23,7 +23,7 @@ use Rattle.hp_model.proofs.RunLemmas.{admissions_lawful}
 use Rattle.hp_model.proofs.DueGives.{due_stands}
 use Rattle.hp_model.proofs.NextStands.{next_stands}
 use Rattle.hp_smt.specs.Modes.{wants_on, ended_mode, own_op}
-use Rattle.hp_smt.specs.Run.{SmtState, with_run, without, after_asking, and_event, after_writing, writes, smt_turn, smt_start, after_smt_round, after_smt_rounds, IsSmtRun}
+use Rattle.hp_smt.specs.Run.{SmtState, with_run, without, after_asking, and_event, after_writing, writes, smt_turn, after_smt_rounds, IsSmtRun}
 use Rattle.hp_smt.specs.Turns.{is_denied_by}
 use Rattle.hp_smt.specs.Writes.{Step, after_own, after_answer, finished, gone_on_with, own_cpu, unless_at_once, at_once, control_step, current, is_done, goes_on, answers, at_rest, mode_before, under, recorded_after, taking_of}
 use Rattle.hp_smt.specs.declared.mode.Control.{Control}

@@ -1,11 +1,12 @@
 //! Writes of control.
 
-ghost use Rattle.std.specs.Prelude.{◌≡◌, ◌<◌, ◌&&◌, true, IfOk, OnErr, Some, None, not};
+ghost use Rattle.std.specs.Prelude.{◌≡◌, ◌<◌, ◌&&◌, true, IfOk, OnOk, OnErr, Some, None, not};
 ghost use Rattle.hp_model.specs.Lists.{is_empty};
 ghost use Rattle.hp_model.specs.Suspend.{frozen};
 ghost use Rattle.hp_model.specs.Seats.{role_of};
 ghost use Rattle.hp_event.specs.declared.event.Role.TheVariants.{Client};
 ghost use Rattle.hp_smt.specs.declared.mode.Control.{Control as ControlOf};
+ghost use Rattle.hp_board.specs.HookLaws.{HasAsManyHooks};
 ghost use Rattle.hp_smt.specs.Brought.{BringsAllUp};
 ghost use Rattle.hp_model.specs.Settled.{is_online};
 ghost use Rattle.hp_smt.specs.Siblings.{is_sibling as is_sibling_of, sibling_online as sibling_online_of};
@@ -47,11 +48,12 @@ impl<H: Hook> Smt<H> {
     ///
     /// A turn that makes an event of the write's own answers `Made`, unless the write is answered by that event.
     /// `Answered` with no place has no event of its own. `NoMemory` where memory was wanting for one: then all is as
-    /// before that turn, the mode too. After `__store_smt_control` of `kernel/cpu.c`.
+    /// before that turn, the mode too. The states keep their hooks. After `__store_smt_control` of `kernel/cpu.c`.
     pub fn control(&mut self, by: u32, want: Control) -> Result<Turn, NoMemory>
         requires { MayWrite self.old.board self.old.setting by want }
         ensures turn { IfOk result (IsControl by want self.old self.new) }
         ensures brought { IfOk result (BringsAllUp (current_of self.old by want) self.new) }
+        ensures hooks { OnOk result (HasAsManyHooks self.old.board self.new.board) }
         ensures err { OnErr result (self.new ≡ self.old) }
         ensures memory { OnErr result (WantsRoom self.old (current_of self.old by want)) }
     {
@@ -95,6 +97,7 @@ impl<H: Hook> Smt<H> {
         requires none { None ≡ write_by by self.old.setting.write }
         ensures turn { IfOk result (IsControl by want self.old self.new) }
         ensures brought { IfOk result (BringsAllUp (current_of self.old by want) self.new) }
+        ensures hooks { OnOk result (HasAsManyHooks self.old.board self.new.board) }
         ensures err { OnErr result (self.new ≡ self.old) }
         ensures memory { OnErr result (WantsRoom self.old (current_of self.old by want)) }
     {
@@ -120,6 +123,7 @@ impl<H: Hook> Smt<H> {
             (own_cpu_of self.old.board.head self.old.board.events self.old.threads self.old.setting.recorded write)
             write self.old self.new) }
         ensures brought { IfOk result (BringsAllUp write self.new) }
+        ensures hooks { OnOk result (HasAsManyHooks self.old.board self.new.board) }
         ensures err { OnErr result (self.new ≡ self.old) }
         ensures memory { OnErr result (WantsRoom self.old write) }
     {
@@ -139,6 +143,7 @@ impl<H: Hook> Smt<H> {
             (gone_on_with self.old.board.head self.old.board.events self.old.setting.recorded write (Some cpu))
             (Some cpu) write self.old self.new) }
         ensures brought { IfOk result (BringsAllUp write self.new) }
+        ensures hooks { OnOk result (HasAsManyHooks self.old.board self.new.board) }
         ensures err { OnErr result (self.new ≡ self.old) }
         ensures memory { OnErr result (OwnTakesRoom self.old.board write (Some cpu)) }
     {
@@ -163,6 +168,7 @@ impl<H: Hook> Smt<H> {
             (gone_on_with self.old.board.head self.old.board.events self.old.setting.recorded write None)
             None write self.old self.new result }
         ensures brought { BringsAllUp write self.new result }
+        ensures hooks { HasAsManyHooks self.old.board self.new.board }
     {
         let gone = self.finished(write);
         self.board.sound();

@@ -1,10 +1,13 @@
 -- Rounds until a run is over make it the run of its script.
-use Rattle.std.proofs.Common.{◌≡◌, ℕ, suc, ◌-◌, ◌<◌, Bool, true, false, ltb, refl, ap, sym, ◌∙◌, arith}
+use Rattle.std.proofs.Common.{◌≡◌, ℕ, suc, ◌+◌, ◌-◌, ◌<◌, Bool, true, false, ltb, List, length, refl, ap, sym, subst, ◌∙◌, arith}
 use Rattle.std.proofs.lemmas.Bool.{ltb-true, ltb-false}
 use Rattle.std.proofs.lemmas.List.{length-map}
 use Rattle.hp_actors.specs.Positions.{ops_of}
-use Rattle.hp_smt.specs.Run.{smt_start, after_smt_round, after_smt_rounds, is_over}
+use Rattle.hp_model.specs.Lists.{numbers}
+use Rattle.hp_model.specs.Processors.{present}
+use Rattle.hp_smt.specs.Run.{SmtState, smt_start, after_smt_round, after_smt_rounds, is_over}
 use Rattle.hp_smt_run.specs.Playing.{Setup, setup_of, ops_in, state_of, IsPlaying, IsRounded, IsPlayed}
+use Rattle.hp_smt_run.specs.SiblingsOff.{SiblingsStayOff, SiblingsStayOffFor}
 use Rattle.hp_smt_run.specs.declared.run.SmtRun.{SmtRun}
 use Rattle.hp_smt_run.proofs.Further.{reach}
 use Rattle.hp_smt_run.proofs.Kept.{Fits, Kept, reached_kept}
@@ -32,6 +35,10 @@ nearer now after p goes r =
     let same = ap (λ (s : Setup). furthest s.actors) r.same in
     omega (arith, up, state, most, same)
 
+-- the seats of a round
+abbrev round_of : Setup → List ℕ
+round_of s = numbers (length (present s.head) + length s.actors + 1)
+
 -- so many rounds made it, and none of them once it was over
 pub record HasRounds {H : Type 0} (old now : SmtRun H) : Type 0 where
   pub playing : IsPlaying now
@@ -41,6 +48,7 @@ pub record HasRounds {H : Type 0} (old now : SmtRun H) : Type 0 where
   pub no_sooner :
       (n : ℕ) → n < count →
       is_over (ops_in old) (after_smt_rounds old.smt.board.head old.smt.threads (ops_in old) old.want n) ≡ false
+  pub off : SiblingsStayOffFor old.smt.board.head old.smt.threads (ops_in old) old.want count
 
 pub no_round : {H : Type 0} (old : SmtRun H) → IsPlaying old → state_of old ≡ smt_start old.smt.board.head (ops_in old) → HasRounds old old
 no_round old p start = record {
@@ -49,6 +57,7 @@ no_round old p start = record {
   count = 0;
   now_is = start;
   no_sooner = λ n below. absurd (omega (arith, below));
+  off = λ n below. absurd (omega (arith, below));
 }
 
 pub next_round : {H : Type 0} (old now after : SmtRun H) → HasRounds old now → is_over (ops_in now) (state_of now) ≡ false →
@@ -62,8 +71,26 @@ next_round old now after i goes r = record {
       ∙ (ap (λ (s : Setup). after_smt_round s.head s.threads s.actors s.want (state_of now)) i.same
       ∙ ap (after_smt_round old.smt.board.head old.smt.threads (ops_in old) old.want) i.now_is);
   no_sooner = λ n below. go n below (ltb n i.count) refl;
+  off = λ n below. off n below (ltb n i.count) refl;
 }
   where
+    s : Setup
+    s = setup_of old
+
+    -- the round after those before, by what stays
+    last : SiblingsStayOff s.head s.threads s.actors s.want (state_of now) (round_of s)
+    last =
+        subst (λ (z : Setup). SiblingsStayOff z.head z.threads z.actors z.want (state_of now) (round_of z)) i.same r.off
+
+    off : (n : ℕ) → n < suc i.count → (b : Bool) → ltb n i.count ≡ b →
+        SiblingsStayOff s.head s.threads s.actors s.want (after_smt_rounds s.head s.threads s.actors s.want n) (round_of s)
+    off n below true e = i.off n (ltb-true n i.count e)
+    off n below false e =
+        let m = ltb-false n i.count e in
+        let same : i.count ≡ n = omega (arith, below, m) in
+        subst (λ z. SiblingsStayOff s.head s.threads s.actors s.want (after_smt_rounds s.head s.threads s.actors s.want z) (round_of s)) same
+        (subst (λ (z : SmtState). SiblingsStayOff s.head s.threads s.actors s.want z (round_of s)) i.now_is last)
+
     go : (n : ℕ) → n < suc i.count → (b : Bool) → ltb n i.count ≡ b →
         is_over (ops_in old) (after_smt_rounds old.smt.board.head old.smt.threads (ops_in old) old.want n) ≡ false
     go n below true e = i.no_sooner n (ltb-true n i.count e)
@@ -85,4 +112,5 @@ played_by old now i over = record {
     no_sooner = i.no_sooner;
     state_is = i.now_is;
   };
+  off = i.off;
 }

@@ -5,6 +5,7 @@ use Rattle.std.proofs.lemmas.Option.{slice_get_within, get_or_from_slice_get}
 use Rattle.hp_states.specs.declared.limits.TheConstants.{MAX_SEATS}
 use Rattle.hp_states.specs.declared.cpu_set.CpuSet.{CpuSet}
 use Rattle.hp_states.specs.CpuSets.{has}
+use Rattle.hp_board.specs.HookCount.{hook_count}
 use Rattle.hp_event.specs.declared.op.Op.{Op}
 use Rattle.hp_event.specs.declared.head.Head.{Head}
 use Rattle.hp_model.specs.Admissions.{admissions}
@@ -16,6 +17,7 @@ use Rattle.hp_actors.specs.Actors.{AreLoaded}
 use Rattle.hp_actors.specs.declared.actor.Actor.{Actor}
 use Rattle.hp_actors.specs.Positions.{ops_of, answered_of}
 use Rattle.hp_actors.specs.Racks.{IsFresh}
+use Rattle.hp_actors.proofs.Holding.{fresh_count}
 use Rattle.hp_actors.proofs.Opening.{none_answered, same_admissions, idle_first, loaded_hook}
 use Rattle.hp_model.specs.Seats.{is_busy}
 use Rattle.hp_smt.specs.Run.{smt_start}
@@ -51,6 +53,7 @@ pub record Started {H : Type 0} (run : SmtRun H) (head : Head) (threads : ℕ) (
   pub want_is : run.want ≡ want
   pub written_none : run.written.items ≡ []
   pub denied_none : run.denied.items ≡ []
+  pub none_yet : hook_count run.smt.board.places ≡ 0
 
 pub started_setup : {H : Type 0} (run : SmtRun H) (head : Head) (threads : ℕ) (ops : List (List Op)) (want : Control) →
     Started run head threads ops want → setup_of run ≡ setup head threads ops want
@@ -90,6 +93,7 @@ started_playing {H} run head threads ops want s = record {
       loaded_hook run.smt.board.events (run.seats + i) actor
       (ap (is_busy (run.seats + i)) (events_of run head threads ops want s) ∙ idle_first head (ops ++ [] ∷ []) (run.seats + i))
       (subst (λ (a : Actor H). AreLoaded a.asks) there (s.fresh i actor (slice_get_within run.actors.items i actor at)).1);
+  held = let n = s.none_yet in let c = fresh_count run.actors.items s.fresh in omega (arith, n, c);
 }
   where
     same : setup_of run ≡ setup head threads ops want

@@ -1,6 +1,7 @@
 -- A turn of the machine under SMT control for the operation of an actor.
 use Rattle.std.proofs.Common.{◌≡◌, ℕ, ◌+◌, ◌<◌, Bool, true, false, cond, not, ◌&&◌, eqb, Option, Some, None, List, [], ◌∷◌, ◌++◌, length, map, drop, refl, ap, sym, subst, ◌∙◌, inl, inr, arith}
-use Rattle.std.specs.Prelude.{option_map, slice_get, option_to_list}
+use Rattle.std.specs.Prelude.{option_map, slice_get, option_to_list, is_some}
+use Rattle.std.specs.List.{sum_by}
 use Rattle.std.proofs.lemmas.Bool.{and_parts, eqb-true}
 use Rattle.std.proofs.lemmas.List.{length-map}
 use Rattle.hp_states.proofs.Basics.{same_some}
@@ -18,6 +19,7 @@ use Rattle.hp_model.specs.MapLock.{Operation, operation}
 use Rattle.hp_model.specs.Registrations.{Registration, registration}
 use Rattle.hp_model.proofs.AnswerCounts.{nth_of}
 use Rattle.hp_model.proofs.Going.{asks_allowed}
+use Rattle.hp_board.specs.HookCount.{hook_count, held}
 use Rattle.hp_board.specs.declared.turn.Ask.{Ask}
 use Rattle.hp_board.specs.declared.turn.Turn.{Turn}
 use Rattle.hp_board.specs.declared.turn.Turn.TheVariants.{Answered}
@@ -25,6 +27,7 @@ use Rattle.hp_event.specs.declared.answer.Answer.{Answer}
 use Rattle.hp_hook.specs.Counted.{Counts}
 use Rattle.hp_actors.specs.Actors.{AreLoaded, noted, with_ask}
 use Rattle.hp_actors.specs.Positions.{op_of, ops_of}
+use Rattle.hp_actors.specs.Racks.{hooks_with}
 use Rattle.hp_actors.specs.RunInvariant.{HasHook}
 use Rattle.hp_actors.specs.declared.actor.Actor.{Actor}
 use Rattle.hp_actors.proofs.Playing.{ActorTurned, asked_is, idle_hook, in_place}
@@ -77,6 +80,9 @@ stepped_denied {H} seen k old new actor now ask ask_now place answer r d e a is 
       next_loaded actor.asks actor.answered x a.later
       (ap (slice_get actor.asks) (sym answered) ∙ (ap (λ z. slice_get z now.answered) (sym asks) ∙ found))
       ∙ idle_hook old.board.events k x.op idle;
+  kept =
+      ap (λ (z : Controlled). hook_count z.board.places + hooks_with now) t.0
+      ∙ ap (λ (z : List (Ask H)). hook_count old.board.places + sum_by (λ x. held (is_some x.hook)) z) asks;
   count_is = count;
 })
   where
@@ -118,6 +124,7 @@ stepped_board {H} seen k old new actor now ask ask_now r t d a is turn op leaves
       answered_is = made.answered_is;
       ops_are = made.ops_are;
       hook = made.hook;
+      kept = made.kept;
       count_is = refl;
     })
 

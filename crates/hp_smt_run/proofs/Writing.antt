@@ -1,6 +1,7 @@
 -- A write of control is a turn of the client that writes.
 use Rattle.std.proofs.Common.{◌≡◌, ℕ, ◌+◌, Bool, true, false, cond, not, ◌||◌, eqb, IfSome, Option, Some, None, List, [], ◌∷◌, ◌++◌, length, append-nil, map, refl, ap, sym, ◌∙◌, subst, arith}
 use Rattle.std.specs.Prelude.{slice_get, option_to_list, pos}
+use Rattle.std.specs.List.{sum_by}
 use Rattle.std.proofs.lemmas.Bool.{eqb-true}
 use Rattle.std.proofs.lemmas.List.{length-map, map-append}
 use Rattle.std.proofs.lemmas.Option.{slice_get_within}
@@ -18,10 +19,12 @@ use Rattle.hp_model.specs.Processors.{present, online}
 use Rattle.hp_model.specs.Suspend.{is_disabled, frozen}
 use Rattle.hp_model.proofs.NextStands.{next_stands}
 use Rattle.hp_board.specs.Contents.{Contents}
+use Rattle.hp_board.specs.HookCount.{hook_count}
 use Rattle.hp_board.specs.declared.turn.Turn.{Turn}
 use Rattle.hp_board.specs.declared.turn.Turn.TheVariants.{Made, Answered, NotYet}
 use Rattle.hp_actors.specs.declared.actor.Actor.{Actor}
 use Rattle.hp_actors.specs.Positions.{ops_of}
+use Rattle.hp_actors.specs.Racks.{hooks_with}
 use Rattle.hp_actors.specs.RunInvariant.{HasHook}
 use Rattle.hp_actors.proofs.Playing.{Grows, busy_kept, hook_kept}
 use Rattle.hp_smt.specs.Contents.{Controlled, after_event as board_after}
@@ -33,6 +36,7 @@ use Rattle.hp_smt.specs.declared.mode.Control.{Control}
 use Rattle.hp_smt.specs.declared.setting.Setting.{Setting}
 use Rattle.hp_smt.specs.declared.setting.Write.{Write}
 use Rattle.hp_smt_run.specs.Playing.{setup_of, ops_in, state_of, written_as, turn_at, IsPlaying, IsTurned}
+use Rattle.hp_smt_run.specs.SiblingsOff.{SiblingsAreOff}
 use Rattle.hp_smt_run.specs.declared.run.SmtRun.{SmtRun}
 use Rattle.hp_smt_run.specs.declared.written.Written.{Written}
 use Rattle.hp_smt_run.proofs.Moving.{writer_is}
@@ -147,6 +151,8 @@ pub record IsWritersTurn {H : Type 0} (seat : ℕ) (want : Control) (turn : Turn
   pub seats_are : new.seats ≡ old.seats
   pub want_is : new.want ≡ old.want
   pub denied_are : new.denied.items ≡ old.denied.items
+  pub as_many : hook_count new.smt.board.places ≡ hook_count old.smt.board.places
+  pub off : SiblingsAreOff new.smt.threads (state_of new)
   pub notes : Notes want turn old new
 
 same_written : (w : Written) (want : Control) (a : Answer) (on : List ℕ) → w.want ≡ want → w.answer ≡ a → w.online.items ≡ on →
@@ -177,6 +183,9 @@ pub write_turned : {H : Type 0} (k : ℕ) (want : Control) (turn : Turn) (old ne
     IsWritersTurn k want turn old new → IsTurned k old new
 write_turned {H} k want turn old new p t =
     turned_by k old new p t.seats_are setups state hooks
+    (ap (λ n. n + sum_by hooks_with new.actors.items) t.as_many
+    ∙ ap (λ (z : List (Actor H)). hook_count old.smt.board.places + sum_by hooks_with z) t.actors_are)
+    t.off
   where
     head : Head
     head = old.smt.board.head
@@ -245,13 +254,13 @@ write_turned {H} k want turn old new p t =
 
 -- the client is through: a turn of its seat changes nothing
 pub through_turned : {H : Type 0} (k : ℕ) (old : SmtRun H) → IsPlaying old → k ≡ old.seats + length old.actors.items →
-    slice_get (writes old.want) (length old.written.items) ≡ None → IsTurned k old old
-through_turned k old p is none =
+    slice_get (writes old.want) (length old.written.items) ≡ None → SiblingsAreOff old.smt.threads (state_of old) → IsTurned k old old
+through_turned k old p is none off =
     turned_by k old old p refl refl
     (sym (writer_is old.smt.board.head old.smt.threads (ops_in old) old.want (state_of old) k place
     ∙ ap (λ o. after_writing old.smt.board.head old.smt.threads k o (state_of old))
     (ap (slice_get (writes old.want)) (length-map old.written.items written_as) ∙ none)))
-    p.hooks
+    p.hooks refl off
   where
     place : k ≡ length (present old.smt.board.head) + length (ops_in old)
     place =

@@ -4,6 +4,7 @@ use Rattle.hp_event.specs.declared.op.Op.{Op}
 use Rattle.hp_actors.specs.declared.actor.Actor.{Actor}
 use Rattle.hp_actors.specs.ActorTurns.{asked, answered_after, events_after}
 use Rattle.hp_actors.specs.Positions.{ops_of}
+use Rattle.hp_actors.specs.Racks.{hooks_beside}
 use Rattle.hp_actors.specs.RunInvariant.{HasHook}
 use Rattle.hp_smt.specs.Contents.{Controlled}
 use Rattle.hp_smt.specs.Turns.{MovesBoard, is_denied}
@@ -17,6 +18,7 @@ pub record IsDenied {H : Type 0} (seat : ℕ) (old new : Controlled) (actor now 
   pub answered_is : now.answered ≡ actor.answered + 1
   pub ops_are : ops_of now ≡ ops_of actor
   pub hook : HasHook old.board.events seat now
+  pub kept : hooks_beside new.board now ≡ hooks_beside old.board actor
   pub count_is : count_now ≡ count + 1
 
 pub record IsLetThrough {H : Type 0} (seat : ℕ) (old new : Controlled) (actor now : Actor H) (count count_now : ℕ) : Type 0 where
@@ -27,6 +29,7 @@ pub record IsLetThrough {H : Type 0} (seat : ℕ) (old new : Controlled) (actor 
   pub answered_is : now.answered ≡ answered_after old.board seat actor
   pub ops_are : ops_of now ≡ ops_of actor
   pub hook : HasHook new.board.events seat now
+  pub kept : hooks_beside new.board now ≡ hooks_beside old.board actor
   pub count_is : count_now ≡ count
 
 abbrev pub IsStepped : {H : Type 0} → (seat : ℕ) → (old new : Controlled) → (actor now : Actor H) → (count count_now : ℕ) → Type 0

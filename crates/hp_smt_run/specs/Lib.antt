@@ -1,4 +1,5 @@
 pub mod Reached
 pub mod Asked
+pub mod SiblingsOff
 pub mod Playing
 pub mod Ended

@@ -1,8 +1,11 @@
 //! The end of a run.
 
 ghost use Rattle.std.specs.Prelude.{◌≡◌, true, None, IfOk, OnOk};
+ghost use Rattle.std.specs.List.{sum_by};
+ghost use Rattle.hp_actors.specs.Racks.{HasMore};
 ghost use Rattle.hp_model.specs.MapLock.{operation};
 ghost use Rattle.hp_model.specs.Registrations.{registration};
+ghost use Rattle.hp_script.specs.Playable.{setups_in};
 ghost use Rattle.hp_smt.specs.Run.{is_over};
 ghost use Rattle.hp_smt_run.specs.Ended.{GivesBack};
 ghost use Rattle.hp_smt_run.specs.Playing.{IsPlaying, ops_in, state_of};
@@ -24,7 +27,8 @@ impl<H: Hook> SmtRun<H> {
 
     /// Gives the run up: its journal is answered, and its hooks go behind those of the rack, which stay as they are. First
     /// come those that operations have, by actor and operation, as they came back; and last those of the registered
-    /// states, in rising state, each with the plan of its subsystem and having counted the calls of the journal.
+    /// states, in rising state, each with the plan of its subsystem and having counted the calls of the journal. No hook is
+    /// lost: those of all setups are there.
     ///
     /// The run is over. The rack may be any. Takes memory for places in it; where that is wanting, some hooks are lost:
     /// `NoMemory`. This project's own.
@@ -34,6 +38,7 @@ impl<H: Hook> SmtRun<H> {
         ensures head { IfOk result (λ journal. journal.head ≡ self.smt.board.head) }
         ensures events { IfOk result (λ journal. journal.events ≡ self.smt.board.events) }
         ensures rack { OnOk result (GivesBack H.counts self rack.old rack.new) }
+        ensures all { OnOk result (HasMore rack.old rack.new (sum_by setups_in (ops_in self))) }
     {
         self.smt.sound();
         self.rests();

@@ -21,6 +21,7 @@ impl<H: Hook> SmtRun<H> {
         requires { IsPlaying self.old }
         ensures { OnOk result (IsRounded self.old self.new) }
     {
+        self.smt.sound();
         for seat in 0..self.seats {
             self.serve(seat);
         }
@@ -38,6 +39,7 @@ impl<H: Hook> SmtRun<H> {
     {
         self.smt.sound();
         self.smt.serve(seat);
+        self.smt.sound();
     }
 
     /// One turn of an actor's seat.
@@ -54,7 +56,9 @@ impl<H: Hook> SmtRun<H> {
             &mut self.smt,
             &mut self.denied,
             seat,
-        )
+        )?;
+        self.smt.sound();
+        Ok(())
     }
 
     /// One turn of the seat of the client that writes.
@@ -69,7 +73,9 @@ impl<H: Hook> SmtRun<H> {
             return Ok(());
         };
         let seat = self.seats + self.actors.len() as u32;
-        match self.smt.control(seat, want)? {
+        let turn = self.smt.control(seat, want)?;
+        self.smt.sound();
+        match turn {
             Turn::Answered { answer, .. } => {
                 let online = online_on(alloc, self.smt.board())?;
                 self.written.push(Written {

@@ -2,7 +2,6 @@
 use Rattle.std.proofs.Common.{◌≡◌, Some, length, refl}
 use Rattle.std.specs.Prelude.{slice_get}
 use Rattle.std.proofs.lemmas.Option.{slice_get_read}
-use Rattle.std.proofs.lemmas.Result.{on_ok_weaker}
 use Rattle.hp_smt_run.proofs.Stepped.{allowed_of, no_actor_writes}
 use Rattle.hp_smt_run.proofs.Turned.{actor_turned}
 use Rattle.hp_smt_run.proofs.run.SmtRun.ask.Goals as goal
@@ -29,6 +28,12 @@ returns g c =
     let run = c.args.self.now in
     let at : slice_get run.actors.items c.args.place ≡ Some c.index_mut.result.now =
     slice_get_read run.actors.items (length run.actors.items) c.args.place c.index_mut.result.now refl c.requires.actor c.index_mut.ensures.value in
-    on_ok_weaker c.step.result (λ stepped.
     actor_turned c.args.place run _ c.index_mut.result.now c.step.new.actor c.requires.playing
-    (record { at = at; actors_are = refl; seats_are = refl; want_is = refl; written_are = refl; stepped = stepped })) c.step.ensures
+    (record {
+      at = at;
+      actors_are = refl;
+      seats_are = refl;
+      want_is = refl;
+      written_are = refl;
+      stepped = c.in_ok-step.ensures;
+    }) c.sound.ensures.primaries

@@ -3,8 +3,11 @@ use Rattle.std.proofs.Common.{◌≡◌, ◌+◌, length, refl, ap, ◌∙◌, a
 use Rattle.std.proofs.lemmas.List.{length-map}
 use Rattle.std.proofs.lemmas.Result.{on_ok_weaker}
 use Rattle.hp_actors.specs.Positions.{ops_of}
-use Rattle.hp_smt_run.proofs.Turned.{one_more, whole_round, seats_same, actors_same}
+use Rattle.hp_smt_run.proofs.Turned.{none_yet, one_more, whole_round, seats_same, actors_same}
 use Rattle.hp_smt_run.proofs.run.SmtRun.round.Goals as goal
+
+pub loop-seat-init : goal.loop-seat-init
+loop-seat-init g c = none_yet c.args.self.now c.requires c.sound.ensures.primaries
 
 pub loop-seat-preserved : goal.loop-seat-preserved
 loop-seat-preserved g c =

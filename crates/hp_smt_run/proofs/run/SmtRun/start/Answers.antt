@@ -7,6 +7,7 @@ use Rattle.hp_model.specs.Registrations.{registration}
 use Rattle.hp_model.specs.SetOf.{IsSet}
 use Rattle.hp_model.proofs.Roster.{operation_first, registration_first}
 use Rattle.hp_board.specs.Contents.{Contents}
+use Rattle.hp_board.specs.HookCount.{hook_count}
 use Rattle.hp_smt_run.specs.declared.run.SmtRun.{SmtRun}
 use Rattle.hp_smt_run.proofs.Started.{Started, started_playing, started_state}
 use Rattle.hp_smt_run.proofs.run.SmtRun.start.Goals as goal
@@ -48,6 +49,7 @@ returns-clause-playing g c =
       want_is = refl;
       written_none = c.new.ensures.items;
       denied_none = c.new-2.ensures.items;
+      none_yet = ap (λ (b : Contents). hook_count b.places) c.over-smt.ensures.board ∙ c.in_ok-board.ensures.none;
     } in
     started_playing run head c.args.threads ops c.args.want started
 
@@ -82,5 +84,6 @@ returns-clause-started g c =
       want_is = refl;
       written_none = c.new.ensures.items;
       denied_none = c.new-2.ensures.items;
+      none_yet = ap (λ (b : Contents). hook_count b.places) c.over-smt.ensures.board ∙ c.in_ok-board.ensures.none;
     } in
     started_state run head c.args.threads ops c.args.want started

@@ -22,8 +22,8 @@ returns-in_ok-push-in-Answered g c =
     let run = c.args.self.now in
     let k = run.seats + length run.actors.items in
     let same : c.len.result ≡ length run.actors.items = c.len.ensures ∙ run.actors.ok.0 in
-    let control = subst (λ n. IsControl (run.seats + n) c.in-Some.want run.smt c.control.new.self c.in_ok-answer.field-0) same
-    c.in_ok-answer.ensures.turn in
+    let control = subst (λ n. IsControl (run.seats + n) c.in-Some.want run.smt c.control.new.self c.in_ok-turn.turn) same
+    c.in_ok-turn.ensures.turn in
     write_turned k c.in-Some.want (Answered c.in-Answered.at c.in-Answered.answer) run _ c.requires
     (record {
       seat_is = refl;
@@ -33,6 +33,8 @@ returns-in_ok-push-in-Answered g c =
       seats_are = refl;
       want_is = refl;
       denied_are = refl;
+      as_many = c.in_ok-turn.ensures.hooks;
+      off = c.sound-2.ensures.primaries;
       notes = record {
         written = record { want = c.in-Some.want; answer = c.in-Answered.answer; online = c.in_ok-online-in-Answered.online };
         pushed = c.in_ok-push-in-Answered.ensures.items;
@@ -47,8 +49,8 @@ returns-in-Made g c =
     let run = c.args.self.now in
     let k = run.seats + length run.actors.items in
     let same : c.len.result ≡ length run.actors.items = c.len.ensures ∙ run.actors.ok.0 in
-    let control = subst (λ n. IsControl (run.seats + n) c.in-Some.want run.smt c.control.new.self c.in_ok-answer.field-0) same
-    c.in_ok-answer.ensures.turn in
+    let control = subst (λ n. IsControl (run.seats + n) c.in-Some.want run.smt c.control.new.self c.in_ok-turn.turn) same
+    c.in_ok-turn.ensures.turn in
     write_turned k c.in-Some.want (Made c.in-Made.at) run _ c.requires
     (record {
       seat_is = refl;
@@ -58,6 +60,8 @@ returns-in-Made g c =
       seats_are = refl;
       want_is = refl;
       denied_are = refl;
+      as_many = c.in_ok-turn.ensures.hooks;
+      off = c.sound-2.ensures.primaries;
       notes = refl;
     })
 
@@ -66,8 +70,8 @@ returns-in-NotYet g c =
     let run = c.args.self.now in
     let k = run.seats + length run.actors.items in
     let same : c.len.result ≡ length run.actors.items = c.len.ensures ∙ run.actors.ok.0 in
-    let control = subst (λ n. IsControl (run.seats + n) c.in-Some.want run.smt c.control.new.self c.in_ok-answer.field-0) same
-    c.in_ok-answer.ensures.turn in
+    let control = subst (λ n. IsControl (run.seats + n) c.in-Some.want run.smt c.control.new.self c.in_ok-turn.turn) same
+    c.in_ok-turn.ensures.turn in
     write_turned k c.in-Some.want (NotYet c.in-NotYet.field-0) run _ c.requires
     (record {
       seat_is = refl;
@@ -77,5 +81,7 @@ returns-in-NotYet g c =
       seats_are = refl;
       want_is = refl;
       denied_are = refl;
+      as_many = c.in_ok-turn.ensures.hooks;
+      off = c.sound-2.ensures.primaries;
       notes = refl;
     })
