@@ -3,14 +3,17 @@ use Rattle.std.proofs.Common.{◌≡◌, ℕ, Option, Some, None, IfSome, List, 
 use Rattle.std.specs.Prelude.{if◌then◌else◌}
 use Rattle.std.specs.Str.{bytes_eq}
 use Rattle.hp_command.specs.Options.{AreOptions}
+use Rattle.hp_command.specs.Controlling.{AreControlling}
 use Rattle.hp_command.specs.Counting.{AreCounting}
 use Rattle.hp_command.specs.Commands.{IsCommand, word_of, AreRest}
 use Rattle.hp_command.proofs.Reading.{Word}
 use Rattle.hp_command.specs.declared.command.Command.{Command}
-use Rattle.hp_command.specs.declared.command.Command.TheVariants.{Play, States, Report, Replay, Gen, Bench, Count}
+use Rattle.hp_command.specs.declared.command.Command.TheVariants.{Play, States, Report, Replay, Gen, Bench, Count, Smt}
 use Rattle.hp_command.specs.declared.options.Options.{Options}
+use Rattle.hp_command.specs.declared.controlling.Controlling.{Controlling}
 use Rattle.hp_command.specs.declared.counting.Counting.{Counting}
 use Rattle.hp_command.proofs.OptionLaws.{same_options}
+use Rattle.hp_command.proofs.ControllingLaws.{same_controlling}
 use Rattle.hp_command.proofs.CountingLaws.{same_counting}
 
 pub gen_of : (words rest : List Word) (found : Option Options) → words ≡ codes "gen" ∷ rest → IfSome found (AreOptions rest) →
@@ -27,6 +30,11 @@ pub count_of : (words rest : List Word) (found : Option Counting) → words ≡ 
     IfSome (option_map (λ counting. Count counting) found) (IsCommand words)
 count_of words rest None e h = tt
 count_of words rest (Some counting) e h = record { rest = rest; begins = e; goes_on = h }
+
+pub smt_of : (words rest : List Word) (found : Option Controlling) → words ≡ codes "smt" ∷ rest → IfSome found (AreControlling rest) →
+    IfSome (option_map (λ controlling. Smt controlling) found) (IsCommand words)
+smt_of words rest None e h = tt
+smt_of words rest (Some controlling) e h = record { rest = rest; begins = e; goes_on = h }
 
 -- the words determine the command
 pub record SameWords (x y : Word) (a b : List Word) : Type 0 where
@@ -45,6 +53,7 @@ place Replay = 3
 place (Gen options) = 4
 place (Bench options) = 5
 place (Count counting) = 6
+place (Smt controlling) = 7
 
 place_in : Word → ℕ
 place_in word =
@@ -54,7 +63,8 @@ place_in word =
     else if bytes_eq word (codes "replay") then 3
     else if bytes_eq word (codes "gen") then 4
     else if bytes_eq word (codes "bench") then 5
-    else 6
+    else if bytes_eq word (codes "count") then 6
+    else 7
 
 placed : (command : Command) → place_in (word_of command) ≡ place command
 unfolding place_in
@@ -65,6 +75,7 @@ placed Replay = refl
 placed (Gen options) = refl
 placed (Bench options) = refl
 placed (Count counting) = refl
+placed (Smt controlling) = refl
 
 same_place : (a b : Command) → word_of a ≡ word_of b → place a ≡ place b
 same_place a b e = sym (placed a) ∙ ap place_in e ∙ placed b
@@ -80,6 +91,7 @@ same_of Replay Replay r r' ha hb p e = refl
 same_of (Gen a) (Gen b) r r' ha hb p e = ap (λ (o : Options). Gen o) (same_options_of a b r r' ha hb e)
 same_of (Bench a) (Bench b) r r' ha hb p e = ap (λ (o : Options). Bench o) (same_options_of a b r r' ha hb e)
 same_of (Count a) (Count b) r r' ha hb p e = ap (λ (c : Counting). Count c) (same_counting a b r r' ha hb e)
+same_of (Smt a) (Smt b) r r' ha hb p e = ap (λ (c : Controlling). Smt c) (same_controlling a b r r' ha hb e)
 same_of a b r r' ha hb p e = absurd (omega (arith, p))
 
 pub same_command : (words : List Word) (a b : Command) → IsCommand words a → IsCommand words b → a ≡ b

@@ -1,6 +1,5 @@
 -- The words of a count say one state and one batch.
-use Rattle.std.proofs.Common.{◌≡◌, ℕ, ◌<◌, ◌≤◌, ◌^◌, decimal, List, [], ◌∷◌, sym, ap, ◌∙◌, arith}
-use Rattle.std.specs.Prelude.{slice_index_or}
+use Rattle.std.proofs.Common.{◌≡◌, ℕ, ◌<◌, ◌^◌, decimal, List, [], ◌∷◌, sym, ◌∙◌, arith}
 use Rattle.std.proofs.lemmas.Fmt.{decimal_injective}
 use Rattle.hp_command.specs.Counting.{IsUpTo, SaysUpTo, AreCounting}
 use Rattle.hp_command.specs.declared.counting.Counting.{Counting}
@@ -14,7 +13,7 @@ none_up_to most n word small fits e out m says =
     let same : n ≡ m = decimal_injective n m fits (omega arith) (sym e ∙ says.0) in
     out (rw same says.1)
 
-two_words : (a b c d : Word) → a ∷ b ∷ [] ≡ c ∷ d ∷ [] → (a ≡ c) × (b ≡ d)
+pub two_words : (a b c d : Word) → a ∷ b ∷ [] ≡ c ∷ d ∷ [] → (a ≡ c) × (b ≡ d)
 two_words a b c d e = (cc, cc)
 
 fields_same : (a b : Counting) → a.state ≡ b.state → a.batch ≡ b.batch → a ≡ b

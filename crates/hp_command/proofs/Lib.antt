@@ -1,6 +1,7 @@
 pub mod Reading
 pub mod OptionLaws
 pub mod CountingLaws
+pub mod ControllingLaws
 pub mod CommandLaws
 pub mod ClapWords
 pub mod ClapRules

@@ -1,9 +1,10 @@
 -- The commands, by the words that ask for them. This project's own.
 use Rattle.std.specs.Prelude.{◌≡◌, ◌≢◌, ◌⊎◌, ℕ, List, [], ◌∷◌, codes}
 use Rattle.hp_command.specs.Options.{AreOptions}
+use Rattle.hp_command.specs.Controlling.{AreControlling}
 use Rattle.hp_command.specs.Counting.{AreCounting}
 use Rattle.hp_command.specs.declared.command.Command.{Command}
-use Rattle.hp_command.specs.declared.command.Command.TheVariants.{Play, States, Report, Replay, Gen, Bench, Count}
+use Rattle.hp_command.specs.declared.command.Command.TheVariants.{Play, States, Report, Replay, Gen, Bench, Count, Smt}
 
 -- the first word of a command
 abbrev pub word_of : Command → List ℕ
@@ -14,12 +15,14 @@ word_of Replay = codes "replay"
 word_of (Gen options) = codes "gen"
 word_of (Bench options) = codes "bench"
 word_of (Count counting) = codes "count"
+word_of (Smt controlling) = codes "smt"
 
--- the words behind it: options for a generated script, a state and a batch for a count, and none else
+-- the words behind it: options for a generated script, a state and a batch for a count, threads and a mode for SMT control, and none else
 abbrev pub AreRest : Command → (rest : List (List ℕ)) → Type 0
 AreRest (Gen options) rest = AreOptions rest options
 AreRest (Bench options) rest = AreOptions rest options
 AreRest (Count counting) rest = AreCounting rest counting
+AreRest (Smt controlling) rest = AreControlling rest controlling
 AreRest _ rest = rest ≡ []
 
 -- the words, after the program's name, are those of the command

@@ -1,4 +1,5 @@
 pub mod Options
 pub mod Counting
+pub mod Controlling
 pub mod Commands
 pub mod TextsFound

@@ -3,6 +3,7 @@
 ghost use Rattle.std.specs.Prelude.{IfOk, IfErr, IfSome, IfNone, [], ◌∷◌, map, string_bytes};
 ghost use Rattle.hp_command.specs.Commands.{AreNoCommand, HasOptions, IsCommand, IsNoLoneCommand};
 
+use crate::controlling::{Controlling, controlling_of};
 use crate::counting::{Counting, counting_of};
 use crate::options::{Options, options_of};
 use hp_states::NoMemory;
@@ -25,6 +26,8 @@ pub enum Command {
     Bench(Options),
     /// The counters of a state that went through the journal of a script.
     Count(Counting),
+    /// The text of the journal of a script under SMT control, its summary, and what the writes of control came to.
+    Smt(Controlling),
 }
 
 /// The command that this one word asks for, if it is one without options.
@@ -53,8 +56,8 @@ fn lone(word: &str) -> Option<Command>
 /// in any order and each at most once: `--seed V` as two words or `--seed=V` as one, where V is 0 to
 /// 18446744073709551615, and 1 where it is left out; and `--size V` or `--size=V`, where V is 1 to
 /// 1,000, and 100 where it is left out. `count` is that word and then a state, 1 to 198, and a batch, 1
-/// to 1,000,000. A value is decimal digits, without a sign and without a zero
-/// before others. All other words ask for nothing, `--help` too, and so does a list with a word that
+/// to 1,000,000. `smt` is that word, then how many threads a core has, 2 to 8, and then `off` or `forceoff`. A value is
+/// decimal digits, without a sign and without a zero before others. All other words ask for nothing, `--help` too, and so does a list with a word that
 /// is exactly `--`. This is the project's own.
 ///
 /// Takes memory for the options, which `clap` reads; where there is none: `NoMemory`.
@@ -77,6 +80,9 @@ pub fn command_of(alloc: Global, words: &[String]) -> Result<Option<Command>, No
     }
     if word == "count" {
         return Ok(counting_of(rest).map(Command::Count));
+    }
+    if word == "smt" {
+        return Ok(controlling_of(rest).map(Command::Smt));
     }
     if rest.is_empty() {
         Ok(lone(word))

@@ -1,5 +1,5 @@
 -- The words of the line of counters, one behind the other.
-use Rattle.std.proofs.Common.{◌≡◌, ℕ, suc, ◌+◌, ◌^◌, ◌≤◌, add-one, FitsSigned, w64, to_z, of_z, arith, List, [], ◌∷◌, ◌++◌, map, append_assoc, codes, decimal, refl, ap, sym, ◌∙◌}
+use Rattle.std.proofs.Common.{◌≡◌, ℕ, ◌+◌, ◌^◌, ◌≤◌, add-one, FitsSigned, w64, to_z, of_z, arith, List, [], ◌∷◌, ◌++◌, append_assoc, codes, ap, sym, ◌∙◌}
 use Rattle.std.specs.Prelude.{ℤ, unsigned_abs}
 use Rattle.std.specs.Fmt.{signed_decimal}
 use Rattle.std.specs.Int.{w128}

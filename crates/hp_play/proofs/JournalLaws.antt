@@ -18,7 +18,7 @@ use Rattle.hp_model.proofs.OneNext.{owners}
 use Rattle.hp_model.proofs.ScriptRuns.{run_lawful}
 use Rattle.hp_script.specs.Schedules.{schedule_written}
 use Rattle.hp_script.specs.Script.{Contents}
-use Rattle.hp_play.specs.Played.{IsJournalOf}
+use Rattle.hp_play.specs.Played.{HasLaws, IsJournalOf}
 
 -- no processor walks where nobody holds the map lock
 no_walk : (head : Head) (events : List Event) (cpu : ℕ) → IsLawful head events → operation events ≡ None → walk cpu events ≡ None
@@ -29,25 +29,28 @@ no_walk head events cpu lawful free = go (walk cpu events) refl
     go (Some w) f =
         let p = (owners head events lawful).walk_op cpu w f in absurd (none_some p.0 (sym free ∙ p.1))
 
+-- a lawful journal at rest has the laws
+pub laws_of : (head : Head) (events : List Event) → IsLawful head events → operation events ≡ None → registration events ≡ None →
+    HasLaws head events
+laws_of head events lawful free quiet = record {
+  lawful = lawful;
+  headline = λ front rest is. headline_of_front head front rest (subst (λ es. IsLawful head es) (sym is) lawful);
+  one_walk = λ front rest is. one_walk_of_front head front rest (subst (λ es. IsLawful head es) (sym is) lawful);
+  completes = λ front rest is. completes_of_front head front rest (subst (λ es. IsLawful head es) (sym is) lawful);
+  no_operation = free;
+  no_registration = quiet;
+  keys = λ cpu. keys_at_rest head events cpu lawful (no_walk head events cpu lawful free) quiet;
+}
+
 pub journal_of : (script : Contents) (events : List Event) → IsScript script.head script.actors →
     IsRunBy script.head script.actors (schedule_written script.schedule) events → operation events ≡ None →
     registration events ≡ None → IsJournalOf script events
 journal_of script events plays run free quiet = record {
   run = run;
-  lawful = lawful;
-  headline = λ front rest is.
-      headline_of_front script.head front rest (subst (λ es. IsLawful script.head es) (sym is) lawful);
-  one_walk = λ front rest is.
-      one_walk_of_front script.head front rest (subst (λ es. IsLawful script.head es) (sym is) lawful);
-  completes = λ front rest is.
-      completes_of_front script.head front rest (subst (λ es. IsLawful script.head es) (sym is) lawful);
-  no_operation = free;
-  no_registration = quiet;
-  keys = λ cpu. keys_at_rest script.head events cpu lawful (no_walk script.head events cpu lawful free) quiet;
+  laws =
+      laws_of script.head events
+      (run_lawful script.head script.actors
+      (first_turns (length (present script.head) + length script.actors) (schedule_written script.schedule)) events
+      plays.head_is plays.few_seats run)
+      free quiet;
 }
-  where
-    lawful : IsLawful script.head events
-    lawful =
-        run_lawful script.head script.actors
-        (first_turns (length (present script.head) + length script.actors) (schedule_written script.schedule)) events
-        plays.head_is plays.few_seats run

@@ -1,5 +1,7 @@
 mod JournalLaws
 mod RackLaws
+mod ControlLines
+mod ControlledRuns
 mod Scripts
 mod Parts
 mod Accepting

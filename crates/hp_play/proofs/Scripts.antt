@@ -1,5 +1,5 @@
 -- Why there is no script is why nothing is played; which generated scripts can be.
-use Rattle.std.proofs.Common.{◌≡◌, ℕ, ◌<◌, Option, Bool, true, false, ltb, List, Result, Ok, Err, IfErr, arith, refl, sym, subst}
+use Rattle.std.proofs.Common.{◌≡◌, ℕ, ◌<◌, Option, Bool, true, false, ltb, List, Result, Ok, Err, IfErr, inl, arith, refl, sym, subst}
 use Rattle.std.proofs.lemmas.Bool.{ltb-true, ltb-false}
 use Rattle.hp_command.specs.declared.command.Command.{Command}
 use Rattle.hp_command.specs.declared.command.Command.TheVariants as asks
@@ -16,7 +16,7 @@ use Rattle.hp_script.proofs.GeneratedScripts.{is_read}
 use Rattle.hp_play.specs.declared.stop.Stop.{Stop}
 use Rattle.hp_play.specs.declared.stop.Stop.TheVariants.{BadScript, BadJournal, ReadFault, NoMemory}
 use Rattle.hp_play.specs.Ranges.{AreInRange}
-use Rattle.hp_play.specs.Stops.{HasRanges, Stops, StopsScript, Refuses, stop_of}
+use Rattle.hp_play.specs.Stops.{HasRanges, Stops, StopsScript, StopsControl, Refuses, stop_of}
 
 -- the stop says why there is no script
 pub refuses_stop : (hooks : ℕ) (bytes : List ℕ) (e : NoScript) (stop : Stop) → stop ≡ stop_of e → edge.Refuses hooks bytes e →
@@ -37,6 +37,16 @@ stops_script hooks left now faults faults_now e stop is why = subst (StopsScript
     go no_script.ReadFault why = why
     go no_script.NoMemory why = why
 
+-- so it is of a script that is read to be played under SMT control
+pub stops_control : (hooks : ℕ) (left now : Option (List ℕ)) (faults faults_now : ℕ) (e : NoScript) (stop : Stop) → stop ≡ stop_of e →
+    edge.Stops hooks left now faults faults_now e → StopsControl hooks left now faults faults_now stop
+stops_control hooks left now faults faults_now e stop is why = subst (StopsControl hooks left now faults faults_now) (sym is) (go e why)
+  where
+    go : (e : NoScript) → edge.Stops hooks left now faults faults_now e → StopsControl hooks left now faults faults_now (stop_of e)
+    go (no_script.Refused line) why = (inl why.0, why.1)
+    go no_script.ReadFault why = why
+    go no_script.NoMemory why = why
+
 -- the words of a command have its options in their ranges
 pub ranges : (words : List (List ℕ)) (command : Command) → IsCommand words command → HasRanges command
 ranges words (asks.Gen options) is =
@@ -44,6 +54,7 @@ ranges words (asks.Gen options) is =
 ranges words (asks.Bench options) is =
     (is.goes_on.said.seed_fits, is.goes_on.said.size_within.0, is.goes_on.said.size_within.1)
 ranges words (asks.Count counting) is = (is.goes_on.state_within, is.goes_on.batch_within)
+ranges words (asks.Smt controlling) is = is.goes_on.within
 ranges words command is = tt
 
 -- a generated script is refused for want of hooks alone

@@ -5,12 +5,13 @@ use Rattle.hp_io.specs.declared.sink.Sink as Sink
 use Rattle.hp_hook.specs.declared.hook.Hook as Hook
 use Rattle.hp_hook.specs.declared.rack.Rack.{Rack}
 use Rattle.hp_command.specs.declared.command.Command.{Command}
+use Rattle.hp_command.specs.declared.controlling.Controlling.{Controlling}
 use Rattle.hp_edge.specs.declared.status.TheConstants.{DONE, NO_MEMORY}
 use Rattle.hp_play.specs.declared.output.Output.{Output}
 use Rattle.hp_play.specs.declared.stop.Stop.{Stop}
-use Rattle.hp_play.specs.Main.{Answer, Asked, HasInput, IsDoneBy, IsScriptPlayed, IsReplayed, Writes, WritesPart}
+use Rattle.hp_play.specs.Main.{Answer, Asked, HasInput, IsDoneBy, IsScriptPlayed, IsScriptControlled, IsReplayed, Writes, WritesPart}
 use Rattle.hp_play.specs.Racks.{Racks, Stays, racks_of}
-use Rattle.hp_play.specs.Stops.{Reads, Stops, StopsScript, StopsJournal}
+use Rattle.hp_play.specs.Stops.{Reads, Stops, StopsScript, StopsControl, StopsJournal}
 
 -- ---- the whole program
 
@@ -88,11 +89,18 @@ abbrev pub Plays :
 Plays of from hook source source_now rack rack_now =
     λ text. IsScriptPlayed of (racks_of hook rack rack_now) (from.left source) (from.left source_now) text.items
 
+-- what is written of it under SMT control
+abbrev pub Controls :
+    {S H Z : Type 0} → Controlling → Source.Ghosts S → Hook.Ghosts H → (source source_now : S) → (rack rack_now : Rack H) →
+    (text : Vec ℕ Z) → Type 0
+Controls controlling from hook source source_now rack rack_now =
+    λ text. IsScriptControlled controlling (racks_of hook rack rack_now) (from.left source) (from.left source_now) text.items
+
 -- what is written of the journal that the source holds
 abbrev pub Replays : {S Z : Type 0} → Source.Ghosts S → (source source_now : S) → (text : Vec ℕ Z) → Type 0
 Replays from source source_now = λ text. IsReplayed (from.left source) (from.left source_now) text.items
 
--- why nothing is: of any command, of one that plays a script, and of one that reads a journal
+-- why nothing is: of any command, of one that plays a script, as it says or under SMT control, and of one that reads a journal
 abbrev pub StopsAt :
     {S H : Type 0} → Command → Source.Ghosts S → (source source_now : S) → (rack : Rack H) → Stop → Type 0
 StopsAt command from source source_now rack =
@@ -101,6 +109,10 @@ StopsAt command from source source_now rack =
 abbrev pub StopsScriptAt : {S H : Type 0} → Source.Ghosts S → (source source_now : S) → (rack : Rack H) → Stop → Type 0
 StopsScriptAt from source source_now rack =
     StopsScript (length rack.hooks.items) (from.left source) (from.left source_now) (from.faults source) (from.faults source_now)
+
+abbrev pub StopsControlAt : {S H : Type 0} → Source.Ghosts S → (source source_now : S) → (rack : Rack H) → Stop → Type 0
+StopsControlAt from source source_now rack =
+    StopsControl (length rack.hooks.items) (from.left source) (from.left source_now) (from.faults source) (from.faults source_now)
 
 abbrev pub StopsJournalAt : {S : Type 0} → Source.Ghosts S → (source source_now : S) → Stop → Type 0
 StopsJournalAt from source source_now =

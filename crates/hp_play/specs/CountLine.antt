@@ -1,5 +1,5 @@
 -- The line of counters that went through a journal. This project's own.
-use Rattle.std.specs.Prelude.{ℕ, List, [], ◌∷◌, map, codes, decimal}
+use Rattle.std.specs.Prelude.{ℕ, List, ◌∷◌, map, codes, decimal}
 use Rattle.std.specs.Fmt.{signed_decimal}
 use Rattle.hp_event.specs.declared.head.Head.{Head}
 use Rattle.hp_event.specs.declared.event.Event.{Event}

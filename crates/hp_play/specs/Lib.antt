@@ -3,6 +3,8 @@ pub mod Ranges
 pub mod Outputs
 pub mod Racks
 pub mod Played
+pub mod ControlText
+pub mod Controlled
 pub mod Main
 pub mod Stops
 pub mod Calls

@@ -1,15 +1,16 @@
 -- What the program answers: a status, and what it writes. This project's own.
-use Rattle.std.specs.Prelude.{◌≡◌, ℕ, ◌<◌, ◌≤◌, Option, Some, List, [], ◌∷◌, ◌++◌, take, length, codes}
+use Rattle.std.specs.Prelude.{◌≡◌, ◌⊎◌, ℕ, ◌<◌, ◌≤◌, Option, Some, List, [], ◌∷◌, ◌++◌, take, length, codes}
 use Rattle.std.specs.Io.KnownBytes.{append_known}
 use Rattle.hp_states.specs.declared.limits.TheConstants.{MAX_SCRIPT_BYTES, MAX_JOURNAL_BYTES}
 use Rattle.hp_event.specs.declared.event.Event.{Event}
 use Rattle.hp_event.specs.declared.head.Head.{Head}
 use Rattle.hp_command.specs.declared.command.Command.{Command}
+use Rattle.hp_command.specs.declared.controlling.Controlling.{Controlling}
 use Rattle.hp_command.specs.declared.command.Command.TheVariants as asks
 use Rattle.hp_command.specs.Commands.{IsCommand}
 use Rattle.hp_edge.specs.Reading.{WasRead}
 use Rattle.hp_edge.specs.Refusals.{script_error_line, journal_error_line}
-use Rattle.hp_edge.specs.Scripts.{counted_hooks, HoldsScript, IsBadScript}
+use Rattle.hp_edge.specs.Scripts.{counted_hooks, HoldsScript, HasReadScript, IsBadScript}
 use Rattle.hp_model.specs.Summary.{summary}
 use Rattle.hp_replay.specs.declared.error.ReplayError.TheVariants.{Bad as BadJournal}
 use Rattle.hp_replay.specs.declared.error.ReplayKind.{ReplayKind}
@@ -19,13 +20,20 @@ use Rattle.hp_script.specs.declared.error.ParseError.TheVariants.{Bad as BadScri
 use Rattle.hp_script.specs.declared.error.ScriptKind.{ScriptKind}
 use Rattle.hp_script.specs.Generated.{generated}
 use Rattle.hp_script.specs.Judged.{IsRefused}
+use Rattle.hp_script.specs.Script.{Contents}
 use Rattle.hp_play.specs.declared.output.Output.{Output}
 use Rattle.hp_play.specs.declared.output.Output.TheVariants as writes
+use Rattle.hp_play.specs.Controlled.{HasSeatMore, WasControlled}
 use Rattle.hp_play.specs.Played.{IsPlayed}
 use Rattle.hp_play.specs.Racks.{Racks, Stays}
 
 abbrev pub usage_line : List ℕ
-usage_line = codes "usage: hp play|replay|states|report|gen|bench|count [--seed N] [--size N] [STATE BATCH]" ++ 10 ∷ []
+usage_line =
+    codes "usage: hp play|replay|states|report|gen|bench|smt|count [--seed N] [--size N] [T MODE] [STATE BATCH]" ++ 10 ∷ []
+
+-- what answers a script that leaves no seat for the client that writes to SMT control
+abbrev pub no_seat_line : List ℕ
+no_seat_line = codes "error: no seat is left" ++ 10 ∷ []
 
 -- ---- what is done
 
@@ -35,6 +43,13 @@ pub record IsScriptPlayed {H : Type 0} (of : Output) (rack : Racks H) (left now 
     pub bytes : List ℕ
     pub read : WasRead MAX_SCRIPT_BYTES left now bytes
     pub played : IsPlayed of rack bytes written
+
+-- so it was under SMT control
+pub record IsScriptControlled {H : Type 0} (c : Controlling) (rack : Racks H) (left now : Option (List ℕ)) (written : List ℕ) : Type 0
+  where
+    pub script : Contents
+    pub read : HasReadScript (length rack.old) left now script
+    pub played : WasControlled c script rack written
 
 -- the source holds the text of a lawful journal, with or without its summary, which is written
 pub record IsReplayed (left now : Option (List ℕ)) (written : List ℕ) : Type 0 where
@@ -58,6 +73,7 @@ IsDoneBy asks.Replay rack left now written = IsReplayed left now written
 IsDoneBy (asks.Gen options) rack left now written = (now ≡ left) × (written ≡ generated options.seed options.size)
 IsDoneBy (asks.Bench options) rack left now written = IsBenchPlayed options.seed options.size rack left now written
 IsDoneBy (asks.Count counting) rack left now written = IsScriptPlayed (writes.Count counting) rack left now written
+IsDoneBy (asks.Smt controlling) rack left now written = IsScriptControlled controlling rack left now written
 
 -- a command that plays no script
 abbrev pub PlaysNothing : Command → Type 0
@@ -75,6 +91,11 @@ pub record HoldsJournal (left : Option (List ℕ)) : Type 0 where
   pub held : left ≡ Some bytes
   pub is_text : IsReplay bytes (accepted head events)
 
+-- the source holds a script that leaves a seat for the client that writes to SMT control
+pub record HoldsControlled (hooks : ℕ) (left : Option (List ℕ)) : Type 0 where
+  pub holds : HoldsScript hooks left
+  pub seat : HasSeatMore holds.script
+
 -- what a command needs: the input that it reads, or of `bench` the hooks for the twelve setups of a generated script
 abbrev pub HasInput : Command → (hooks : ℕ) (left : Option (List ℕ)) → Type 0
 HasInput asks.Play hooks left = HoldsScript hooks left
@@ -84,6 +105,7 @@ HasInput asks.Replay hooks left = HoldsJournal left
 HasInput (asks.Gen options) hooks left = Unit {0}
 HasInput (asks.Bench options) hooks left = 12 ≤ hooks
 HasInput (asks.Count counting) hooks left = HoldsScript hooks left
+HasInput (asks.Smt controlling) hooks left = HoldsControlled hooks left
 
 -- ---- what is refused
 
@@ -96,12 +118,23 @@ pub record IsBadBench (seed size hooks : ℕ) (left now : Option (List ℕ)) (wr
   pub few_hooks : hooks < 12
   pub written_is : written ≡ script_error_line (BadScript line kind)
 
+-- the script that was read leaves no seat for the client that writes to SMT control
+pub record IsUnseated (hooks : ℕ) (left now : Option (List ℕ)) (written : List ℕ) : Type 0 where
+  pub script : Contents
+  pub read : HasReadScript hooks left now script
+  pub no_seat : HasSeatMore script → ⊥
+  pub written_is : written ≡ no_seat_line
+
+abbrev pub IsBadControl : (hooks : ℕ) (left now : Option (List ℕ)) (written : List ℕ) → Type 0
+IsBadControl hooks left now written = IsBadScript hooks left now written ⊎ IsUnseated hooks left now written
+
 abbrev pub IsRefusedBy : Command → (hooks : ℕ) (left now : Option (List ℕ)) (written : List ℕ) → Type 0
 IsRefusedBy asks.Play hooks left now written = IsBadScript hooks left now written
 IsRefusedBy asks.States hooks left now written = IsBadScript hooks left now written
 IsRefusedBy asks.Report hooks left now written = IsBadScript hooks left now written
 IsRefusedBy (asks.Bench options) hooks left now written = IsBadBench options.seed options.size hooks left now written
 IsRefusedBy (asks.Count counting) hooks left now written = IsBadScript hooks left now written
+IsRefusedBy (asks.Smt controlling) hooks left now written = IsBadControl hooks left now written
 IsRefusedBy _ hooks left now written = ⊥
 
 -- the source holds no journal: this line is the first that can't stand, for this cause

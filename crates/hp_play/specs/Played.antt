@@ -6,6 +6,7 @@ use Rattle.hp_actors.specs.Positions.{Position}
 use Rattle.hp_actors.specs.Racks.{Takes}
 use Rattle.hp_edge.specs.Scripts.{counted_hooks}
 use Rattle.hp_event.specs.declared.event.Event.{Event}
+use Rattle.hp_event.specs.declared.head.Head.{Head}
 use Rattle.hp_hook.specs.Counted.{Counts}
 use Rattle.hp_model.specs.Lawful.{IsLawful}
 use Rattle.hp_model.specs.Headline.{Headline}
@@ -25,18 +26,22 @@ use Rattle.hp_play.specs.declared.output.Output.{Output}
 use Rattle.hp_play.specs.Outputs.{output}
 use Rattle.hp_play.specs.Racks.{Racks, IsRackAfter}
 
--- It is the run of the script's actors by its schedule; each event stands after those before it; every front of it has the headline, and
+-- What is so of every journal that was played: each event stands after those before it; every front of it has the headline, and
 -- completes, and but in an upmany at most one processor walks after it; a walk leaves those that haven't walked beside it as they were;
 -- nothing is in flight at its end, and the keys that its summary shows of a processor are those registered at or below its state.
-pub record IsJournalOf (script : Contents) (events : List Event) : Type 0 where
-  pub run : IsRunBy script.head script.actors (schedule_written script.schedule) events
-  pub lawful : IsLawful script.head events
-  pub headline : (front rest : List Event) → front ++ rest ≡ events → Headline script.head front
+pub record HasLaws (head : Head) (events : List Event) : Type 0 where
+  pub lawful : IsLawful head events
+  pub headline : (front rest : List Event) → front ++ rest ≡ events → Headline head front
   pub one_walk : (front rest : List Event) → front ++ rest ≡ events → WalksAlone front
-  pub completes : (front rest : List Event) → front ++ rest ≡ events → Completes script.head front
+  pub completes : (front rest : List Event) → front ++ rest ≡ events → Completes head front
   pub no_operation : operation events ≡ None
   pub no_registration : registration events ≡ None
-  pub keys : (cpu : ℕ) → AreKeysAtRest script.head cpu events (keys_in_force cpu events)
+  pub keys : (cpu : ℕ) → AreKeysAtRest head cpu events (keys_in_force cpu events)
+
+-- it is the run of the script's actors by its schedule, with these laws
+pub record IsJournalOf (script : Contents) (events : List Event) : Type 0 where
+  pub run : IsRunBy script.head script.actors (schedule_written script.schedule) events
+  pub laws : HasLaws script.head events
 
 -- A script's run at its end, with the rack before the run and now: its journal is the script's, every operation is answered, and each
 -- setup took a hook, in turn the last of the rack. Turns of the run's seats made of these the hooks that operations have at the end.

@@ -49,10 +49,10 @@ pub record CameBack (script : Contents) (events : List Event) (taken back : List
   pub journal : last.progress.events ≡ events
   pub back_are : back ≡ hooks_there last.hooks
 
--- After a script was played with hooks of the rack: those that no setup took stand first, as they were. Behind them are as many as the
--- setups took: first those that came back, by actor and operation, and last those of the registered states, in rising number, each with
--- its plan and counts as the journal says of its state.
-pub record IsRackAfter {H : Type 0} (script : Contents) (events : List Event) (rack : Racks H) : Type 0 where
+-- After a run with hooks of the rack: those that no setup took stand first, as they were. Behind them are as many as the setups took:
+-- first those that came back, by actor and operation, and last those of the registered states, in rising number, each with its plan and
+-- counts as the journal says of its state.
+pub record IsRefilled {H : Type 0} (script : Contents) (events : List Event) (rack : Racks H) : Type 0 where
   pub untaken : List H
   pub taken : List H
   pub back : List H
@@ -61,5 +61,9 @@ pub record IsRackAfter {H : Type 0} (script : Contents) (events : List Event) (r
   pub new_is : rack.new ≡ untaken ++ (back ++ last)
   pub by_setups : length taken ≡ sum_by setups_in script.actors
   pub none_lost : length back + length last ≡ length taken
-  pub back_are : CameBack script events (map rack.seen taken) (map rack.seen back)
   pub last_are : map rack.seen last ≡ registered_hooks script.head events
+
+-- after a script was played it is also known of each hook that came back what turns made of it
+pub record IsRackAfter {H : Type 0} (script : Contents) (events : List Event) (rack : Racks H) : Type 0 where
+  pub refilled : IsRefilled script events rack
+  pub back_are : CameBack script events (map rack.seen refilled.taken) (map rack.seen refilled.back)

@@ -1,11 +1,12 @@
 -- Why no output is written, and what is so then. This project's own.
-use Rattle.std.specs.Prelude.{◌≡◌, ℕ, ◌+◌, ◌^◌, ◌<◌, ◌≤◌, Option, List}
+use Rattle.std.specs.Prelude.{◌≡◌, ℕ, ◌+◌, Option, List}
 use Rattle.hp_command.specs.declared.command.Command.{Command}
 use Rattle.hp_command.specs.declared.command.Command.TheVariants as asks
+use Rattle.hp_command.specs.Controlling.{AreThreads}
 use Rattle.hp_play.specs.declared.stop.Stop.{Stop}
 use Rattle.hp_play.specs.declared.stop.Stop.TheVariants.{BadScript, BadJournal, ReadFault, NoMemory}
 use Rattle.hp_play.specs.Ranges.{AreInRange, CanBeCounted}
-use Rattle.hp_play.specs.Main.{IsBadJournal, IsRefusedBy}
+use Rattle.hp_play.specs.Main.{IsBadJournal, IsBadControl, IsRefusedBy}
 use Rattle.hp_edge.specs.declared.script.NoScript.{NoScript}
 use Rattle.hp_edge.specs.declared.script.NoScript.TheVariants as no_script
 use Rattle.hp_edge.specs.Scripts.{IsBad, IsBadScript}
@@ -15,6 +16,7 @@ abbrev pub HasRanges : Command → Type 0
 HasRanges (asks.Gen options) = AreInRange options.seed options.size
 HasRanges (asks.Bench options) = AreInRange options.seed options.size
 HasRanges (asks.Count counting) = CanBeCounted counting
+HasRanges (asks.Smt controlling) = AreThreads controlling.threads
 HasRanges _ = Unit {0}
 
 -- a command that reads
@@ -24,6 +26,7 @@ Reads asks.States = Unit {0}
 Reads asks.Report = Unit {0}
 Reads asks.Replay = Unit {0}
 Reads (asks.Count counting) = Unit {0}
+Reads (asks.Smt controlling) = Unit {0}
 Reads _ = ⊥
 
 -- a refusal has its cause in what was read or in the rack, a fault in the count of the source
@@ -41,6 +44,13 @@ StopsScript hooks left now faults faults_now (BadScript line) = IsBadScript hook
 StopsScript hooks left now faults faults_now (BadJournal line) = ⊥
 StopsScript hooks left now faults faults_now ReadFault = faults_now ≡ faults + 1
 StopsScript hooks left now faults faults_now NoMemory = faults_now ≡ faults
+
+-- the same of a script that is read to be played under SMT control
+abbrev pub StopsControl : (hooks : ℕ) (left now : Option (List ℕ)) (faults faults_now : ℕ) → Stop → Type 0
+StopsControl hooks left now faults faults_now (BadScript line) = IsBadControl hooks left now line.items × (faults_now ≡ faults)
+StopsControl hooks left now faults faults_now (BadJournal line) = ⊥
+StopsControl hooks left now faults faults_now ReadFault = faults_now ≡ faults + 1
+StopsControl hooks left now faults faults_now NoMemory = faults_now ≡ faults
 
 -- the same of a journal that is read
 abbrev pub StopsJournal : (left now : Option (List ℕ)) (faults faults_now : ℕ) → Stop → Type 0

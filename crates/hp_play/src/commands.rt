@@ -6,12 +6,15 @@ ghost use Rattle.hp_play.specs.Played.{IsPlayed};
 ghost use Rattle.hp_play.specs.Racks.{racks_of, StaysUnlessWanting};
 ghost use Rattle.hp_play.specs.Ranges.{CanBeWritten};
 ghost use Rattle.hp_play.specs.Stops.{HasRanges, Refuses};
-ghost use Rattle.hp_play.specs.Calls.{Does, StopsAt, Plays, StopsScriptAt, Replays, StopsJournalAt};
+ghost use Rattle.hp_command.specs.Controlling.{AreThreads};
+ghost use Rattle.hp_play.specs.Calls.{Does, StopsAt, Plays, StopsScriptAt, Controls, StopsControlAt};
+ghost use Rattle.hp_play.specs.Calls.{Replays, StopsJournalAt};
 
+use crate::controlled::{has_seat_more, no_seat_line, text_controlled};
 use crate::output::Output;
 use crate::play::text_played;
 use crate::stop::Stop;
-use hp_command::Command;
+use hp_command::{Command, Controlling};
 use hp_edge::{journal_error_line, read_input, read_script, script_of};
 use hp_hook::{Hook, Rack};
 use hp_io::Source;
@@ -41,6 +44,7 @@ pub fn output_of<S: Source, H: Hook>(
         Command::Report => script_played(alloc, Output::Report, source, rack),
         Command::Replay => replayed(alloc, source),
         Command::Count(counting) => script_played(alloc, Output::Count(counting), source, rack),
+        Command::Smt(controlling) => script_controlled(alloc, controlling, source, rack),
         Command::Gen(options) => Ok(generate(alloc, options.seed, options.size)?),
         Command::Bench(options) => {
             let script = generate(alloc, options.seed, options.size)?;
@@ -65,6 +69,31 @@ fn script_played<S: Source, H: Hook>(
 {
     match read_script(alloc, source, rack.hooks.len()) {
         Ok(script) => Ok(text_played(alloc, of, &script, rack)?),
+        Err(error) => Err(Stop::of_script(error)),
+    }
+}
+
+/// What is written of the script that a source holds, under SMT control.
+fn script_controlled<S: Source, H: Hook>(
+    alloc: Global,
+    controlling: Controlling,
+    source: &mut S,
+    rack: &mut Rack<H>,
+) -> Result<Vec<u8>, Stop>
+    requires faults { S.faults source.old < u64.MAX }
+    requires threads { AreThreads controlling.threads }
+    ensures controlled { IfOk result (Controls controlling S.Source H.Hook source.old source.new rack.old rack.new) }
+    ensures faults { OnOk result (S.faults source.new ≡ S.faults source.old) }
+    ensures stop { IfErr result (StopsControlAt S.Source source.old source.new rack.old) }
+    ensures rack { IfErr result (StaysUnlessWanting rack.old rack.new) }
+{
+    match read_script(alloc, source, rack.hooks.len()) {
+        Ok(script) => {
+            if !has_seat_more(&script) {
+                return Err(Stop::BadScript(no_seat_line(alloc)?));
+            }
+            Ok(text_controlled(alloc, controlling, &script, rack)?)
+        }
         Err(error) => Err(Stop::of_script(error)),
     }
 }

@@ -10,6 +10,8 @@
 #[cfg(test)]
 mod caller;
 #[cfg(test)]
+mod controlled;
+#[cfg(test)]
 mod counts;
 #[cfg(test)]
 mod files;

@@ -54,7 +54,7 @@ fn inputs_that_are_refused(rt: HostRuntime) -> Result<(), Fail> {
 }
 
 const USAGE: &str =
-    "usage: hp play|replay|states|report|gen|bench|count [--seed N] [--size N] [STATE BATCH]\n";
+    "usage: hp play|replay|states|report|gen|bench|smt|count [--seed N] [--size N] [T MODE] [STATE BATCH]\n";
 
 const WORDS: &[Row] = &[
     Row {
@@ -165,6 +165,41 @@ const WORDS: &[Row] = &[
     Row {
         name: "the word --help",
         words: &["--help"],
+        input: "",
+        status: 1,
+        output: USAGE,
+    },
+    Row {
+        name: "one thread to a core",
+        words: &["smt", "1", "off"],
+        input: "",
+        status: 1,
+        output: USAGE,
+    },
+    Row {
+        name: "nine threads to a core",
+        words: &["smt", "9", "off"],
+        input: "",
+        status: 1,
+        output: USAGE,
+    },
+    Row {
+        name: "a write of on",
+        words: &["smt", "2", "on"],
+        input: "",
+        status: 1,
+        output: USAGE,
+    },
+    Row {
+        name: "threads without a mode",
+        words: &["smt", "2"],
+        input: "",
+        status: 1,
+        output: USAGE,
+    },
+    Row {
+        name: "threads with a zero before them",
+        words: &["smt", "02", "off"],
         input: "",
         status: 1,
         output: USAGE,

@@ -13,6 +13,7 @@ mod lines;
 mod marked;
 mod registrations;
 mod sample;
+mod siblings;
 mod suspends;
 mod twelve;
 mod walks;
@@ -23,6 +24,7 @@ pub use lines::first_difference;
 pub use marked::Marked;
 pub use registrations::{FAILED_SETUP, INSTANCE_FAULT, PRESUMED};
 pub use sample::Sample;
+pub use siblings::{AN_OFF_FAILS, SIBLINGS_GO_OFF, SIBLINGS_STAY_OFF};
 pub use suspends::{FREEZE_WITH_SETUP_BETWEEN, WAKEUP_STOPS_FREEZE};
 pub use twelve::TWELVE_SUBSYSTEMS;
 pub use walks::{

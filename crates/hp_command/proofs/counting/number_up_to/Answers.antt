@@ -1,6 +1,6 @@
 -- A number out of range isn't said by a word that says it.
-use Rattle.std.proofs.Common.{◌≡◌, ◌<◌, ◌≤◌, arith}
-use Rattle.hp_command.specs.Counting.{IsUpTo, SaysUpTo}
+use Rattle.std.proofs.Common.{arith}
+use Rattle.hp_command.specs.Counting.{IsUpTo}
 use Rattle.hp_command.proofs.CountingLaws.{none_up_to}
 use Rattle.hp_command.proofs.counting.number_up_to.Goals as goal
 use Rattle.hp_command.proofs.counting.number_up_to.Goals.{then-number-eq0-via-then-number-eq0, then-number-eq0-via-else-number-eq0+then-number-from}

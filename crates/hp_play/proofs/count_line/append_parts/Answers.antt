@@ -1,4 +1,4 @@
-use Rattle.std.proofs.Common.{◌≡◌, ◌+◌, ◌++◌, ◌∷◌, to_z, of_z, ap, ◌∙◌}
+use Rattle.std.proofs.Common.{◌+◌, to_z, of_z, ap, ◌∙◌}
 use Rattle.std.specs.Fmt.{signed_decimal}
 use Rattle.std.specs.Int.{w128}
 use Rattle.hp_model.specs.Words.{spaced}

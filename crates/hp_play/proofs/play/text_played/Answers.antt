@@ -8,10 +8,10 @@ use Rattle.hp_play.proofs.play.text_played.Goals as goal
 pub text_of-requires-clause-lawful : goal.text_of-requires-clause-lawful
 text_of-requires-clause-lawful g c =
     let is = c.in_ok-run.ensures in
-    rw (c.board.ensures.head ∙ is.head_is, c.board.ensures.events) is.journal.lawful
+    rw (c.board.ensures.head ∙ is.head_is, c.board.ensures.events) is.journal.laws.lawful
 
 pub text_of-requires-clause-quiet : goal.text_of-requires-clause-quiet
-text_of-requires-clause-quiet g c = ap registration c.board.ensures.events ∙ c.in_ok-run.ensures.journal.no_registration
+text_of-requires-clause-quiet g c = ap registration c.board.ensures.events ∙ c.in_ok-run.ensures.journal.laws.no_registration
 
 pub returns : goal.returns
 returns g c =

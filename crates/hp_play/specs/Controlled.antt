@@ -1,0 +1,42 @@
+-- What is so of the run of a script under SMT control, of what is written of it, and of the rack after it. This project's own.
+use Rattle.std.specs.Prelude.{◌≡◌, ◌+◌, ◌≤◌, Bool, true, false, ℕ, List, ◌++◌, length}
+use Rattle.hp_command.specs.declared.controlling.Controlling.{Controlling}
+use Rattle.hp_model.specs.JournalText.{journal_text}
+use Rattle.hp_model.specs.Processors.{present}
+use Rattle.hp_model.specs.Summary.{summary}
+use Rattle.hp_script.specs.Script.{Contents}
+use Rattle.hp_smt.specs.Run.{SmtState, IsSmtRun}
+use Rattle.hp_smt.specs.declared.mode.Control.{Control}
+use Rattle.hp_smt.specs.declared.mode.Control.TheVariants.{Off, ForceOff}
+use Rattle.hp_smt_run.specs.SiblingsOff.{SiblingsStayOffFor}
+use Rattle.hp_states.specs.declared.limits.TheConstants.{MAX_SEATS}
+use Rattle.hp_play.specs.ControlText.{control_text}
+use Rattle.hp_play.specs.Played.{HasLaws}
+use Rattle.hp_play.specs.Racks.{Racks, IsRefilled}
+
+-- the write before that of On
+abbrev pub control_of : (force : Bool) → Control
+control_of false = Off
+control_of true = ForceOff
+
+-- beside the threads and the actors there is a seat for the client that writes
+abbrev pub HasSeatMore : Contents → Type 0
+HasSeatMore script = length (present script.head) + length script.actors + 1 ≤ MAX_SEATS
+
+-- It is the run of the script's actors beside that client. Before it and after each of its turns, while the mode is Off or ForceOff,
+-- every processor that is online is a primary; its journal has the laws of every journal.
+pub record IsRunUnder (c : Controlling) (script : Contents) (at : SmtState) : Type 0 where
+  pub run : IsSmtRun script.head c.threads script.actors (control_of c.force) at
+  pub off : SiblingsStayOffFor script.head c.threads script.actors (control_of c.force) run.rounds
+  pub laws : HasLaws script.head at.run.events
+
+abbrev pub controlled_text : Contents → SmtState → List ℕ
+controlled_text script at =
+    (journal_text script.head at.run.events ++ summary script.head at.run.events) ++ control_text at.written at.denied
+
+-- there is one such run of the script, of which the text is written, and by which the rack is
+pub record WasControlled {H : Type 0} (c : Controlling) (script : Contents) (rack : Racks H) (written : List ℕ) : Type 0 where
+  pub at : SmtState
+  pub under : IsRunUnder c script at
+  pub rack_is : IsRefilled script at.run.events rack
+  pub written_is : written ≡ controlled_text script at
