@@ -41,10 +41,12 @@ _hp() {
         return
     fi
     case ${#words[@]}:${words[0]-} in
-        0:) _hp_offer "play states report replay count gen bench" ;;
+        0:) _hp_offer "play states report replay count smt gen bench" ;;
         *:gen | *:bench) _hp_options ;;
         1:count) _hp_offer "$(echo {1..198})" ;;
         2:count) _hp_offer "1 10 100 1000 10000 100000 1000000" ;;
+        1:smt) _hp_offer "$(echo {2..8})" ;;
+        2:smt) _hp_offer "off forceoff" ;;
     esac
 }
 complete -F _hp hp
