@@ -1,0 +1,21 @@
+//! The tests of hp_smt and hp_smt_run: that siblings go off and come back, what is denied, what a write of control waits for and
+//! answers, and what is recorded.
+//!
+//! They use both as any crate does. They stand apart because a crate with tests is proved twice, once with them and
+//! once without.
+#![tactic(auto)]
+
+#[cfg(test)]
+mod denied;
+#[cfg(test)]
+mod machine;
+#[cfg(test)]
+mod off;
+#[cfg(test)]
+mod played;
+#[cfg(test)]
+mod runs;
+#[cfg(test)]
+mod turned;
+#[cfg(test)]
+mod writers;
