@@ -41,7 +41,7 @@ _hp() {
         return
     fi
     case ${#words[@]}:${words[0]-} in
-        0:) _hp_offer "play states report replay count smt gen bench" ;;
+        0:) _hp_offer "play states report replay migrate count smt gen bench" ;;
         *:gen | *:bench) _hp_options ;;
         1:count) _hp_offer "$(echo {1..198})" ;;
         2:count) _hp_offer "1 10 100 1000 10000 100000 1000000" ;;

@@ -18,6 +18,7 @@ complete -c hp -n '__hp_stands_behind 1' -a report -d 'a script: its summary as 
 complete -c hp -n '__hp_stands_behind 1' -a count -d 'a script: the counters of a state'
 complete -c hp -n '__hp_stands_behind 1' -a smt -d 'a script: its journal under SMT control'
 complete -c hp -n '__hp_stands_behind 1' -a replay -d 'a journal: checked, and its summary'
+complete -c hp -n '__hp_stands_behind 1' -a migrate -d 'a journal of version 1: in version 2, and its summary'
 complete -c hp -n '__hp_stands_behind 1' -a gen -d 'a generated script'
 complete -c hp -n '__hp_stands_behind 1' -a bench -d 'the summary of a generated script'
 complete -c hp -n '__hp_stands_behind 2; and __fish_seen_subcommand_from count' -a '(seq 1 198)' -d state

@@ -9,6 +9,7 @@ pub mod FlightEntries
 pub mod FlightsMore
 pub mod TurnsMore
 pub mod OnlineCount
+pub mod ClientCount
 pub mod TableMore
 pub mod TableBegins
 pub mod TableEnds

@@ -4,6 +4,8 @@ use Rattle.std.specs.Prelude.{replicate, map, fold, slice_set, slice_index}
 use Rattle.std.proofs.lemmas.Bool.{ltb-true, ltb-false, ne_eqb}
 use Rattle.std.proofs.lemmas.List.{length-replicate, get_or_append_left, get_or_push}
 use Rattle.hp_model.proofs.Going.{none_counted}
+use Rattle.hp_states.specs.CpuSets.{has}
+use Rattle.hp_states.specs.declared.cpu_set.CpuSet.{CpuSet}
 use Rattle.hp_states.specs.Sections.{is_online_state}
 use Rattle.hp_states.specs.declared.limits.TheConstants.{MAX_CPUS, ONLINE}
 use Rattle.hp_event.specs.declared.head.Head.{Head}
@@ -26,19 +28,25 @@ more : (k n : ℕ) → fold (λ (m x : ℕ). m + cond (is_online_state x) 1 0) k
 more k zero = refl
 more k (suc n) = more (k + 0) n ∙ zero_more k
 
-pub sound_none : (n : ℕ) → 0 < n → n ≤ MAX_CPUS → IsSound (slice_set (replicate n 0) 0 200) (slice_set (replicate n false) 0 true) 1
-sound_none zero above few = absurd (omega arith)
-sound_none (suc n) above few =
+stands_at : (n c : ℕ) → slice_index (slice_set (replicate (suc n) 0) 0 200) c ≡ cond (eqb c 0) 200 0
+stands_at n zero = refl
+stands_at n (suc c) = let far : eqb (suc c) 0 ≡ false = ne_eqb (suc c) 0 (λ same. absurd (omega (arith, same))) in rw far (none_counted n c)
+
+first_online : (b : Bool) → b ≡ is_online_state (cond b 200 0)
+first_online true = refl
+first_online false = refl
+
+pub sound_none : (n : ℕ) (set : CpuSet) → 0 < n → n ≤ MAX_CPUS → ((c : ℕ) → has set c ≡ eqb c 0) →
+    IsSound (slice_set (replicate n 0) 0 200) (slice_set (replicate n false) 0 true) set 1
+sound_none zero set above few first = absurd (omega arith)
+sound_none (suc n) set above few first =
     let all : length {A = ℕ} (replicate n 0) ≡ n = length-replicate n 0 in
     record {
       few = omega (arith, few, all);
       online_is = ap (λ xs. true ∷ xs) (offline_flags n);
+      set_is = λ c. first c ∙ (first_online (eqb c 0) ∙ sym (ap is_online_state (stands_at n c)));
       counts = sym (more 1 n);
     }
-
-stands_at : (n c : ℕ) → slice_index (slice_set (replicate (suc n) 0) 0 200) c ≡ cond (eqb c 0) 200 0
-stands_at n zero = refl
-stands_at n (suc c) = let far : eqb (suc c) 0 ≡ false = ne_eqb (suc c) 0 (λ same. absurd (omega (arith, same))) in rw far (none_counted n c)
 
 first_at : (n c : ℕ) → slice_index (slice_set (replicate n 0) 0 200) c ≤ ONLINE
 first_at zero c = omega arith

@@ -2,6 +2,8 @@
 -- `st->state` and `st->fail` of `kernel/cpu.c`.
 use Rattle.std.specs.Prelude.{◌≡◌, ◌<◌, ◌≤◌, ℕ, Bool, if◌then◌else◌, Option, List, length, map, count_by, slice_index, slice_set}
 use Rattle.hp_states.specs.declared.limits.TheConstants.{MAX_CPUS, ONLINE}
+use Rattle.hp_states.specs.CpuSets.{has}
+use Rattle.hp_states.specs.declared.cpu_set.CpuSet.{CpuSet}
 use Rattle.hp_states.specs.Sections.{is_online_state}
 use Rattle.hp_event.specs.declared.head.Head.{Head}
 use Rattle.hp_event.specs.declared.event.Event.{Event}
@@ -17,10 +19,15 @@ pub record ProcessorsView : Type 0 where
   pub armed : List (Option ℕ)
   pub present : List Bool
 
--- beside them stands which are online, and how many
-pub record IsSound (settled : List ℕ) (online : List Bool) (count : ℕ) : Type 0 where
+-- just the processors that are online where they stand so are in a set
+abbrev pub IsOnlineSet : (settled : List ℕ) → CpuSet → Type 0
+IsOnlineSet settled set = (cpu : ℕ) → has set cpu ≡ is_online_state (slice_index settled cpu)
+
+-- beside them stands which are online, as a list and as a set, and how many
+pub record IsSound (settled : List ℕ) (online : List Bool) (set : CpuSet) (count : ℕ) : Type 0 where
   pub few : length settled ≤ MAX_CPUS
   pub online_is : online ≡ map is_online_state settled
+  pub set_is : IsOnlineSet settled set
   pub counts : count ≡ count_by is_online_state settled
 
 abbrev pub one_if : Bool → ℕ

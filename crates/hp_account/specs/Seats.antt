@@ -1,6 +1,7 @@
 -- Who is in, by number: the role of each seat that was admitted, until it left, and the seat of each processor's thread; and
 -- that this is what a journal says. This project's own.
-use Rattle.std.specs.Prelude.{◌≡◌, ◌<◌, ℕ, Option, Some, None, List, [], ◌∷◌, ◌++◌, length, count_by, slice_set}
+use Rattle.std.specs.Prelude.{◌≡◌, ◌<◌, ◌≤◌, ℕ, if◌then◌else◌, Option, Some, None, List, [], ◌∷◌, ◌++◌, length, count_by, slice_set}
+use Rattle.hp_states.specs.declared.limits.TheConstants.{MAX_SEATS}
 use Rattle.hp_event.specs.declared.event.Role.{Role}
 use Rattle.hp_event.specs.declared.event.Role.TheVariants.{Client, Ap}
 use Rattle.hp_event.specs.declared.head.Head.{Head}
@@ -14,9 +15,20 @@ pub record SeatsView : Type 0 where
   pub roles : List (Option Role)
   pub threads : List (Option ℕ)
 
+abbrev pub clients_among : List (Option Role) → ℕ
+clients_among roles = count_by is_client roles
+
 -- how many clients are in
 abbrev pub clients_of : SeatsView → ℕ
-clients_of r = count_by is_client r.roles
+clients_of r = clients_among r.roles
+
+abbrev pub one_client : Option Role → ℕ
+one_client role = if is_client role then 1 else 0
+
+-- beside the roles stands how many clients are in
+pub record IsCounted (roles : List (Option Role)) (clients : ℕ) : Type 0 where
+  pub few : length roles ≤ MAX_SEATS
+  pub counts : clients ≡ clients_among roles
 
 -- the processor of a thread is one of so many
 abbrev pub HasPlace : Role → (cpus : ℕ) → Type 0

@@ -1,15 +1,16 @@
 //! Where processors stand.
 
-ghost use Rattle.std.specs.Prelude.{◌≡◌, ◌+◌, ◌<◌, ◌≤◌, ℕ, [], None, true, false, IfOk, length, replicate, slice_index, slice_set, get_or};
-ghost use Rattle.hp_states.specs.declared.limits.TheConstants.{MAX_CPUS, ONLINE};
+ghost use Rattle.std.specs.Prelude.{◌≡◌, ◌+◌, ◌<◌, ◌≤◌, ◌==◌, if◌then◌else◌, ℕ, [], None, true, false, IfOk, length, replicate, slice_index, slice_set, get_or};
+ghost use Rattle.hp_states.specs.CpuSets.{has};
+ghost use Rattle.hp_states.specs.declared.limits.TheConstants.{MAX_CPUS, MAX_CPU_SET, ONLINE};
 ghost use Rattle.hp_model.specs.Heads.{IsHead};
 ghost use Rattle.hp_model.specs.Processors.{is_present};
 ghost use Rattle.hp_account.specs.Flags.{AreFlags};
 ghost use Rattle.hp_account.specs.Places.{at_place};
-ghost use Rattle.hp_account.specs.Processors.{online_flags, online_count, one_if, with_settled, with_armed, IsStanding};
+ghost use Rattle.hp_account.specs.Processors.{online_flags, online_count, one_if, with_settled, with_armed, IsOnlineSet, IsStanding};
 
 use hp_event::Head;
-use hp_states::{MAX_CPUS, NoMemory, OFFLINE, ONLINE, TEARDOWN_CPU};
+use hp_states::{CpuSet, MAX_CPUS, NoMemory, OFFLINE, ONLINE, TEARDOWN_CPU};
 use std::alloc::Global;
 use std::marker::Model;
 
@@ -23,6 +24,7 @@ pub struct Processors {
     armed: Vec<Option<u32>>,
     present: Vec<bool>,
     online: Vec<bool>,
+    online_set: CpuSet,
     online_count: u32,
 }
 
@@ -33,7 +35,7 @@ impl Model for Processors {
 
     ghost view = { λ p. record { settled = p.settled.items; armed = p.armed.items; present = p.present.items } };
 
-    ghost invariant = { λ p. IsSound p.settled.items p.online.items p.online_count };
+    ghost invariant = { λ p. IsSound p.settled.items p.online.items p.online_set p.online_count };
 }
 
 impl Processors {
@@ -57,6 +59,7 @@ impl Processors {
             armed,
             present,
             online,
+            online_set: first_alone(),
             online_count: 1,
         })
     }
@@ -91,6 +94,20 @@ impl Processors {
         self.present.as_slice()
     }
 
+    /// Whether a processor is present; a number that is no processor isn't. Takes no memory.
+    pub fn is_present(&self, cpu: u32) -> bool
+        ensures { result ≡ get_or self.now.present cpu false }
+    {
+        self.present.get(cpu as usize).copied().unwrap_or(false)
+    }
+
+    /// The processors that are online. Takes no memory, and a time that doesn't grow with the processors.
+    pub fn online_set(&self) -> CpuSet
+        ensures { IsOnlineSet self.now.settled result }
+    {
+        self.online_set
+    }
+
     /// Of each processor whether it is online. Takes no memory.
     pub fn online(&self) -> &[bool]
         ensures online { result.now ≡ online_flags self.now }
@@ -117,6 +134,7 @@ impl Processors {
         let is_online = state >= TEARDOWN_CPU;
         self.settled[place] = state;
         self.online[place] = is_online;
+        mark(&mut self.online_set, cpu, is_online);
         self.online_count = count_after(self.online_count, was_online, is_online);
     }
 
@@ -147,6 +165,27 @@ fn first_online(alloc: Global, cpus: u32) -> Result<Vec<bool>, NoMemory>
     let mut online = vec![in alloc; false; cpus as usize]?;
     online[0] = true;
     Ok(online)
+}
+
+/// The processors that are online at the start, as a set: the first.
+fn first_alone() -> CpuSet
+    ensures { (cpu : ℕ) → has result cpu ≡ (cpu == 0) }
+{
+    let mut set = CpuSet::none();
+    set.put(0);
+    set
+}
+
+/// A processor is in a set from here on, or isn't.
+fn mark(set: &mut CpuSet, cpu: u32, is_in: bool)
+    requires { cpu < MAX_CPU_SET }
+    ensures { (other : ℕ) → has set.new other ≡ (if other == cpu then is_in else has set.old other) }
+{
+    if is_in {
+        set.put(cpu);
+    } else {
+        set.take(cpu);
+    }
 }
 
 /// At which states processors are armed at the start: none.

@@ -1,8 +1,8 @@
 //! Who is in.
 
-ghost use Rattle.std.specs.Prelude.{◌≡◌, ◌<◌, ◌≤◌, None, Some, [], IfOk, OnOk, OnErr, length, replicate, slice_set};
+ghost use Rattle.std.specs.Prelude.{◌≡◌, ◌<◌, ◌≤◌, ◌+◌, None, Some, [], IfOk, OnOk, OnErr, length, replicate, slice_set};
 ghost use Rattle.hp_account.specs.Places.{at_place};
-ghost use Rattle.hp_account.specs.Seats.{SeatsView, HasPlace, clients_of, with_seat, without_seat, IsTakenBack, IsWithoutLast};
+ghost use Rattle.hp_account.specs.Seats.{SeatsView, HasPlace, clients_of, clients_among, one_client, with_seat, without_seat, IsTakenBack, IsWithoutLast};
 
 use hp_event::Role;
 use hp_states::{MAX_SEATS, NoMemory};
@@ -17,18 +17,17 @@ use std::marker::Model;
 pub struct Seats {
     roles: Vec<Option<Role>>,
     threads: Vec<Option<u32>>,
+    clients: u32,
 }
 
 impl Model for Seats {
-    ghost use Rattle.std.specs.Prelude.{◌≤◌, length};
-    ghost use Rattle.hp_states.specs.declared.limits.TheConstants.{MAX_SEATS};
-    ghost use Rattle.hp_account.specs.Seats.{SeatsView};
+    ghost use Rattle.hp_account.specs.Seats.{SeatsView, IsCounted};
 
     ghost Value = { SeatsView };
 
     ghost view = { λ s. record { roles = s.roles.items; threads = s.threads.items } };
 
-    ghost invariant = { λ s. length s.roles.items ≤ MAX_SEATS };
+    ghost invariant = { λ s. IsCounted s.roles.items s.clients };
 }
 
 impl Seats {
@@ -40,6 +39,7 @@ impl Seats {
         Ok(Seats {
             roles: Vec::new(alloc),
             threads: vec![in alloc; None; cpus as usize]?,
+            clients: 0,
         })
     }
 
@@ -55,18 +55,21 @@ impl Seats {
     {
         let seat = self.roles.len() as u32;
         self.roles.push(Some(role))?;
-        if let Role::Ap(cpu) = role {
-            self.threads[cpu as usize] = Some(seat);
+        match role {
+            Role::Client => self.clients += 1,
+            Role::Ap(cpu) => self.threads[cpu as usize] = Some(seat),
         }
         Ok(())
     }
 
-    /// Takes back an admission of this role, after which nothing has changed. Takes no memory.
+    /// Takes back an admission of this role, after which nothing has changed. Takes no memory, and time for the
+    /// seats.
     pub(crate) fn retract(&mut self, role: Role)
         requires { HasPlace role (length self.old.threads) }
         ensures { IsTakenBack role self.old self.new }
     {
         drop_last(&mut self.roles);
+        self.clients = clients_among(self.roles.as_slice());
         if let Role::Ap(cpu) = role {
             clear(&mut self.threads, cpu);
         }
@@ -78,6 +81,7 @@ impl Seats {
         ensures { self.new ≡ without_seat seat self.old }
     {
         let role = self.role(seat);
+        self.clients = clients_without(self.clients, role);
         self.roles[seat as usize] = None;
         if let Some(Role::Ap(cpu)) = role {
             if let Some(thread) = self.threads.get_mut(cpu as usize) {
@@ -107,14 +111,33 @@ impl Seats {
         self.roles.len() as u32
     }
 
-    /// How many clients are in. Takes no memory, and time for the seats.
+    /// How many clients are in. Takes no memory, and a time that doesn't grow with the seats.
     pub fn clients(&self) -> u32
         ensures { result ≡ clients_of self.now }
     {
-        self.roles
-            .iter()
-            .filter(|role| **role == Some(Role::Client))
-            .count() as u32
+        self.clients
+    }
+}
+
+/// How many of the roles are a client's.
+fn clients_among(roles: &[Option<Role>]) -> u32
+    requires { length roles.now ≤ MAX_SEATS }
+    ensures { result ≡ clients_among roles.now }
+{
+    roles
+        .iter()
+        .filter(|role| **role == Some(Role::Client))
+        .count() as u32
+}
+
+/// How many clients are in without a seat of this role.
+fn clients_without(clients: u32, role: Option<Role>) -> u32
+    requires { one_client role ≤ clients }
+    ensures { result + one_client role ≡ clients }
+{
+    match role {
+        Some(Role::Client) => clients - 1,
+        _ => clients,
     }
 }
 

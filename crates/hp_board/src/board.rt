@@ -1,6 +1,7 @@
 //! The board.
 
 ghost use Rattle.std.specs.Prelude.{◌≡◌, ◌<◌, ◌↔◌, ℕ, Some, IfOk, IfSome, IfNone, option_map};
+ghost use Rattle.hp_states.specs.CpuSets.{has};
 ghost use Rattle.hp_machine.specs.Clients.{clients};
 ghost use Rattle.hp_account.specs.UnderWay.{IsNextDue, NoneDueFrom, IsNextThreadDue, NoThreadDueFrom};
 ghost use Rattle.hp_model.specs.ApTurn.{IsApTurn};
@@ -16,7 +17,7 @@ use hp_called::Called;
 use hp_event::{Journal, Key, Keys};
 use hp_hook::Hook;
 use hp_machine::Machine;
-use hp_states::{NoMemory, TEARDOWN_CPU};
+use hp_states::{CpuSet, NoMemory, TEARDOWN_CPU};
 use std::marker::Model;
 
 /// The machine of CPU hotplug: processors, states with their hooks, and a journal of all that was done.
@@ -76,6 +77,15 @@ impl<H: Hook> Board<H> {
         ensures { result ≡ is_online cpu self.now.events }
     {
         self.machine.state(cpu) >= TEARDOWN_CPU
+    }
+
+    /// The processors that are online.
+    ///
+    /// Takes no memory, and a time that doesn't grow with the processors. After `cpu_online_mask` of `kernel/cpu.c`.
+    pub fn online_set(&self) -> CpuSet
+        ensures { (cpu : ℕ) → has result cpu ≡ is_online cpu self.now.events }
+    {
+        self.machine.online_set()
     }
 
     /// The lowest processor from one on of which an entry is due, and the seat that it is due from, if there is
@@ -142,7 +152,7 @@ impl<H: Hook> Board<H> {
 
     /// How many clients are in.
     ///
-    /// Takes no memory, and time for the seats that were admitted. Seats are this project's own.
+    /// Takes no memory, and a time that doesn't grow with the seats. Seats are this project's own.
     pub fn clients(&self) -> u32
         ensures { result ≡ clients self.now.events }
     {

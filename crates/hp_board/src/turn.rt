@@ -66,6 +66,7 @@ impl<H: Hook> Board<H> {
     /// otherwise than Ok has its hook in `ask` then, and a remove that is answered Ok the state's. Where
     /// nothing was made nothing has changed, the ask neither. What is lent to other seats stays so. After the
     /// calls of `kernel/cpu.c`; that each goes on by one event at a time is this project's own.
+    #[inline(always)]
     pub fn turn(&mut self, by: u32, ask: &mut Ask<H>) -> Result<Turn, NoMemory>
         requires allowed { MayAsk self.old by ask.old.op }
         requires hook { HasItsHook self.old by ask.old.op ask.old.hook }

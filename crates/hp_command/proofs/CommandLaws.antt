@@ -8,7 +8,7 @@ use Rattle.hp_command.specs.Counting.{AreCounting}
 use Rattle.hp_command.specs.Commands.{IsCommand, word_of, AreRest}
 use Rattle.hp_command.proofs.Reading.{Word}
 use Rattle.hp_command.specs.declared.command.Command.{Command}
-use Rattle.hp_command.specs.declared.command.Command.TheVariants.{Play, States, Report, Replay, Gen, Bench, Count, Smt}
+use Rattle.hp_command.specs.declared.command.Command.TheVariants.{Play, States, Report, Replay, Migrate, Gen, Bench, Count, Smt}
 use Rattle.hp_command.specs.declared.options.Options.{Options}
 use Rattle.hp_command.specs.declared.controlling.Controlling.{Controlling}
 use Rattle.hp_command.specs.declared.counting.Counting.{Counting}
@@ -54,6 +54,7 @@ place (Gen options) = 4
 place (Bench options) = 5
 place (Count counting) = 6
 place (Smt controlling) = 7
+place Migrate = 8
 
 place_in : Word → ℕ
 place_in word =
@@ -64,7 +65,8 @@ place_in word =
     else if bytes_eq word (codes "gen") then 4
     else if bytes_eq word (codes "bench") then 5
     else if bytes_eq word (codes "count") then 6
-    else 7
+    else if bytes_eq word (codes "smt") then 7
+    else 8
 
 placed : (command : Command) → place_in (word_of command) ≡ place command
 unfolding place_in
@@ -76,6 +78,7 @@ placed (Gen options) = refl
 placed (Bench options) = refl
 placed (Count counting) = refl
 placed (Smt controlling) = refl
+placed Migrate = refl
 
 same_place : (a b : Command) → word_of a ≡ word_of b → place a ≡ place b
 same_place a b e = sym (placed a) ∙ ap place_in e ∙ placed b
@@ -92,6 +95,7 @@ same_of (Gen a) (Gen b) r r' ha hb p e = ap (λ (o : Options). Gen o) (same_opti
 same_of (Bench a) (Bench b) r r' ha hb p e = ap (λ (o : Options). Bench o) (same_options_of a b r r' ha hb e)
 same_of (Count a) (Count b) r r' ha hb p e = ap (λ (c : Counting). Count c) (same_counting a b r r' ha hb e)
 same_of (Smt a) (Smt b) r r' ha hb p e = ap (λ (c : Controlling). Smt c) (same_controlling a b r r' ha hb e)
+same_of Migrate Migrate r r' ha hb p e = refl
 same_of a b r r' ha hb p e = absurd (omega (arith, p))
 
 pub same_command : (words : List Word) (a b : Command) → IsCommand words a → IsCommand words b → a ≡ b

@@ -4,7 +4,7 @@ use Rattle.hp_command.specs.Options.{AreOptions}
 use Rattle.hp_command.specs.Controlling.{AreControlling}
 use Rattle.hp_command.specs.Counting.{AreCounting}
 use Rattle.hp_command.specs.declared.command.Command.{Command}
-use Rattle.hp_command.specs.declared.command.Command.TheVariants.{Play, States, Report, Replay, Gen, Bench, Count, Smt}
+use Rattle.hp_command.specs.declared.command.Command.TheVariants.{Play, States, Report, Replay, Migrate, Gen, Bench, Count, Smt}
 
 -- the first word of a command
 abbrev pub word_of : Command → List ℕ
@@ -12,6 +12,7 @@ word_of Play = codes "play"
 word_of States = codes "states"
 word_of Report = codes "report"
 word_of Replay = codes "replay"
+word_of Migrate = codes "migrate"
 word_of (Gen options) = codes "gen"
 word_of (Bench options) = codes "bench"
 word_of (Count counting) = codes "count"
@@ -47,4 +48,4 @@ AreOneCommand words = (one other : Command) → IsCommand words one → IsComman
 -- a word isn't that of a command without options
 abbrev pub IsNoLoneCommand : (word : List ℕ) → Type 0
 IsNoLoneCommand word =
-    (word ≢ codes "play") × (word ≢ codes "states") × (word ≢ codes "report") × (word ≢ codes "replay")
+    (word ≢ codes "play") × (word ≢ codes "states") × (word ≢ codes "report") × (word ≢ codes "replay") × (word ≢ codes "migrate")

@@ -20,6 +20,8 @@ pub enum Command {
     Report,
     /// The summary of a journal.
     Replay,
+    /// The text of a journal of version 1 in version 2, and its summary.
+    Migrate,
     /// A generated script.
     Gen(Options),
     /// The summary of the journal of a generated script.
@@ -47,12 +49,15 @@ fn lone(word: &str) -> Option<Command>
     if word == "replay" {
         return Some(Command::Replay);
     }
+    if word == "migrate" {
+        return Some(Command::Migrate);
+    }
     None
 }
 
 /// The command that the words after the program's name ask for, if they ask for one.
 ///
-/// `play`, `states`, `report` and `replay` are that one word. `gen` and `bench` are that word and then options,
+/// `play`, `states`, `report`, `replay` and `migrate` are that one word. `gen` and `bench` are that word and then options,
 /// in any order and each at most once: `--seed V` as two words or `--seed=V` as one, where V is 0 to
 /// 18446744073709551615, and 1 where it is left out; and `--size V` or `--size=V`, where V is 1 to
 /// 1,000, and 100 where it is left out. `count` is that word and then a state, 1 to 198, and a batch, 1

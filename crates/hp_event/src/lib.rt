@@ -15,6 +15,7 @@ mod journal;
 mod key;
 mod lists;
 mod op;
+mod version;
 
 pub use answer::Answer;
 pub use aside::Aside;
@@ -25,3 +26,4 @@ pub use journal::{Journal, JournalError};
 pub use key::Key;
 pub use lists::{Items, Keys, Name, Numbers, Subs};
 pub use op::{Form, Op};
+pub use version::Version;

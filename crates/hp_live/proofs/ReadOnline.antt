@@ -1,16 +1,13 @@
 -- The processors that are online throughout a read section.
-use Rattle.std.proofs.Common.{◌≡◌, ◌<◌, ◌+◌, ℕ, Bool, true, false, not, ◌&&◌, ◌||◌, eqb, ltb, Some, None, Result, OnOk, OnErr, List, [], ◌∷◌, ◌++◌, length, length-append, refl, sym, ap, ◌∙◌, subst, arith}
-use Rattle.std.proofs.lemmas.Bool.{eq-eqb, eqb-true}
-use Rattle.std.proofs.lemmas.Bool.Decides.{nat_tests}
+use Rattle.std.proofs.Common.{◌≡◌, ◌<◌, ◌+◌, ℕ, false, Some, None, Result, OnOk, OnErr, List, [], ◌∷◌, ◌++◌, length, length-append, refl, sym, ap, ◌∙◌, subst, arith}
+use Rattle.std.proofs.lemmas.Bool.{eq-eqb}
 use Rattle.std.proofs.lemmas.List.{append-nil}
 use mathlib.Core.List.{IsPrefix}
-use Rattle.hp_states.proofs.Basics.{and_false}
 use Rattle.hp_states.specs.CpuSets.{has}
 use Rattle.hp_states.specs.Sections.{is_online_state}
 use Rattle.hp_states.specs.declared.cpu_set.CpuSet.{CpuSet}
 use Rattle.hp_event.specs.declared.event.Event.{Event}
 use Rattle.hp_event.specs.declared.event.Event.TheVariants.{ReadLock, ReadUnlock}
-use Rattle.hp_event.specs.Heads.{among}
 use Rattle.hp_event.specs.declared.head.Head.{Head}
 use Rattle.hp_event.specs.declared.op.Op.{Op}
 use Rattle.hp_event.specs.declared.op.Op.TheVariants.{Lock, Unlock}
@@ -19,7 +16,6 @@ use Rattle.hp_model.specs.Readers.{reading_since}
 use Rattle.hp_model.specs.Seats.{is_busy}
 use Rattle.hp_model.specs.Settled.{is_online}
 use Rattle.hp_model.proofs.HeadlineProof.{headline}
-use Rattle.hp_model.proofs.Induction.{kept}
 use Rattle.hp_model.proofs.Laws.{reading_since_push, role_push, settled_push}
 use Rattle.hp_turn.proofs.Prefixes.{prefix_shorter}
 use Rattle.hp_live.specs.Grew.{Grew}
@@ -28,52 +24,6 @@ use Rattle.hp_live.specs.ReadSections.{AreOnline, IsOnlineThroughout, IsReader, 
 use Rattle.hp_live.proofs.Clients.{in_later, out_later}
 use Rattle.hp_live.proofs.Finishing.{ran_idle}
 use Rattle.hp_live.proofs.StandsStill.{stands_still}
-
--- ---- how the set is made
-
--- the set has those below a number that are online
-abbrev pub HasBelow : (set : CpuSet) → List Event → (below : ℕ) → Type 0
-HasBelow set xs n = (cpu : ℕ) → has set cpu ≡ (ltb cpu n && is_online cpu xs)
-
-below_next : (a n : ℕ) → ltb a (n + 1) ≡ (eqb a n || ltb a n)
-below_next a n = grind (arith, nat_tests)
-
-pub has_none : (set : CpuSet) (xs : List Event) → ((cpu : ℕ) → has set cpu ≡ false) → HasBelow set xs 0
-has_none set xs none cpu = none cpu ∙ ap (λ b. b && is_online cpu xs) (sym (none_below cpu))
-  where
-    none_below : (c : ℕ) → ltb c 0 ≡ false
-    none_below c = grind (arith, nat_tests)
-
--- one processor more, which is online and was put into the set, or isn't
-pub has_put : (set new : CpuSet) (xs : List Event) (n : ℕ) → HasBelow set xs n → is_online n xs ≡ true →
-    ((other : ℕ) → has new other ≡ (eqb other n || has set other)) → HasBelow new xs (n + 1)
-has_put set new xs n below up put cpu =
-    put cpu ∙ ap (λ b. eqb cpu n || b) (below cpu) ∙ either (eqb cpu n) refl ∙ ap (λ b. b && is_online cpu xs) (sym (below_next cpu n))
-  where
-    either : (b : Bool) → eqb cpu n ≡ b → (b || (ltb cpu n && is_online cpu xs)) ≡ ((b || ltb cpu n) && is_online cpu xs)
-    either true is = sym (ap (λ (c : ℕ). is_online c xs) (eqb-true cpu n is) ∙ up)
-    either false is = refl
-
-pub has_skipped : (set : CpuSet) (xs : List Event) (n : ℕ) → HasBelow set xs n → is_online n xs ≡ false → HasBelow set xs (n + 1)
-has_skipped set xs n below down cpu =
-    below cpu ∙ either (eqb cpu n) refl ∙ ap (λ b. b && is_online cpu xs) (sym (below_next cpu n))
-  where
-    either : (b : Bool) → eqb cpu n ≡ b → (ltb cpu n && is_online cpu xs) ≡ ((b || ltb cpu n) && is_online cpu xs)
-    either true is =
-        let off = ap (λ (c : ℕ). is_online c xs) (eqb-true cpu n is) ∙ down in
-        ap (λ b. ltb cpu n && b) off ∙ and_false (ltb cpu n) ∙ sym off
-    either false is = refl
-
--- no impossible processor is online
-pub has_all : (head : Head) (set : CpuSet) (xs : List Event) (n : ℕ) → IsLawful head xs → n ≡ head.possible → HasBelow set xs n →
-    AreOnline set xs
-has_all head set xs n lawful all below cpu = below cpu ∙ possible (ltb cpu n) refl
-  where
-    possible : (b : Bool) → ltb cpu n ≡ b → (b && is_online cpu xs) ≡ is_online cpu xs
-    possible true is = refl
-    possible false is =
-        let away = ap (λ (m : ℕ). ltb cpu m) (sym all) ∙ is in
-        sym (ap is_online_state (((kept head xs lawful).at cpu).away (ap (λ b. b && not (among cpu head.absent)) away)))
 
 -- ---- a section
 

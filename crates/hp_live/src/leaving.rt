@@ -154,6 +154,9 @@ impl<H: Hook + Send> Hotplug<H> {
         let mut live = self.lock.lock(rt, &mut sight.turn);
         live.board.sound();
         let step = serve_or_leave(&mut live.board, seat);
+        if let Some(step) = &step {
+            self.wakes.note(seat, step);
+        }
         let seen = self.put_back(&mut sight.turn, live);
         sight.seen = seen;
         step

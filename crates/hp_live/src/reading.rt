@@ -9,7 +9,7 @@ ghost use Rattle.hp_event.specs.declared.event.Event.TheVariants.{ReadLock, Read
 ghost use Rattle.hp_event.specs.declared.op.Op.TheVariants.{Lock, Unlock};
 ghost use Rattle.hp_live.specs.Grew.{Grew};
 ghost use Rattle.hp_live.specs.Known.{IsOf, IsOut, IsSamePass, IsStill};
-ghost use Rattle.hp_live.specs.ReadSections.{AreOnline, AsksIn, AsksOn, IsOnlineThroughout, IsReadRefusal, MakesIn};
+ghost use Rattle.hp_live.specs.ReadSections.{AsksIn, AsksOn, IsOnlineThroughout, IsReadRefusal, MakesIn};
 ghost use Rattle.hp_live.specs.Runs.{AnsweredBy, IsAnswered, Halted};
 ghost use Rattle.hp_live.specs.Sections.{CanAsk};
 ghost use Rattle.hp_event.specs.declared.event.Role.TheVariants.{Client as AClient};
@@ -251,7 +251,7 @@ fn ask_to_read<H: Hook>(board: &mut Board<H>, by: u32) -> Option<Result<CpuSet, 
         hook: None,
     };
     match board.turn(by, &mut ask) {
-        Ok(Turn::Answered { at: Some(_), .. }) => Some(Ok(online_set(board))),
+        Ok(Turn::Answered { at: Some(_), .. }) => Some(Ok(board.online_set())),
         Ok(Turn::Answered { at: None, .. }) => Some(Err(ReadRefusal::LogFull)),
         Ok(Turn::NotYet(_)) => None,
         Ok(Turn::Made { .. }) => unreachable!(),
@@ -274,19 +274,4 @@ fn stop_reading<H: Hook>(board: &mut Board<H>, by: u32)
     };
     // made at once: an unlock of a reader waits for nothing, has room and takes no memory
     let _ = board.turn(by, &mut ask);
-}
-
-/// The processors that are online.
-fn online_set<H: Hook>(board: &Board<H>) -> CpuSet
-    ensures { AreOnline result board.now.events }
-{
-    board.sound();
-    let cpus = board.journal().head().possible;
-    let mut online = CpuSet::none();
-    for cpu in 0..cpus {
-        if board.online(cpu) {
-            online.put(cpu);
-        }
-    }
-    online
 }

@@ -138,6 +138,7 @@ impl<H: Hook + Send> Hotplug<H> {
         let mut live = live;
         live.board.sound();
         let step = lend_or_serve(&mut live.board, seat);
+        self.wakes.note(seat, &step);
         let count = live.board.clients();
         let seen = self.put_back(pass, live);
         (step, count, seen)

@@ -24,7 +24,8 @@ use std::sync::Wait;
 impl<H: Hook + Send> Hotplug<H> {
     /// The machine with these processors and subsystems, and its root, which has seen an empty journal.
     ///
-    /// Conditions and refusals are those of `Board::start`. Takes memory for the board and the lock.
+    /// Conditions and refusals are those of `Board::start`. Takes memory for the board and the lock, and for a place
+    /// where its thread sleeps for each possible processor.
     pub fn start(
         alloc: Global,
         plan: CpuPlan,
@@ -72,13 +73,8 @@ fn begin<H: Hook + Send>(alloc: Global, board: Board<H>) -> Result<(Hotplug<H>, 
     ensures front { IfOk result (λ r. r.1.front ≡ []) }
 {
     board.sound();
+    let wakes = Wakes::new(alloc, board.journal().head().possible)?;
     let (lock, turn) = TurnLock::new(alloc, Live { board })?;
     let sight = Sight { turn, seen: 0 };
-    Ok((
-        Hotplug {
-            lock,
-            wakes: Wakes::new(),
-        },
-        Root { sight },
-    ))
+    Ok((Hotplug { lock, wakes }, Root { sight }))
 }

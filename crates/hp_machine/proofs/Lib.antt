@@ -9,6 +9,7 @@ pub mod LowestDue
 pub mod BatchWalks
 pub mod BatchServed
 pub mod RefusalsSaid
+pub mod OnlineSaid
 pub mod SetsSaid
 pub mod LockWaits
 pub mod FileBounds

@@ -68,7 +68,7 @@ impl<H: Hook> Machine<H> {
             return Some(AdmitError::Full);
         }
         if let Role::Ap(cpu) = role {
-            if !self.journal().head().is_present(cpu) {
+            if !self.is_present(cpu) {
                 return Some(AdmitError::NotPresent);
             }
             if self.thread(cpu).is_some() {

@@ -10,11 +10,12 @@ ghost use Rattle.hp_model.specs.Heads.{IsHead};
 ghost use Rattle.hp_model.specs.Lawful.{IsLawful};
 ghost use Rattle.hp_model.specs.Lists.{among};
 ghost use Rattle.hp_model.specs.MapLock.{Operation, operation};
+ghost use Rattle.hp_model.specs.Processors.{is_present};
 ghost use Rattle.hp_model.specs.Promised.{promised};
 ghost use Rattle.hp_model.specs.Readers.{is_reading};
 ghost use Rattle.hp_model.specs.Registrations.{Registration, registration};
 ghost use Rattle.hp_model.specs.Seats.{admits, ap_seat, is_busy, role_of};
-ghost use Rattle.hp_model.specs.Settled.{settled};
+ghost use Rattle.hp_model.specs.Settled.{settled, is_online};
 ghost use Rattle.hp_model.specs.Suspend.{disabled, frozen};
 ghost use Rattle.hp_table.specs.Sound.{IsSound};
 ghost use Rattle.hp_machine.specs.MayAsk.{HasInFlight};
@@ -170,7 +171,7 @@ impl<H: Hook> Machine<H> {
         }
     }
 
-    /// How many clients are in. Takes no memory, and time for the seats that were admitted.
+    /// How many clients are in. Takes no memory, and a time that doesn't grow with the seats.
     pub fn clients(&self) -> u32
         ensures { result ≡ clients self.now.events }
     {
@@ -185,6 +186,26 @@ impl<H: Hook> Machine<H> {
         ensures { result ≡ settled cpu self.now.events }
     {
         self.account.processors.state(cpu)
+    }
+
+    /// Whether a processor is present: it is possible and isn't absent.
+    ///
+    /// Any number may be asked for. Takes no memory, and a time that doesn't grow with the processors. After
+    /// `cpu_present` of `linux/cpumask.h`.
+    pub(crate) fn is_present(&self, cpu: u32) -> bool
+        ensures { result ≡ is_present self.now.head cpu }
+    {
+        self.account.processors.is_present(cpu)
+    }
+
+    /// The processors that are online.
+    ///
+    /// Takes no memory, and a time that doesn't grow with the processors. After `cpu_online_mask` of
+    /// `kernel/cpu.c`.
+    pub fn online_set(&self) -> CpuSet
+        ensures { (cpu : ℕ) → has result cpu ≡ is_online cpu self.now.events }
+    {
+        self.account.processors.online_set()
     }
 
     /// Whether a seat is in a read section. Takes no memory. After `cpus_read_lock` of `kernel/cpu.c`.

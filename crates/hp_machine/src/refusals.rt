@@ -40,8 +40,9 @@ impl<H: Hook> Machine<H> {
     /// - `Refused` where it is refused: at once, or where nothing keeps it waiting after the waits.
     /// - `Waits` where it isn't refused at once, and something keeps it waiting.
     ///
-    /// Takes no memory, and time for the state's instances, the range or the absent processors. After the calls
-    /// of `kernel/cpu.c`; that what is refused at once doesn't wait first is this project's own.
+    /// Takes no memory, and time for the state's instances or the range, and for the absent processors where an
+    /// upmany is asked for. After the calls of `kernel/cpu.c`; that what is refused at once doesn't wait first is
+    /// this project's own.
     pub(crate) fn can_begin(&self, seat: u32, op: &Op) -> Result<(), Blocked>
         requires { is_busy seat self.now.events ≡ false }
         ensures passes { OnOk result (Passes self.now.head self.now.events seat op.now) }
@@ -112,9 +113,9 @@ impl<H: Hook> Machine<H> {
     ///   `ENOSPC` where the state has 256 instances or the table 4,096. A del: `EINVAL` where the state has
     ///   no instance list or not the instance.
     ///
-    /// Takes no memory, and time for the state's instances, the range or the absent processors. After
-    /// `cpu_up`, `cpu_down`, `target_store`, `fail_store` and the registration calls of `kernel/cpu.c`; each condition, its
-    /// number and its place are this project's own.
+    /// Takes no memory, and time for the state's instances or the range, and of an upmany for the absent
+    /// processors. After `cpu_up`, `cpu_down`, `target_store`, `fail_store` and the registration calls of
+    /// `kernel/cpu.c`; each condition, its number and its place are this project's own.
     fn refusal_after_waits(&self, op: &Op) -> Option<u32>
         requires no_wait { is_waiting self.now.events op.now ≡ false }
         requires not_at_once { (seat : ℕ) × (refusal_at_once self.now seat op.now ≡ None) }
@@ -123,9 +124,9 @@ impl<H: Hook> Machine<H> {
         let head = self.journal.head();
         let disabled = self.disabled() > 0;
         match *op {
-            Op::Up(cpu) => busy_or_invalid(disabled, !head.is_present(cpu)),
+            Op::Up(cpu) => busy_or_invalid(disabled, !self.is_present(cpu)),
             Op::Down(cpu) => {
-                busy_or_invalid(disabled || self.is_one_online(), !head.is_present(cpu))
+                busy_or_invalid(disabled || self.is_one_online(), !self.is_present(cpu))
             }
             Op::Boot(_) => busy_or_invalid(disabled, false),
             Op::UpMany(ref set) => busy_or_invalid(disabled, lists_absent(head, set)),
@@ -169,7 +170,7 @@ impl<H: Hook> Machine<H> {
         let disabled = self.disabled() > 0;
         let alone = self.is_one_online();
         match self.state(cpu).cmp(&to) {
-            Ordering::Less => busy_or_invalid(disabled, !self.journal.head().is_present(cpu)),
+            Ordering::Less => busy_or_invalid(disabled, !self.is_present(cpu)),
             Ordering::Equal => None,
             Ordering::Greater => busy_or_invalid(disabled || alone, false),
         }

@@ -1,5 +1,6 @@
 //! The tests of hp_actors: runs come out by each schedule as written by hand, and the very hooks that went in come
-//! back. Two actors, by three schedules, and two of which one brings processors up together.
+//! back. Two actors, by three schedules, two of which one brings processors up together, and one that boots as many
+//! processors as there can be.
 
 use hp_actors::Run;
 use hp_event::{Answer, Event, How};
@@ -245,5 +246,22 @@ fn processors_come_up_together(rt: HostRuntime) -> Result<(), Fail> {
     let begun = events.len().min(22);
     let (_, from_first) = events.split_at(begun);
     assert!(rt; from_first == walked().as_slice());
+    Ok(())
+}
+
+/// All processors of the largest machine are booted by one operation: beside the seats that come in, its begin and its end,
+/// each of the others has the begin and the end of its walk, since nothing is registered.
+#[test]
+fn the_largest_machine_boots(rt: HostRuntime) -> Result<(), Fail> {
+    let mut none = Rack {
+        hooks: Vec::new(rt.alloc()),
+    };
+    let events = played(rt.alloc(), b"cpus 256\nactor a\nboot 256\n", &mut none)?;
+    assert!(rt; events.len() == 769, "{} events", events.len());
+    let end = Event::OpEnd {
+        seat: 256,
+        answer: Answer::Ok(0),
+    };
+    assert!(rt; events.last() == Some(&end));
     Ok(())
 }

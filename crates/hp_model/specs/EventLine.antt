@@ -1,4 +1,4 @@
--- The line of an event in the text of a journal, version 1. This project's own.
+-- The line of an event in the text of a journal. This project's own.
 use Rattle.std.specs.Prelude.{ℕ, if◌then◌else◌, List, [], ◌∷◌, ◌++◌, map, codes, decimal}
 use Rattle.std.specs.Fmt.{signed_decimal}
 use Rattle.hp_event.specs.declared.op.Op.{Op}
@@ -13,6 +13,8 @@ use Rattle.hp_event.specs.declared.event.Role.TheVariants.{Client, Ap}
 use Rattle.hp_event.specs.declared.event.File.{File}
 use Rattle.hp_event.specs.declared.event.File.TheVariants.{State, Target, Fail, States}
 use Rattle.hp_event.specs.declared.op.Form.{Form}
+use Rattle.hp_event.specs.declared.version.Version.{Version}
+use Rattle.hp_event.specs.declared.version.Version.TheVariants.{One, Two}
 use Rattle.hp_event.specs.declared.event.Event.{Event}
 use Rattle.hp_event.specs.declared.event.Event.TheVariants.{Admit, Leave, Enter, Refused, WalkBegin, Call, WalkEnd, OpEnd, RegBegin, RegEnd, ReadLock, ReadUnlock, Armed, Shown, Wakeup}
 use Rattle.hp_model.specs.Words.{line, dir_word}
@@ -79,25 +81,32 @@ file_words Target cpu = codes "target" ∷ decimal cpu ∷ []
 file_words Fail cpu = codes "fail" ∷ decimal cpu ∷ []
 file_words States cpu = codes "states" ∷ []
 
-abbrev pub event_words : Event → List (List ℕ)
-event_words (Admit seat role) = codes "admit" ∷ decimal seat ∷ role_words role
-event_words (Leave seat) = codes "leave" ∷ decimal seat ∷ []
-event_words (Enter seat op) = codes "enter" ∷ decimal seat ∷ op_words op
-event_words (Refused seat errno op) = codes "refused" ∷ decimal seat ∷ decimal errno ∷ op_words op
-event_words (WalkBegin seat cpu from to) =
-    codes "walk" ∷ decimal seat ∷ decimal cpu ∷ decimal from ∷ decimal to ∷ []
-event_words (Call seat cpu state inst dir how) =
-    codes "call" ∷ decimal seat ∷ decimal cpu ∷ decimal state ∷ decimal inst ∷ dir_word dir ∷ how_words how
-event_words (WalkEnd seat cpu answer) = codes "walked" ∷ decimal seat ∷ decimal cpu ∷ walk_answer_words answer
-event_words (OpEnd seat answer) = codes "done" ∷ decimal seat ∷ answer_words answer
-event_words (RegBegin seat state op) = codes "reg" ∷ decimal seat ∷ decimal state ∷ op_words op
-event_words (RegEnd seat answer) = codes "regged" ∷ decimal seat ∷ answer_words answer
-event_words (ReadLock seat) = codes "lock" ∷ decimal seat ∷ []
-event_words (ReadUnlock seat) = codes "unlock" ∷ decimal seat ∷ []
-event_words (Armed seat cpu value) = codes "armed" ∷ decimal seat ∷ decimal cpu ∷ signed_decimal value ∷ []
-event_words (Shown seat file cpu value) =
-    codes "shown" ∷ decimal seat ∷ (file_words file cpu ++ signed_decimal value ∷ [])
-event_words (Wakeup seat) = codes "wakeup" ∷ decimal seat ∷ []
+-- behind the seat of an operation's event: the operation's number, in version 2
+abbrev pub number_words : Version → (number : ℕ) → List (List ℕ)
+number_words One n = []
+number_words Two n = decimal n ∷ []
 
-abbrev pub event_line : Event → List ℕ
-event_line event = line (event_words event)
+-- the words of an event, with this number of its operation where it is one's
+abbrev pub event_words : Version → (number : ℕ) → Event → List (List ℕ)
+event_words v n (Admit seat role) = codes "admit" ∷ decimal seat ∷ role_words role
+event_words v n (Leave seat) = codes "leave" ∷ decimal seat ∷ []
+event_words v n (Enter seat op) = codes "enter" ∷ decimal seat ∷ (number_words v n ++ op_words op)
+event_words v n (Refused seat errno op) = codes "refused" ∷ decimal seat ∷ (number_words v n ++ decimal errno ∷ op_words op)
+event_words v n (WalkBegin seat cpu from to) =
+    codes "walk" ∷ decimal seat ∷ decimal cpu ∷ decimal from ∷ decimal to ∷ []
+event_words v n (Call seat cpu state inst dir how) =
+    codes "call" ∷ decimal seat ∷ decimal cpu ∷ decimal state ∷ decimal inst ∷ dir_word dir ∷ how_words how
+event_words v n (WalkEnd seat cpu answer) = codes "walked" ∷ decimal seat ∷ decimal cpu ∷ walk_answer_words answer
+event_words v n (OpEnd seat answer) = codes "done" ∷ decimal seat ∷ (number_words v n ++ answer_words answer)
+event_words v n (RegBegin seat state op) = codes "reg" ∷ decimal seat ∷ (number_words v n ++ decimal state ∷ op_words op)
+event_words v n (RegEnd seat answer) = codes "regged" ∷ decimal seat ∷ (number_words v n ++ answer_words answer)
+event_words v n (ReadLock seat) = codes "lock" ∷ decimal seat ∷ number_words v n
+event_words v n (ReadUnlock seat) = codes "unlock" ∷ decimal seat ∷ number_words v n
+event_words v n (Armed seat cpu value) =
+    codes "armed" ∷ decimal seat ∷ (number_words v n ++ decimal cpu ∷ signed_decimal value ∷ [])
+event_words v n (Shown seat file cpu value) =
+    codes "shown" ∷ decimal seat ∷ (number_words v n ++ file_words file cpu ++ signed_decimal value ∷ [])
+event_words v n (Wakeup seat) = codes "wakeup" ∷ decimal seat ∷ number_words v n
+
+abbrev pub event_line : Version → (number : ℕ) → Event → List ℕ
+event_line v n event = line (event_words v n event)

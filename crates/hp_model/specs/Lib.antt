@@ -84,6 +84,7 @@ pub mod Headline
 pub mod OneWalk
 pub mod Keys
 pub mod Words
+pub mod OperationNumber
 pub mod EventLine
 pub mod HasLine
 pub mod JournalText

@@ -23,8 +23,8 @@
 //! 9. `Scripts`, `Admissions`, `Tasks`, `ScriptTurns`, `ScriptRun`, `Draws`, `Schedule`, `TurnMakes`,
 //!    `WithoutEvent`, `Distance`: the run of a script by its schedule. `AnyTurns`: what is so of it after any
 //!    turns.
-//! 10. `Listed`, `SetOf`: sets of processors as they are written. `EventLine`, `JournalText`, `Summary`: the
-//!     texts.
+//! 10. `Listed`, `SetOf`: sets of processors as they are written. `OperationNumber`, `EventLine`,
+//!     `JournalText`, `Summary`: the texts.
 //!
 //! The functions of this file have empty bodies: their contracts are the laws, which callers cite.
 //! `net_of` and its kin compute a notion from the events alone, slowly, for tests.

@@ -7,6 +7,8 @@ use Rattle.hp_command.specs.declared.command.Command.{Command}
 use Rattle.hp_command.specs.declared.command.Command.TheVariants as asks
 use Rattle.hp_command.specs.Commands.{IsCommand}
 use Rattle.hp_command.proofs.CommandLaws.{same_command}
+use Rattle.hp_event.specs.declared.version.Version.{Version}
+use Rattle.hp_event.specs.declared.version.Version.TheVariants.{One, Two}
 use Rattle.hp_replay.specs.declared.error.ReplayKind.{ReplayKind}
 use Rattle.hp_replay.specs.Judged.{accepted, refused}
 use Rattle.hp_replay.specs.Verdict.{IsReplay}
@@ -17,7 +19,7 @@ use Rattle.hp_script.proofs.PlayableScripts.{short_read}
 use Rattle.hp_script.specs.Pieces.{lines}
 use Rattle.hp_script.specs.Script.{statements, script_in}
 use Rattle.hp_play.specs.Controlled.{HasSeatMore}
-use Rattle.hp_play.specs.Main.{Asked, HoldsControlled, HoldsJournal, HasInput, IsBadControl, IsBadJournal, IsRefusedBy}
+use Rattle.hp_play.specs.Main.{Asked, HoldsControlled, HoldsJournal, HasInput, IsBadControl, IsBadJournal, IsBadJournalOf, IsRefusedBy}
 
 -- a script that leaves a seat is refused by no line, nor for want of one
 no_bad_control : (hooks : ℕ) (left now : Option (List ℕ)) (written : List ℕ) → HoldsControlled hooks left →
@@ -37,6 +39,7 @@ not_refused asks.Play hooks left now written has bad = no_bad_script hooks left 
 not_refused asks.States hooks left now written has bad = no_bad_script hooks left now written has bad
 not_refused asks.Report hooks left now written has bad = no_bad_script hooks left now written has bad
 not_refused asks.Replay hooks left now written has bad = bad
+not_refused asks.Migrate hooks left now written has bad = bad
 not_refused (asks.Gen options) hooks left now written has bad = bad
 not_refused (asks.Count counting) hooks left now written has bad = no_bad_script hooks left now written has bad
 not_refused (asks.Smt controlling) hooks left now written has bad = no_bad_control hooks left now written has bad
@@ -49,24 +52,31 @@ no_refusal words command hooks left now written has is bad =
     not_refused has.command hooks left now written has.is
     (subst (λ (c : Command). IsRefusedBy c hooks left now written) (same_command words command has.command is has.asked) bad)
 
-text_is_short : (bytes : List ℕ) (head : Head) (events : List Event) → IsReplay bytes (accepted head events) → length bytes ≤ MAX_JOURNAL_BYTES
-text_is_short bytes head events (inl h) = let e = h.1 in absurd (cc)
-text_is_short bytes head events (inr h) = h.0
+text_is_short : (v : Version) (bytes : List ℕ) (head : Head) (events : List Event) → IsReplay v bytes (accepted head events) →
+    length bytes ≤ MAX_JOURNAL_BYTES
+text_is_short v bytes head events (inl h) = let e = h.1 in absurd (cc)
+text_is_short v bytes head events (inr h) = h.0
 
 accepted_refused : (head : Head) (events : List Event) (line : ℕ) (kind : ReplayKind) → accepted head events ≡ refused line kind → ⊥
 accepted_refused head events line kind h = cc
 
-no_bad_journal : (left now : Option (List ℕ)) (written : List ℕ) → HoldsJournal left → IsBadJournal left now written → ⊥
-no_bad_journal left now written j bad =
-    let few = text_is_short j.bytes j.head j.events j.is_text in
+no_bad_journal : (v : Version) (left now : Option (List ℕ)) (written : List ℕ) → HoldsJournal v left → IsBadJournal v left now written → ⊥
+no_bad_journal v left now written j bad =
+    let few = text_is_short v j.bytes j.head j.events j.is_text in
     let same = all_read MAX_JOURNAL_BYTES left now bad.bytes j.bytes j.held few bad.read in
-    let is = subst (λ (bytes : List ℕ). IsReplay bytes (refused bad.line bad.kind)) same bad.refused_is in
+    let is = subst (λ (bytes : List ℕ). IsReplay v bytes (refused bad.line bad.kind)) same bad.refused_is in
     accepted_refused j.head j.events bad.line bad.kind
-    (one_outcome j.bytes (accepted j.head j.events) (refused bad.line bad.kind) j.is_text is)
+    (one_outcome v j.bytes (accepted j.head j.events) (refused bad.line bad.kind) j.is_text is)
+
+no_bad_journal_of : (command : Command) (hooks : ℕ) (left now : Option (List ℕ)) (written : List ℕ) → HasInput command hooks left →
+    IsBadJournalOf command left now written → ⊥
+no_bad_journal_of asks.Replay hooks left now written has bad = no_bad_journal Two left now written has bad
+no_bad_journal_of asks.Migrate hooks left now written has bad = no_bad_journal One left now written has bad
+no_bad_journal_of command hooks left now written has bad = bad
 
 -- nor by a journal
 pub no_journal_refusal : (words : List (List ℕ)) (command : Command) (hooks : ℕ) (left now : Option (List ℕ)) (written : List ℕ) →
-    Asked words (λ c. HasInput c hooks left) → IsCommand words command → command ≡ asks.Replay → IsBadJournal left now written → ⊥
-no_journal_refusal words command hooks left now written has is replay bad =
-    let same = sym (same_command words command has.command is has.asked) ∙ replay in
-    no_bad_journal left now written (subst (λ (c : Command). HasInput c hooks left) same has.is) bad
+    Asked words (λ c. HasInput c hooks left) → IsCommand words command → IsBadJournalOf command left now written → ⊥
+no_journal_refusal words command hooks left now written has is bad =
+    no_bad_journal_of has.command hooks left now written has.is
+    (subst (λ (c : Command). IsBadJournalOf c left now written) (same_command words command has.command is has.asked) bad)

@@ -6,10 +6,11 @@ use Rattle.hp_hook.specs.declared.hook.Hook as Hook
 use Rattle.hp_hook.specs.declared.rack.Rack.{Rack}
 use Rattle.hp_command.specs.declared.command.Command.{Command}
 use Rattle.hp_command.specs.declared.controlling.Controlling.{Controlling}
+use Rattle.hp_event.specs.declared.version.Version.{Version}
 use Rattle.hp_edge.specs.declared.status.TheConstants.{DONE, NO_MEMORY}
 use Rattle.hp_play.specs.declared.output.Output.{Output}
 use Rattle.hp_play.specs.declared.stop.Stop.{Stop}
-use Rattle.hp_play.specs.Main.{Answer, Asked, HasInput, IsDoneBy, IsScriptPlayed, IsScriptControlled, IsReplayed, Writes, WritesPart}
+use Rattle.hp_play.specs.Main.{Answer, Asked, HasInput, IsDoneBy, IsScriptPlayed, IsScriptControlled, IsReplayed, IsMigrated, Writes, WritesPart}
 use Rattle.hp_play.specs.Racks.{Racks, Stays, racks_of}
 use Rattle.hp_play.specs.Stops.{Reads, Stops, StopsScript, StopsControl, StopsJournal}
 
@@ -100,7 +101,12 @@ Controls controlling from hook source source_now rack rack_now =
 abbrev pub Replays : {S Z : Type 0} → Source.Ghosts S → (source source_now : S) → (text : Vec ℕ Z) → Type 0
 Replays from source source_now = λ text. IsReplayed (from.left source) (from.left source_now) text.items
 
--- why nothing is: of any command, of one that plays a script, as it says or under SMT control, and of one that reads a journal
+-- so of the journal that it holds in version 1
+abbrev pub Migrates : {S Z : Type 0} → Source.Ghosts S → (source source_now : S) → (text : Vec ℕ Z) → Type 0
+Migrates from source source_now = λ text. IsMigrated (from.left source) (from.left source_now) text.items
+
+-- why nothing is: of any command, of one that plays a script, as it says or under SMT control, and of one that reads a journal in
+-- a version
 abbrev pub StopsAt :
     {S H : Type 0} → Command → Source.Ghosts S → (source source_now : S) → (rack : Rack H) → Stop → Type 0
 StopsAt command from source source_now rack =
@@ -114,6 +120,6 @@ abbrev pub StopsControlAt : {S H : Type 0} → Source.Ghosts S → (source sourc
 StopsControlAt from source source_now rack =
     StopsControl (length rack.hooks.items) (from.left source) (from.left source_now) (from.faults source) (from.faults source_now)
 
-abbrev pub StopsJournalAt : {S : Type 0} → Source.Ghosts S → (source source_now : S) → Stop → Type 0
-StopsJournalAt from source source_now =
-    StopsJournal (from.left source) (from.left source_now) (from.faults source) (from.faults source_now)
+abbrev pub StopsJournalAt : {S : Type 0} → Version → Source.Ghosts S → (source source_now : S) → Stop → Type 0
+StopsJournalAt v from source source_now =
+    StopsJournal v (from.left source) (from.left source_now) (from.faults source) (from.faults source_now)

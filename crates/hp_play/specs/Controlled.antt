@@ -1,9 +1,10 @@
 -- What is so of the run of a script under SMT control, of what is written of it, and of the rack after it. This project's own.
 use Rattle.std.specs.Prelude.{◌≡◌, ◌+◌, ◌≤◌, Bool, true, false, ℕ, List, ◌++◌, length}
 use Rattle.hp_command.specs.declared.controlling.Controlling.{Controlling}
-use Rattle.hp_model.specs.JournalText.{journal_text}
 use Rattle.hp_model.specs.Processors.{present}
 use Rattle.hp_model.specs.Summary.{summary}
+use Rattle.hp_model.specs.JournalText.{journal_text}
+use Rattle.hp_event.specs.declared.version.Version.TheVariants.{Two}
 use Rattle.hp_script.specs.Script.{Contents}
 use Rattle.hp_smt.specs.Run.{SmtState, IsSmtRun}
 use Rattle.hp_smt.specs.declared.mode.Control.{Control}
@@ -32,7 +33,7 @@ pub record IsRunUnder (c : Controlling) (script : Contents) (at : SmtState) : Ty
 
 abbrev pub controlled_text : Contents → SmtState → List ℕ
 controlled_text script at =
-    (journal_text script.head at.run.events ++ summary script.head at.run.events) ++ control_text at.written at.denied
+    (journal_text Two script.head at.run.events ++ summary script.head at.run.events) ++ control_text at.written at.denied
 
 -- there is one such run of the script, of which the text is written, and by which the rack is
 pub record WasControlled {H : Type 0} (c : Controlling) (script : Contents) (rack : Racks H) (written : List ℕ) : Type 0 where

@@ -12,6 +12,9 @@ use Rattle.hp_edge.specs.Reading.{WasRead}
 use Rattle.hp_edge.specs.Refusals.{script_error_line, journal_error_line}
 use Rattle.hp_edge.specs.Scripts.{counted_hooks, HoldsScript, HasReadScript, IsBadScript}
 use Rattle.hp_model.specs.Summary.{summary}
+use Rattle.hp_event.specs.declared.version.Version.{Version}
+use Rattle.hp_event.specs.declared.version.Version.TheVariants.{One, Two}
+use Rattle.hp_model.specs.JournalText.{journal_text}
 use Rattle.hp_replay.specs.declared.error.ReplayError.TheVariants.{Bad as BadJournal}
 use Rattle.hp_replay.specs.declared.error.ReplayKind.{ReplayKind}
 use Rattle.hp_replay.specs.Judged.{accepted, refused}
@@ -29,7 +32,7 @@ use Rattle.hp_play.specs.Racks.{Racks, Stays}
 
 abbrev pub usage_line : List ℕ
 usage_line =
-    codes "usage: hp play|replay|states|report|gen|bench|smt|count [--seed N] [--size N] [T MODE] [STATE BATCH]" ++ 10 ∷ []
+    codes "usage: hp play|replay|states|report|gen|bench|migrate|smt|count [--seed N] [--size N] [T MODE] [STATE BATCH]" ++ 10 ∷ []
 
 -- what answers a script that leaves no seat for the client that writes to SMT control
 abbrev pub no_seat_line : List ℕ
@@ -51,14 +54,23 @@ pub record IsScriptControlled {H : Type 0} (c : Controlling) (rack : Racks H) (l
     pub read : HasReadScript (length rack.old) left now script
     pub played : WasControlled c script rack written
 
--- the source holds the text of a lawful journal, with or without its summary, which is written
+-- the source holds the text of a lawful journal in version 2, with or without its summary, which is written
 pub record IsReplayed (left now : Option (List ℕ)) (written : List ℕ) : Type 0 where
   pub bytes : List ℕ
   pub read : WasRead MAX_JOURNAL_BYTES left now bytes
   pub head : Head
   pub events : List Event
-  pub is_text : IsReplay bytes (accepted head events)
+  pub is_text : IsReplay Two bytes (accepted head events)
   pub written_is : written ≡ summary head events
+
+-- it holds such a text in version 1; the journal's text in version 2 is written, and the summary
+pub record IsMigrated (left now : Option (List ℕ)) (written : List ℕ) : Type 0 where
+  pub bytes : List ℕ
+  pub read : WasRead MAX_JOURNAL_BYTES left now bytes
+  pub head : Head
+  pub events : List Event
+  pub is_text : IsReplay One bytes (accepted head events)
+  pub written_is : written ≡ journal_text Two head events ++ summary head events
 
 -- nothing was read, and a script was generated and played
 pub record IsBenchPlayed {H : Type 0} (seed size : ℕ) (rack : Racks H) (left now : Option (List ℕ)) (written : List ℕ) : Type 0 where
@@ -70,6 +82,7 @@ IsDoneBy asks.Play rack left now written = IsScriptPlayed writes.Journal rack le
 IsDoneBy asks.States rack left now written = IsScriptPlayed writes.States rack left now written
 IsDoneBy asks.Report rack left now written = IsScriptPlayed writes.Report rack left now written
 IsDoneBy asks.Replay rack left now written = IsReplayed left now written
+IsDoneBy asks.Migrate rack left now written = IsMigrated left now written
 IsDoneBy (asks.Gen options) rack left now written = (now ≡ left) × (written ≡ generated options.seed options.size)
 IsDoneBy (asks.Bench options) rack left now written = IsBenchPlayed options.seed options.size rack left now written
 IsDoneBy (asks.Count counting) rack left now written = IsScriptPlayed (writes.Count counting) rack left now written
@@ -78,18 +91,19 @@ IsDoneBy (asks.Smt controlling) rack left now written = IsScriptControlled contr
 -- a command that plays no script
 abbrev pub PlaysNothing : Command → Type 0
 PlaysNothing asks.Replay = Unit {0}
+PlaysNothing asks.Migrate = Unit {0}
 PlaysNothing (asks.Gen options) = Unit {0}
 PlaysNothing _ = ⊥
 
 -- ---- what is accepted
 
--- the source holds the text of a lawful journal, with or without its summary
-pub record HoldsJournal (left : Option (List ℕ)) : Type 0 where
+-- the source holds the text of a lawful journal in a version, with or without its summary
+pub record HoldsJournal (v : Version) (left : Option (List ℕ)) : Type 0 where
   pub bytes : List ℕ
   pub head : Head
   pub events : List Event
   pub held : left ≡ Some bytes
-  pub is_text : IsReplay bytes (accepted head events)
+  pub is_text : IsReplay v bytes (accepted head events)
 
 -- the source holds a script that leaves a seat for the client that writes to SMT control
 pub record HoldsControlled (hooks : ℕ) (left : Option (List ℕ)) : Type 0 where
@@ -101,7 +115,8 @@ abbrev pub HasInput : Command → (hooks : ℕ) (left : Option (List ℕ)) → T
 HasInput asks.Play hooks left = HoldsScript hooks left
 HasInput asks.States hooks left = HoldsScript hooks left
 HasInput asks.Report hooks left = HoldsScript hooks left
-HasInput asks.Replay hooks left = HoldsJournal left
+HasInput asks.Replay hooks left = HoldsJournal Two left
+HasInput asks.Migrate hooks left = HoldsJournal One left
 HasInput (asks.Gen options) hooks left = Unit {0}
 HasInput (asks.Bench options) hooks left = 12 ≤ hooks
 HasInput (asks.Count counting) hooks left = HoldsScript hooks left
@@ -137,14 +152,20 @@ IsRefusedBy (asks.Count counting) hooks left now written = IsBadScript hooks lef
 IsRefusedBy (asks.Smt controlling) hooks left now written = IsBadControl hooks left now written
 IsRefusedBy _ hooks left now written = ⊥
 
--- the source holds no journal: this line is the first that can't stand, for this cause
-pub record IsBadJournal (left now : Option (List ℕ)) (written : List ℕ) : Type 0 where
+-- the source holds no journal in a version: this line is the first that can't stand, for this cause
+pub record IsBadJournal (v : Version) (left now : Option (List ℕ)) (written : List ℕ) : Type 0 where
   pub bytes : List ℕ
   pub read : WasRead MAX_JOURNAL_BYTES left now bytes
   pub line : ℕ
   pub kind : ReplayKind
-  pub refused_is : IsReplay bytes (refused line kind)
+  pub refused_is : IsReplay v bytes (refused line kind)
   pub written_is : written ≡ journal_error_line (BadJournal line kind)
+
+-- of a command that reads one
+abbrev pub IsBadJournalOf : Command → (left now : Option (List ℕ)) (written : List ℕ) → Type 0
+IsBadJournalOf asks.Replay left now written = IsBadJournal Two left now written
+IsBadJournalOf asks.Migrate left now written = IsBadJournal One left now written
+IsBadJournalOf _ left now written = ⊥
 
 -- ---- what is answered
 
@@ -171,8 +192,7 @@ abbrev pub IsAnswer : {H : Type 0} → Answer → (words : List (List ℕ)) → 
 IsAnswer done words rack left now bytes = Asked words (λ command. IsDoneBy command rack left now bytes)
 IsAnswer usage words rack left now bytes = IsUsage words left now bytes × Stays rack
 IsAnswer refusal words rack left now bytes = Asked words (λ command. IsRefusedBy command (length rack.old) left now bytes) × Stays rack
-IsAnswer bad_journal words rack left now bytes =
-    Asked words (λ command. (command ≡ asks.Replay) × IsBadJournal left now bytes) × Stays rack
+IsAnswer bad_journal words rack left now bytes = Asked words (λ command. IsBadJournalOf command left now bytes) × Stays rack
 
 -- the answer is what the sink took
 pub record Writes {H : Type 0} (answer : Answer) (words : List (List ℕ)) (rack : Racks H) (left now taken taken_now : Option (List ℕ)) : Type 0

@@ -6,7 +6,8 @@ use Rattle.hp_command.specs.Controlling.{AreThreads}
 use Rattle.hp_play.specs.declared.stop.Stop.{Stop}
 use Rattle.hp_play.specs.declared.stop.Stop.TheVariants.{BadScript, BadJournal, ReadFault, NoMemory}
 use Rattle.hp_play.specs.Ranges.{AreInRange, CanBeCounted}
-use Rattle.hp_play.specs.Main.{IsBadJournal, IsBadControl, IsRefusedBy}
+use Rattle.hp_play.specs.Main.{IsBadJournal, IsBadJournalOf, IsBadControl, IsRefusedBy}
+use Rattle.hp_event.specs.declared.version.Version.{Version}
 use Rattle.hp_edge.specs.declared.script.NoScript.{NoScript}
 use Rattle.hp_edge.specs.declared.script.NoScript.TheVariants as no_script
 use Rattle.hp_edge.specs.Scripts.{IsBad, IsBadScript}
@@ -25,6 +26,7 @@ Reads asks.Play = Unit {0}
 Reads asks.States = Unit {0}
 Reads asks.Report = Unit {0}
 Reads asks.Replay = Unit {0}
+Reads asks.Migrate = Unit {0}
 Reads (asks.Count counting) = Unit {0}
 Reads (asks.Smt controlling) = Unit {0}
 Reads _ = ⊥
@@ -34,7 +36,7 @@ abbrev pub Stops : Command → (hooks : ℕ) (left now : Option (List ℕ)) (fau
 Stops command hooks left now faults faults_now (BadScript line) =
     IsRefusedBy command hooks left now line.items × (faults_now ≡ faults)
 Stops command hooks left now faults faults_now (BadJournal line) =
-    (command ≡ asks.Replay) × IsBadJournal left now line.items × (faults_now ≡ faults)
+    IsBadJournalOf command left now line.items × (faults_now ≡ faults)
 Stops command hooks left now faults faults_now ReadFault = Reads command × (faults_now ≡ faults + 1)
 Stops command hooks left now faults faults_now NoMemory = faults_now ≡ faults
 
@@ -52,12 +54,12 @@ StopsControl hooks left now faults faults_now (BadJournal line) = ⊥
 StopsControl hooks left now faults faults_now ReadFault = faults_now ≡ faults + 1
 StopsControl hooks left now faults faults_now NoMemory = faults_now ≡ faults
 
--- the same of a journal that is read
-abbrev pub StopsJournal : (left now : Option (List ℕ)) (faults faults_now : ℕ) → Stop → Type 0
-StopsJournal left now faults faults_now (BadScript line) = ⊥
-StopsJournal left now faults faults_now (BadJournal line) = IsBadJournal left now line.items × (faults_now ≡ faults)
-StopsJournal left now faults faults_now ReadFault = faults_now ≡ faults + 1
-StopsJournal left now faults faults_now NoMemory = faults_now ≡ faults
+-- the same of a journal that is read in a version
+abbrev pub StopsJournal : Version → (left now : Option (List ℕ)) (faults faults_now : ℕ) → Stop → Type 0
+StopsJournal v left now faults faults_now (BadScript line) = ⊥
+StopsJournal v left now faults faults_now (BadJournal line) = IsBadJournal v left now line.items × (faults_now ≡ faults)
+StopsJournal v left now faults faults_now ReadFault = faults_now ≡ faults + 1
+StopsJournal v left now faults faults_now NoMemory = faults_now ≡ faults
 
 -- the same of the bytes of a script
 abbrev pub Refuses : (hooks : ℕ) (bytes : List ℕ) → Stop → Type 0

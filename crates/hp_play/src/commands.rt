@@ -8,7 +8,8 @@ ghost use Rattle.hp_play.specs.Ranges.{CanBeWritten};
 ghost use Rattle.hp_play.specs.Stops.{HasRanges, Refuses};
 ghost use Rattle.hp_command.specs.Controlling.{AreThreads};
 ghost use Rattle.hp_play.specs.Calls.{Does, StopsAt, Plays, StopsScriptAt, Controls, StopsControlAt};
-ghost use Rattle.hp_play.specs.Calls.{Replays, StopsJournalAt};
+ghost use Rattle.hp_event.specs.declared.version.Version.TheVariants.{One, Two};
+ghost use Rattle.hp_play.specs.Calls.{Replays, Migrates, StopsJournalAt};
 
 use crate::controlled::{has_seat_more, no_seat_line, text_controlled};
 use crate::output::Output;
@@ -18,7 +19,8 @@ use hp_command::{Command, Controlling};
 use hp_edge::{journal_error_line, read_input, read_script, script_of};
 use hp_hook::{Hook, Rack};
 use hp_io::Source;
-use hp_replay::{ReplayError, check_and_summarize};
+use hp_print::journal_and_summary;
+use hp_replay::{ReplayError, check_and_summarize, check1};
 use hp_script::generate;
 use hp_states::MAX_JOURNAL_BYTES;
 use std::alloc::Global;
@@ -43,6 +45,7 @@ pub fn output_of<S: Source, H: Hook>(
         Command::States => script_played(alloc, Output::States, source, rack),
         Command::Report => script_played(alloc, Output::Report, source, rack),
         Command::Replay => replayed(alloc, source),
+        Command::Migrate => migrated(alloc, source),
         Command::Count(counting) => script_played(alloc, Output::Count(counting), source, rack),
         Command::Smt(controlling) => script_controlled(alloc, controlling, source, rack),
         Command::Gen(options) => Ok(generate(alloc, options.seed, options.size)?),
@@ -118,12 +121,12 @@ fn text_of_script<H: Hook>(
     }
 }
 
-/// The summary of the journal whose text a source holds.
+/// The summary of the journal whose text in version 2 a source holds.
 fn replayed<S: Source>(alloc: Global, source: &mut S) -> Result<Vec<u8>, Stop>
     requires { S.faults source.old < u64.MAX }
     ensures replayed { IfOk result (Replays S.Source source.old source.new) }
     ensures faults { OnOk result (S.faults source.new ≡ S.faults source.old) }
-    ensures stop { IfErr result (StopsJournalAt S.Source source.old source.new) }
+    ensures stop { IfErr result (StopsJournalAt Two S.Source source.old source.new) }
 {
     let bytes = match read_input(alloc, source, MAX_JOURNAL_BYTES) {
         Ok(bytes) => bytes,
@@ -131,6 +134,24 @@ fn replayed<S: Source>(alloc: Global, source: &mut S) -> Result<Vec<u8>, Stop>
     };
     match check_and_summarize(alloc, &bytes) {
         Ok((_, summary)) => Ok(summary),
+        Err(ReplayError::NoMemory) => Err(Stop::NoMemory),
+        Err(error) => Err(Stop::BadJournal(journal_error_line(alloc, error)?)),
+    }
+}
+
+/// The text in version 2 of the journal whose text in version 1 a source holds, and its summary.
+fn migrated<S: Source>(alloc: Global, source: &mut S) -> Result<Vec<u8>, Stop>
+    requires { S.faults source.old < u64.MAX }
+    ensures migrated { IfOk result (Migrates S.Source source.old source.new) }
+    ensures faults { OnOk result (S.faults source.new ≡ S.faults source.old) }
+    ensures stop { IfErr result (StopsJournalAt One S.Source source.old source.new) }
+{
+    let bytes = match read_input(alloc, source, MAX_JOURNAL_BYTES) {
+        Ok(bytes) => bytes,
+        Err(error) => return Err(Stop::of_read(error)),
+    };
+    match check1(alloc, &bytes) {
+        Ok(journal) => Ok(journal_and_summary(alloc, &journal)?),
         Err(ReplayError::NoMemory) => Err(Stop::NoMemory),
         Err(error) => Err(Stop::BadJournal(journal_error_line(alloc, error)?)),
     }

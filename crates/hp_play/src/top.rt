@@ -16,7 +16,7 @@ use hp_states::NoMemory;
 use std::alloc::Global;
 
 const USAGE: &[u8] =
-    b"usage: hp play|replay|states|report|gen|bench|smt|count [--seed N] [--size N] [T MODE] [STATE BATCH]\n";
+    b"usage: hp play|replay|states|report|gen|bench|migrate|smt|count [--seed N] [--size N] [T MODE] [STATE BATCH]\n";
 
 /// The program `hp`: does what the words say, and answers the exit status. It always returns.
 ///
@@ -24,6 +24,7 @@ const USAGE: &[u8] =
 /// |---|---|---|
 /// | `play` | a script | the text of its journal, then the summary |
 /// | `replay` | the text of a journal, with or without its summary | the summary |
+/// | `migrate` | the text of a journal in version 1, with or without its summary | its text in version 2, then the summary |
 /// | `states` | a script | the states file after its run |
 /// | `report` | a script | the report of its journal, in JSON |
 /// | `count STATE BATCH` | a script | the line of counters that went through its journal |
@@ -44,15 +45,16 @@ const USAGE: &[u8] =
 /// | 3 | only where a read failed, so never of `gen` and `bench` | nothing |
 /// | 4 | only where a write failed | the first bytes of what was to be written |
 /// | 5 | memory was wanting | nothing |
-/// | 6 | exactly where the journal is refused, of `replay` alone | its first line that can't stand, and the cause |
+/// | 6 | exactly where the journal is refused, of `replay` and `migrate` alone | its first line that can't stand, and the cause |
 ///
-/// A script (of `smt` one that leaves a seat more), and the text of a lawful journal, is never refused: where
-/// no read and no write fails the status is 0, or 5. For the statuses 0, 2 and 6 of a command that reads, the
+/// The text of a journal is in version 2, but where version 1 is named. A script (of `smt` one that leaves a
+/// seat more), and the text of a lawful journal, is never refused: where no read and no write fails the
+/// status is 0, or 5. For the statuses 0, 2 and 6 of a command that reads, the
 /// source was read to its end, or to one byte past the most bytes of such an input. A script is played with
 /// hooks of the rack, one for each of its setups; the journal is the run of its actors by its schedule, and
 /// lawful: `specs/Played.antt` says what is so of it, and `specs/Racks.antt` of the rack after it; of `smt` it
-/// is the run that `specs/Controlled.antt` says. Under 1, 2, 3 and 6 the rack is as it was, and of `replay` and
-/// `gen` under every status; under 4 it is as under the status whose answer was begun. Where memory was wanting
+/// is the run that `specs/Controlled.antt` says. Under 1, 2, 3 and 6 the rack is as it was, and of `replay`,
+/// `migrate` and `gen` under every status; under 4 it is as under the status whose answer was begun. Where memory was wanting
 /// for a script, some hooks may be lost. The statuses are this project's own.
 pub fn hp_main<S: Source, K: Sink, H: Hook>(
     alloc: Global,

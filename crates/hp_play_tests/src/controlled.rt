@@ -29,29 +29,20 @@ const CONTROLLED: [Controlled; 3] = [
     },
 ];
 
-/// 64 threads and 32 actors have all seats.
-const NO_SEAT: &str = "cpus 64\n\
+/// As many processors and actors as there may be.
+const MOST_SEATS: &str = "cpus 256\n\
     actor a\nactor b\nactor c\nactor d\nactor e\nactor f\nactor g\nactor h\n\
     actor i\nactor j\nactor k\nactor l\nactor m\nactor n\nactor o\nactor p\n\
     actor q\nactor r\nactor s\nactor t\nactor u\nactor v\nactor w\nactor x\n\
     actor y\nactor z\nactor aa\nactor ab\nactor ac\nactor ad\nactor ae\nactor af\n";
 
-const REFUSED: &[Row] = &[
-    Row {
-        name: "no seat for the client that writes",
-        words: &["smt", "2", "off"],
-        input: NO_SEAT,
-        status: 2,
-        output: "error: no seat is left\n",
-    },
-    Row {
-        name: "a script that is refused under SMT control",
-        words: &["smt", "8", "forceoff"],
-        input: "cpus 2\nactor a\nup 2\nfly\n",
-        status: 2,
-        output: "error: line 4: bad word\n",
-    },
-];
+const REFUSED: &[Row] = &[Row {
+    name: "a script that is refused under SMT control",
+    words: &["smt", "8", "forceoff"],
+    input: "cpus 2\nactor a\nup 2\nfly\n",
+    status: 2,
+    output: "error: line 4: bad word\n",
+}];
 
 #[test]
 fn scripts_under_smt_control(rt: HostRuntime) -> Result<(), Fail> {
@@ -67,6 +58,17 @@ fn scripts_under_smt_control(rt: HostRuntime) -> Result<(), Fail> {
         let wanted = joined(rt.alloc(), &[journal, summary, row.behind])?;
         assert_text(&rt, name, &written, &wanted);
     }
+    Ok(())
+}
+
+/// The client that writes has a seat beside 256 threads and 32 actors.
+#[test]
+fn a_seat_is_left_for_the_client(rt: HostRuntime) -> Result<(), Fail> {
+    let words = ["smt", "2", "off"];
+    let (status, written) = run_alone(&rt, rt.alloc(), &words, MOST_SEATS.as_bytes())?;
+    assert!(rt; status == 0);
+    let wanted = b"\nevents 289\nsmt off ok 0 online 0\nsmt on ok 0 online 0\ndenied 0\n";
+    assert!(rt; written.ends_with(wanted.as_slice()));
     Ok(())
 }
 

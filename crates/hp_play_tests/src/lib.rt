@@ -8,6 +8,8 @@
 #![tactic(auto)]
 
 #[cfg(test)]
+mod booted;
+#[cfg(test)]
 mod caller;
 #[cfg(test)]
 mod controlled;
@@ -21,6 +23,8 @@ mod full;
 mod generated;
 #[cfg(test)]
 mod hostile;
+#[cfg(test)]
+mod migrated;
 #[cfg(test)]
 mod played;
 #[cfg(test)]

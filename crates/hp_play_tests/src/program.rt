@@ -109,7 +109,7 @@ fn play_with_failing_write(
 #[test]
 fn each_failing_write_is_told(rt: HostRuntime) -> Result<(), Fail> {
     let wanted = written_of_two_startups(rt.alloc())?;
-    // 579 bytes by hundreds
+    // 591 bytes by hundreds
     for call in 1..7 {
         let (status, faults, written) = play_with_failing_write(&rt, rt.alloc(), call)?;
         assert!(rt; (status, faults) == (4, 1), "write {call}");

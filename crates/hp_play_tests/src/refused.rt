@@ -20,8 +20,8 @@ const INPUTS: &[Row] = &[
     },
     Row {
         name: "a processor too many",
-        words: &["states"],
-        input: "cpus 65\nactor a\n",
+        words: &["play"],
+        input: "cpus 257\nactor a\nboot 256\n",
         status: 2,
         output: "error: line 1: bad number\n",
     },
@@ -54,7 +54,7 @@ fn inputs_that_are_refused(rt: HostRuntime) -> Result<(), Fail> {
 }
 
 const USAGE: &str =
-    "usage: hp play|replay|states|report|gen|bench|smt|count [--seed N] [--size N] [T MODE] [STATE BATCH]\n";
+    "usage: hp play|replay|states|report|gen|bench|migrate|smt|count [--seed N] [--size N] [T MODE] [STATE BATCH]\n";
 
 const WORDS: &[Row] = &[
     Row {
@@ -95,6 +95,13 @@ const WORDS: &[Row] = &[
     Row {
         name: "a report with another word",
         words: &["report", "1"],
+        input: "",
+        status: 1,
+        output: USAGE,
+    },
+    Row {
+        name: "a migrate with another word",
+        words: &["migrate", "1"],
         input: "",
         status: 1,
         output: USAGE,

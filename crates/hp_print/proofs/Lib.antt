@@ -7,5 +7,6 @@ pub mod FirstTally
 pub mod Lists
 pub mod SummaryText
 pub mod NameText
+pub mod OperationNumbersLaws
 pub mod ReportValue
 pub mod ReportShape

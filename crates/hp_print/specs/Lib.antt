@@ -1,6 +1,7 @@
 pub mod Appends
 pub mod Counting
 pub mod Counts
+pub mod OperationNumbers
 pub mod Report
 pub mod ReportLaws
 pub mod Steps

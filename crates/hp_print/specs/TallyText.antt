@@ -8,6 +8,7 @@ use Rattle.hp_event.specs.declared.event.Event.{Event}
 use Rattle.hp_model.specs.Lists.{among, numbers}
 use Rattle.hp_model.specs.Processors.{is_present}
 use Rattle.hp_model.specs.Words.{line, name_word, list_words}
+use Rattle.hp_event.specs.declared.version.Version.TheVariants.{Two}
 use Rattle.hp_model.specs.JournalText.{journal_text}
 use Rattle.hp_model.specs.Summary.{key_word, presence_word, name_of, summary}
 use Rattle.hp_print.specs.declared.keys.KeyCount.{KeyCount}
@@ -108,7 +109,7 @@ list_ended start bytes = if length bytes == start then bytes ++ 32 ∷ 45 ∷ []
 
 -- the text of a journal, and behind it its summary
 abbrev pub text_and_summary : Head → List Event → List ℕ
-text_and_summary head events = journal_text head events ++ summary head events
+text_and_summary head events = journal_text Two head events ++ summary head events
 
 -- the whole summary
 unfoldable pub tally_text : Head → Tally → (events : ℕ) → List ℕ

@@ -1,10 +1,11 @@
 //! The line of an event.
 
-ghost use Rattle.std.specs.Prelude.{◌≡◌, ◌++◌, ◌∷◌, OnOk, IfOk, true};
+ghost use Rattle.std.specs.Prelude.{◌≡◌, ◌++◌, ◌∷◌, [], OnOk, IfOk, true, decimal};
 ghost use Rattle.hp_event.specs.declared.event.Event.TheVariants as event;
-ghost use Rattle.hp_model.specs.Words.{spaced, dir_word};
+ghost use Rattle.hp_model.specs.Words.{spaced, joined, dir_word};
 ghost use Rattle.hp_model.specs.HasLine.{lists_one as lists_one_of, has_line as has_line_of};
-ghost use Rattle.hp_model.specs.EventLine.{event_line as line_of, how_words, answer_words, walk_answer_words, role_words, file_words};
+ghost use Rattle.hp_model.specs.EventLine.{how_words, answer_words, walk_answer_words, role_words, file_words, event_line as line_of};
+ghost use Rattle.hp_event.specs.declared.version.Version.TheVariants.{Two};
 ghost use Rattle.hp_print.specs.Appends.{Appends, AppendsWords};
 
 use hp_event::{Answer, Event, File, How, Key, Op, Role};
@@ -95,48 +96,63 @@ fn append_file(out: &mut Vec<u8>, file: File, cpu: u32) -> Result<(), AllocError
 
 /// Appends the words of a seat that comes in.
 fn append_admit(out: &mut Vec<u8>, seat: u32, role: Role) -> Result<(), AllocError>
-    ensures { OnOk result (AppendsWords out.old out.new (event.Admit seat role)) }
+    ensures { OnOk result (AppendsWords out.old out.new 0 (event.Admit seat role)) }
 {
     append_of(out, b"admit", seat)?;
     append_role(out, role)
 }
 
 /// Appends the words of an operation that takes the map lock.
-fn append_enter(out: &mut Vec<u8>, seat: u32, op: &Op) -> Result<(), AllocError>
-    ensures { OnOk result (AppendsWords out.old out.new (event.Enter seat op.now)) }
+fn append_enter(out: &mut Vec<u8>, seat: u32, number: u32, op: &Op) -> Result<(), AllocError>
+    ensures { OnOk result (AppendsWords out.old out.new number (event.Enter seat op.now)) }
 {
     append_of(out, b"enter", seat)?;
+    append_number(out, number)?;
     append_op(out, op)
 }
 
 /// Appends the words of an operation that gives the map lock back.
-fn append_done(out: &mut Vec<u8>, seat: u32, answer: Answer) -> Result<(), AllocError>
-    ensures { OnOk result (AppendsWords out.old out.new (event.OpEnd seat answer)) }
+fn append_done(out: &mut Vec<u8>, seat: u32, number: u32, answer: Answer) -> Result<(), AllocError>
+    ensures { OnOk result (AppendsWords out.old out.new number (event.OpEnd seat answer)) }
 {
     append_of(out, b"done", seat)?;
+    append_number(out, number)?;
     append_answer(out, answer)
 }
 
 /// Appends the words of a registration that ends.
-fn append_regged(out: &mut Vec<u8>, seat: u32, answer: Answer) -> Result<(), AllocError>
-    ensures { OnOk result (AppendsWords out.old out.new (event.RegEnd seat answer)) }
+fn append_regged(
+    out: &mut Vec<u8>,
+    seat: u32,
+    number: u32,
+    answer: Answer,
+) -> Result<(), AllocError>
+    ensures { OnOk result (AppendsWords out.old out.new number (event.RegEnd seat answer)) }
 {
     append_of(out, b"regged", seat)?;
+    append_number(out, number)?;
     append_answer(out, answer)
 }
 
 /// Appends the words of an operation that is refused.
-fn append_refused(out: &mut Vec<u8>, seat: u32, errno: u32, op: &Op) -> Result<(), AllocError>
-    ensures { OnOk result (AppendsWords out.old out.new (event.Refused seat errno op.now)) }
+fn append_refused(
+    out: &mut Vec<u8>,
+    seat: u32,
+    number: u32,
+    errno: u32,
+    op: &Op,
+) -> Result<(), AllocError>
+    ensures { OnOk result (AppendsWords out.old out.new number (event.Refused seat errno op.now)) }
 {
     append_of(out, b"refused", seat)?;
+    append_number(out, number)?;
     append_number(out, errno)?;
     append_op(out, op)
 }
 
 /// Appends the words of a walk that begins.
 fn append_walk(out: &mut Vec<u8>, seat: u32, cpu: u32, from: u32, to: u32) -> Result<(), AllocError>
-    ensures { OnOk result (AppendsWords out.old out.new (event.WalkBegin seat cpu from to)) }
+    ensures { OnOk result (AppendsWords out.old out.new 0 (event.WalkBegin seat cpu from to)) }
 {
     append_of(out, b"walk", seat)?;
     append_number(out, cpu)?;
@@ -153,7 +169,7 @@ fn append_call(
     dir: Dir,
     how: How,
 ) -> Result<(), AllocError>
-    ensures { OnOk result (AppendsWords out.old out.new (event.Call seat cpu key.state key.inst dir how)) }
+    ensures { OnOk result (AppendsWords out.old out.new 0 (event.Call seat cpu key.state key.inst dir how)) }
 {
     append_of(out, b"call", seat)?;
     append_number(out, cpu)?;
@@ -179,7 +195,7 @@ fn append_made(out: &mut Vec<u8>, dir: Dir, how: How) -> Result<(), AllocError>
 
 /// Appends the words of a walk that ends.
 fn append_walked(out: &mut Vec<u8>, seat: u32, cpu: u32, answer: Answer) -> Result<(), AllocError>
-    ensures { OnOk result (AppendsWords out.old out.new (event.WalkEnd seat cpu answer)) }
+    ensures { OnOk result (AppendsWords out.old out.new 0 (event.WalkEnd seat cpu answer)) }
 {
     append_of(out, b"walked", seat)?;
     append_number(out, cpu)?;
@@ -187,19 +203,33 @@ fn append_walked(out: &mut Vec<u8>, seat: u32, cpu: u32, answer: Answer) -> Resu
 }
 
 /// Appends the words of a registration that begins.
-fn append_reg(out: &mut Vec<u8>, seat: u32, state: u32, op: &Op) -> Result<(), AllocError>
-    ensures { OnOk result (AppendsWords out.old out.new (event.RegBegin seat state op.now)) }
+fn append_reg(
+    out: &mut Vec<u8>,
+    seat: u32,
+    number: u32,
+    state: u32,
+    op: &Op,
+) -> Result<(), AllocError>
+    ensures { OnOk result (AppendsWords out.old out.new number (event.RegBegin seat state op.now)) }
 {
     append_of(out, b"reg", seat)?;
+    append_number(out, number)?;
     append_number(out, state)?;
     append_op(out, op)
 }
 
 /// Appends the words of a `fail` file that was written.
-fn append_armed(out: &mut Vec<u8>, seat: u32, cpu: u32, value: i32) -> Result<(), AllocError>
-    ensures { OnOk result (AppendsWords out.old out.new (event.Armed seat cpu value)) }
+fn append_armed(
+    out: &mut Vec<u8>,
+    seat: u32,
+    number: u32,
+    cpu: u32,
+    value: i32,
+) -> Result<(), AllocError>
+    ensures { OnOk result (AppendsWords out.old out.new number (event.Armed seat cpu value)) }
 {
     append_of(out, b"armed", seat)?;
+    append_number(out, number)?;
     append_number(out, cpu)?;
     append_signed(out, value)
 }
@@ -208,26 +238,36 @@ fn append_armed(out: &mut Vec<u8>, seat: u32, cpu: u32, value: i32) -> Result<()
 fn append_shown(
     out: &mut Vec<u8>,
     seat: u32,
+    number: u32,
     file: File,
     cpu: u32,
     value: i32,
 ) -> Result<(), AllocError>
-    ensures { OnOk result (AppendsWords out.old out.new (event.Shown seat file cpu value)) }
+    ensures { OnOk result (AppendsWords out.old out.new number (event.Shown seat file cpu value)) }
 {
     append_of(out, b"shown", seat)?;
+    append_number(out, number)?;
     append_file(out, file, cpu)?;
     append_signed(out, value)
 }
 
-/// Appends the words of an event.
-fn append_words(out: &mut Vec<u8>, event: &Event) -> Result<(), AllocError>
-    ensures { OnOk result (AppendsWords out.old out.new event.now) }
+/// Appends the words of an operation's event that has no others.
+fn append_alone(out: &mut Vec<u8>, word: &[u8], seat: u32, number: u32) -> Result<(), AllocError>
+    ensures { OnOk result (Appends out.old out.new (joined (word.now ∷ decimal seat ∷ decimal number ∷ []))) }
+{
+    append_of(out, word, seat)?;
+    append_number(out, number)
+}
+
+/// Appends the words of an event, with this number of its operation where it is one's.
+fn append_words(out: &mut Vec<u8>, event: &Event, number: u32) -> Result<(), AllocError>
+    ensures { OnOk result (AppendsWords out.old out.new number event.now) }
 {
     match event {
         Event::Admit { seat, role } => append_admit(out, *seat, *role),
         Event::Leave { seat } => append_of(out, b"leave", *seat),
-        Event::Enter { seat, op } => append_enter(out, *seat, op),
-        Event::Refused { seat, errno, op } => append_refused(out, *seat, *errno, op),
+        Event::Enter { seat, op } => append_enter(out, *seat, number, op),
+        Event::Refused { seat, errno, op } => append_refused(out, *seat, number, *errno, op),
         Event::WalkBegin {
             seat,
             cpu,
@@ -253,27 +293,27 @@ fn append_words(out: &mut Vec<u8>, event: &Event) -> Result<(), AllocError>
             *how,
         ),
         Event::WalkEnd { seat, cpu, answer } => append_walked(out, *seat, *cpu, *answer),
-        Event::OpEnd { seat, answer } => append_done(out, *seat, *answer),
-        Event::RegBegin { seat, state, op } => append_reg(out, *seat, *state, op),
-        Event::RegEnd { seat, answer } => append_regged(out, *seat, *answer),
-        Event::ReadLock { seat } => append_of(out, b"lock", *seat),
-        Event::ReadUnlock { seat } => append_of(out, b"unlock", *seat),
-        Event::Armed { seat, cpu, value } => append_armed(out, *seat, *cpu, *value),
+        Event::OpEnd { seat, answer } => append_done(out, *seat, number, *answer),
+        Event::RegBegin { seat, state, op } => append_reg(out, *seat, number, *state, op),
+        Event::RegEnd { seat, answer } => append_regged(out, *seat, number, *answer),
+        Event::ReadLock { seat } => append_alone(out, b"lock", *seat, number),
+        Event::ReadUnlock { seat } => append_alone(out, b"unlock", *seat, number),
+        Event::Armed { seat, cpu, value } => append_armed(out, *seat, number, *cpu, *value),
         Event::Shown {
             seat,
             file,
             cpu,
             value,
-        } => append_shown(out, *seat, *file, *cpu, *value),
-        Event::Wakeup { seat } => append_of(out, b"wakeup", *seat),
+        } => append_shown(out, *seat, number, *file, *cpu, *value),
+        Event::Wakeup { seat } => append_alone(out, b"wakeup", *seat, number),
     }
 }
 
-/// Appends the line of an event.
-pub fn append_event(out: &mut Vec<u8>, event: &Event) -> Result<(), AllocError>
-    ensures { OnOk result (Appends out.old out.new (line_of event.now)) }
+/// Appends the line of an event, with this number of its operation where it is one's.
+pub fn append_event(out: &mut Vec<u8>, event: &Event, number: u32) -> Result<(), AllocError>
+    ensures { OnOk result (Appends out.old out.new (line_of Two number event.now)) }
 {
-    append_words(out, event)?;
+    append_words(out, event, number)?;
     end_line(out)
 }
 
@@ -303,15 +343,16 @@ pub fn has_line(event: &Event) -> bool
 
 /// The line of an event, as the text of a journal has it.
 ///
-/// The event is one that has a line, as each of a lawful journal has. Takes memory for the line;
-/// where it is wanting the answer is `NoMemory`. The form of the line is this project's own: the
-/// kind's word, the seat, and what else the kind has, one space between two words and a newline at
-/// the end.
-pub fn event_line(alloc: Global, event: &Event) -> Result<Vec<u8>, NoMemory>
+/// `number` is that of its operation among those of its seat, from 1; of an event of no operation it isn't
+/// looked at. The event is one that has a line, as each of a lawful journal has. Takes memory for the
+/// line; where it is wanting the answer is `NoMemory`. The form of the line is this project's own: the
+/// kind's word, the seat, the operation's number where it is of one, and what else the kind has, one space
+/// between two words and a newline at the end.
+pub fn event_line(alloc: Global, event: &Event, number: u32) -> Result<Vec<u8>, NoMemory>
     requires { has_line_of event.now ≡ true }
-    ensures { IfOk result (λ v. v.items ≡ line_of event.now) }
+    ensures { IfOk result (λ v. v.items ≡ line_of Two number event.now) }
 {
     let mut out = Vec::new(alloc);
-    append_event(&mut out, event)?;
+    append_event(&mut out, event, number)?;
     Ok(out)
 }

@@ -1,12 +1,14 @@
 //! The text of a journal.
 
-ghost use Rattle.std.specs.Prelude.{◌≡◌, OnOk, IfOk};
+ghost use Rattle.std.specs.Prelude.{◌≡◌, ◌≤◌, [], length, OnOk, IfOk};
 ghost use Rattle.std.specs.List.{flat_map};
-ghost use Rattle.hp_model.specs.EventLine.{event_line as line_of};
-ghost use Rattle.hp_model.specs.JournalText.{rule_line, sub_lines, title_line, processor_lines, head_text, journal_text as text_of};
+ghost use Rattle.hp_states.specs.declared.limits.TheConstants.{MAX_EVENTS};
+ghost use Rattle.hp_model.specs.JournalText.{rule_line, sub_lines, processor_lines, title_line, head_text, event_lines, journal_text as text_of};
+ghost use Rattle.hp_event.specs.declared.version.Version.TheVariants.{Two};
 ghost use Rattle.hp_print.specs.Appends.{Appends};
 
 use crate::event::append_event;
+use crate::operation_numbers::OperationNumbers;
 use hp_event::{Event, Head, Journal, Sub};
 use hp_states::{NoMemory, Rule};
 use hp_text::{
@@ -68,15 +70,15 @@ fn append_processors(out: &mut Vec<u8>, head: &Head) -> Result<(), AllocError>
 /// Appends the line of the format.
 #[tactic(auto, unfolding(hp_model::specs::JournalText::title_line))]
 fn append_title(out: &mut Vec<u8>) -> Result<(), AllocError>
-    ensures { OnOk result (Appends out.old out.new title_line) }
+    ensures { OnOk result (Appends out.old out.new (title_line Two)) }
 {
-    append(out, b"cpuhp journal 1\n")
+    append(out, b"cpuhp journal 2\n")
 }
 
 /// Appends the lines before a journal's events.
 #[tactic(auto, unfolding(hp_model::specs::JournalText::head_text))]
 fn append_head(out: &mut Vec<u8>, head: &Head) -> Result<(), AllocError>
-    ensures { OnOk result (Appends out.old out.new (head_text head.now)) }
+    ensures { OnOk result (Appends out.old out.new (head_text Two head.now)) }
 {
     append_title(out)?;
     append_processors(out, head)?;
@@ -84,12 +86,15 @@ fn append_head(out: &mut Vec<u8>, head: &Head) -> Result<(), AllocError>
     append(out, b"events\n")
 }
 
-/// Appends the lines of some events.
-fn append_events(out: &mut Vec<u8>, events: &[Event]) -> Result<(), AllocError>
-    ensures { OnOk result (Appends out.old out.new (flat_map line_of events.now)) }
+/// Appends the lines of some events, the first ones of a journal.
+fn append_events(alloc: Global, out: &mut Vec<u8>, events: &[Event]) -> Result<(), AllocError>
+    requires { length events.now ≤ MAX_EVENTS }
+    ensures { OnOk result (Appends out.old out.new (event_lines Two [] events.now)) }
 {
+    let mut numbers = OperationNumbers::new(alloc);
     for event in events {
-        append_event(out, event)?;
+        let number = numbers.take(event)?;
+        append_event(out, event, number)?;
     }
     Ok(())
 }
@@ -97,28 +102,30 @@ fn append_events(out: &mut Vec<u8>, events: &[Event]) -> Result<(), AllocError>
 /// For how many bytes a line memory is taken at once: most lines of events have fewer.
 const LINE: usize = 32;
 
-/// Appends the text of the journal of a head and its events.
+/// Appends the text of a journal.
 #[tactic(auto, unfolding(hp_model::specs::JournalText::journal_text))]
-pub fn append_journal(out: &mut Vec<u8>, head: &Head, events: &[Event]) -> Result<(), AllocError>
-    ensures { OnOk result (Appends out.old out.new (text_of head.now events.now)) }
+pub fn append_journal(out: &mut Vec<u8>, journal: &Journal) -> Result<(), AllocError>
+    ensures { OnOk result (Appends out.old out.new (text_of Two journal.now.head journal.now.events)) }
 {
-    out.reserve(events.len().saturating_mul(LINE))?;
-    append_head(out, head)?;
-    append_events(out, events)?;
+    let count = journal.len() as usize;
+    out.reserve(count.saturating_mul(LINE))?;
+    append_head(out, journal.head())?;
+    append_events(journal.allocator(), out, journal.events())?;
     append(out, b"end")?;
-    append_count(out, events.len())?;
+    append_count(out, count)?;
     end_line(out)
 }
 
-/// The text of a journal, version 1: its head, a line for each event, oldest first, and their
+/// The text of a journal, version 2: its head, a line for each event, oldest first, and their
 /// number.
 ///
-/// Takes memory for the text; where it is wanting the answer is `NoMemory`, and the journal is as
-/// before. There is one text of a journal, and it is this project's own.
+/// Takes memory for the text, and for how many operations the seats have, up to the highest; where it is
+/// wanting the answer is `NoMemory`, and the journal is as before. There is one text of a journal, and it
+/// is this project's own.
 pub fn journal_text(alloc: Global, journal: &Journal) -> Result<Vec<u8>, NoMemory>
-    ensures { IfOk result (λ v. v.items ≡ text_of journal.now.head journal.now.events) }
+    ensures { IfOk result (λ v. v.items ≡ text_of Two journal.now.head journal.now.events) }
 {
     let mut out = Vec::new(alloc);
-    append_journal(&mut out, journal.head(), journal.events())?;
+    append_journal(&mut out, journal)?;
     Ok(out)
 }

@@ -348,7 +348,7 @@ pub fn journal_and_summary(alloc: Global, journal: &Journal) -> Result<Vec<u8>, 
     ensures { IfOk result (λ v. v.items ≡ text_and_summary journal.now.head journal.now.events) }
 {
     let mut out = Vec::new(alloc);
-    append_journal(&mut out, journal.head(), journal.events())?;
+    append_journal(&mut out, journal)?;
     append_summary(alloc, &mut out, journal)?;
     Ok(out)
 }

@@ -251,7 +251,7 @@ fn lowest(state: u32, settled: &[u32], absent: &[u32], from: u32, to: u32) -> Op
     ensures none { IfNone result (NoneConcerned state settled.now absent.now from to) }
 {
     for cpu in from..to {
-        if !is_absent(absent, cpu) && settled[cpu as usize] >= state {
+        if settled[cpu as usize] >= state && !is_absent(absent, cpu) {
             return Some(cpu);
         }
     }

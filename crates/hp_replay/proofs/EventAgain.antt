@@ -1,6 +1,7 @@
--- The line of an event says it.
-use Rattle.std.proofs.Common.{◌≡◌, ℕ, true, List, ◌∷◌, Some, refl, sym, ap, ◌∙◌}
-use Rattle.std.specs.Prelude.{ℤ}
+-- The line of an event says it, and the number of its operation.
+use Rattle.std.proofs.Common.{◌≡◌, ℕ, true, List, [], ◌∷◌, Some, refl, sym, ap, ◌∙◌}
+use Rattle.std.specs.Prelude.{ℤ, decimal}
+use Rattle.std.specs.Fmt.{signed_decimal}
 use Rattle.std.specs.Option.{option_and_then}
 use Rattle.std.proofs.lemmas.Bool.{and_parts}
 use Rattle.hp_states.specs.declared.dir.Dir.{Dir}
@@ -15,15 +16,20 @@ use Rattle.hp_event.specs.declared.event.File.TheVariants.{State, Target, Fail, 
 use Rattle.hp_event.specs.declared.event.Event.{Event}
 use Rattle.hp_event.specs.declared.event.Event.TheVariants.{Admit, Leave, Enter, Refused, WalkBegin, Call, WalkEnd, OpEnd, RegBegin, RegEnd, ReadLock, ReadUnlock, Armed, Shown, Wakeup}
 use Rattle.hp_model.specs.Words.{line, dir_word}
-use Rattle.hp_model.specs.EventLine.{how_words, answer_words, walk_answer_words, role_words, event_words, event_line}
+use Rattle.hp_model.specs.EventLine.{how_words, answer_words, walk_answer_words, role_words, op_words, file_words, event_words, event_line}
+use Rattle.hp_event.specs.declared.version.Version.{Version}
 use Rattle.hp_text.proofs.SubLaws.{dir_again}
 use Rattle.hp_replay.specs.LineWords.{words_at}
-use Rattle.hp_replay.specs.Fits.{HowFits, AnswerFits, RoleFits, EventFits}
+use Rattle.hp_replay.specs.Fits.{IsU32, HowFits, AnswerFits, RoleFits, EventFits}
+use Rattle.hp_replay.specs.Versions.{numbered_event}
 use Rattle.hp_replay.specs.Spelled.{IsWalkAnswer, IsSpelled}
 use Rattle.hp_replay.specs.EventAt.{role, how, answer, walk_answer, event, event_at}
 use Rattle.hp_replay.proofs.NumberLaws.{number_again, integer_again}
 use Rattle.hp_replay.proofs.LineLaws.{is_free, all_free, signed_free, words_again}
 use Rattle.hp_replay.proofs.OpWords.{number_free, op_again, op_free}
+use Rattle.hp_replay.proofs.VersionLaws.{number_behind, number_behind_two, number_last, number_words_free, number_two_free, number_alone_free}
+use Rattle.hp_replay.specs.declared.first_word.EventWord.TheVariants as word
+use Rattle.hp_replay.specs.EventAt.{operation_tail}
 
 pub dir_free : (d : Dir) → is_free (dir_word d) ≡ true
 dir_free Up = refl
@@ -85,64 +91,66 @@ walk_answer_free (answers.Fault code) h = answer_free (answers.Fault code) h
 walk_answer_free (answers.Stuck first second at) h = answer_free (answers.Stuck first second at) h
 walk_answer_free answers.LogFull h = refl
 
-pub event_again : (e : Event) → EventFits e → IsSpelled e → event (event_words e) ≡ Some e
+pub event_again : (v : Version) (n : ℕ) (e : Event) → IsU32 n → EventFits e → IsSpelled e → event v (event_words v n e) ≡ Some (numbered_event v n e)
 unfolding event
-event_again (Admit seat r) h s = rw (number_again seat h.0, role_again r h.1) refl
-event_again (Leave seat) h s = rw (number_again seat h) refl
-event_again (Enter seat o) h s = rw (number_again seat h.0, op_again o h.1 s) refl
-event_again (Refused seat errno o) h s = rw (number_again seat h.0, number_again errno h.1, op_again o h.2 s) refl
-event_again (WalkBegin seat cpu from to) h s = rw (number_again seat h.0, number_again cpu h.1, number_again from h.2, number_again to h.3) refl
-event_again (Call seat cpu state inst dir x) h s = rw (number_again seat h.0, number_again cpu h.1, number_again state h.2, number_again inst h.3, dir_again dir, how_again x h.4) refl
-event_again (WalkEnd seat cpu a) h s = rw (number_again seat h.0, number_again cpu h.1, walk_answer_again a h.2 s) refl
-event_again (OpEnd seat a) h s = rw (number_again seat h.0, answer_again a h.1) refl
-event_again (RegBegin seat state o) h s = rw (number_again seat h.0, number_again state h.1, op_again o h.2 s) refl
-event_again (RegEnd seat a) h s = rw (number_again seat h.0, answer_again a h.1) refl
-event_again (ReadLock seat) h s = rw (number_again seat h) refl
-event_again (ReadUnlock seat) h s = rw (number_again seat h) refl
-event_again (Armed seat cpu value) h s = rw (number_again seat h.0, number_again cpu h.1, integer_again value h.2) refl
-event_again (Shown seat State cpu value) h s = rw (number_again seat h.0, number_again cpu h.1, integer_again value h.2) refl
-event_again (Shown seat Target cpu value) h s = rw (number_again seat h.0, number_again cpu h.1, integer_again value h.2) refl
-event_again (Shown seat Fail cpu value) h s = rw (number_again seat h.0, number_again cpu h.1, integer_again value h.2) refl
-event_again (Shown seat States cpu value) h s = rw (number_again seat h.0, integer_again value h.2) (ap (λ (c : ℕ). Some (Shown seat States c value)) (sym s))
-event_again (Wakeup seat) h s = rw (number_again seat h) refl
+event_again v n (Admit seat r) u h s = rw (number_again seat h.0, role_again r h.1) refl
+event_again v n (Leave seat) u h s = rw (number_again seat h) refl
+event_again v n (Enter seat o) u h s = rw (number_again seat h.0, number_behind v n u (operation_tail word.Enter seat) (op_words o), op_again o h.1 s) refl
+event_again v n (Refused seat errno o) u h s = rw (number_again seat h.0, number_behind v n u (operation_tail word.Refused seat) (decimal errno ∷ op_words o), number_again errno h.1, op_again o h.2 s) refl
+event_again v n (WalkBegin seat cpu from to) u h s = rw (number_again seat h.0, number_again cpu h.1, number_again from h.2, number_again to h.3) refl
+event_again v n (Call seat cpu state inst dir x) u h s = rw (number_again seat h.0, number_again cpu h.1, number_again state h.2, number_again inst h.3, dir_again dir, how_again x h.4) refl
+event_again v n (WalkEnd seat cpu a) u h s = rw (number_again seat h.0, number_again cpu h.1, walk_answer_again a h.2 s) refl
+event_again v n (OpEnd seat a) u h s = rw (number_again seat h.0, number_behind v n u (operation_tail word.Done seat) (answer_words a), answer_again a h.1) refl
+event_again v n (RegBegin seat state o) u h s = rw (number_again seat h.0, number_behind v n u (operation_tail word.Reg seat) (decimal state ∷ op_words o), number_again state h.1, op_again o h.2 s) refl
+event_again v n (RegEnd seat a) u h s = rw (number_again seat h.0, number_behind v n u (operation_tail word.Regged seat) (answer_words a), answer_again a h.1) refl
+event_again v n (ReadLock seat) u h s = rw (number_again seat h, number_last v n u (operation_tail word.Lock seat)) refl
+event_again v n (ReadUnlock seat) u h s = rw (number_again seat h, number_last v n u (operation_tail word.Unlock seat)) refl
+event_again v n (Armed seat cpu value) u h s = rw (number_again seat h.0, number_behind v n u (operation_tail word.Armed seat) (decimal cpu ∷ signed_decimal value ∷ []), number_again cpu h.1, integer_again value h.2) refl
+event_again v n (Shown seat State cpu value) u h s = rw (number_again seat h.0, number_behind_two v n u (operation_tail word.Shown seat) (file_words State cpu) (signed_decimal value ∷ []), number_again cpu h.1, integer_again value h.2) refl
+event_again v n (Shown seat Target cpu value) u h s = rw (number_again seat h.0, number_behind_two v n u (operation_tail word.Shown seat) (file_words Target cpu) (signed_decimal value ∷ []), number_again cpu h.1, integer_again value h.2) refl
+event_again v n (Shown seat Fail cpu value) u h s = rw (number_again seat h.0, number_behind_two v n u (operation_tail word.Shown seat) (file_words Fail cpu) (signed_decimal value ∷ []), number_again cpu h.1, integer_again value h.2) refl
+event_again v n (Shown seat States cpu value) u h s =
+    rw (number_again seat h.0, number_behind_two v n u (operation_tail word.Shown seat) (file_words States cpu) (signed_decimal value ∷ []), integer_again value h.2)
+    (ap (λ (c : ℕ). Some (numbered_event v n (Shown seat States c value))) (sym s))
+event_again v n (Wakeup seat) u h s = rw (number_again seat h, number_last v n u (operation_tail word.Wakeup seat)) refl
 
-pub event_free : (e : Event) → EventFits e → all_free (event_words e) ≡ true
-event_free (Admit seat r) h = rw (number_free seat h.0, role_free r h.1) refl
-event_free (Leave seat) h = rw (number_free seat h) refl
-event_free (Enter seat o) h = rw (number_free seat h.0, op_free o h.1) refl
-event_free (Refused seat errno o) h = rw (number_free seat h.0, number_free errno h.1, op_free o h.2) refl
-event_free (WalkBegin seat cpu from to) h = rw (number_free seat h.0, number_free cpu h.1, number_free from h.2, number_free to h.3) refl
-event_free (Call seat cpu state inst dir x) h = rw (number_free seat h.0, number_free cpu h.1, number_free state h.2, number_free inst h.3, dir_free dir, how_free x h.4) refl
-event_free (WalkEnd seat cpu a) h = rw (number_free seat h.0, number_free cpu h.1, walk_answer_free a h.2) refl
-event_free (OpEnd seat a) h = rw (number_free seat h.0, answer_free a h.1) refl
-event_free (RegBegin seat state o) h = rw (number_free seat h.0, number_free state h.1, op_free o h.2) refl
-event_free (RegEnd seat a) h = rw (number_free seat h.0, answer_free a h.1) refl
-event_free (ReadLock seat) h = rw (number_free seat h) refl
-event_free (ReadUnlock seat) h = rw (number_free seat h) refl
-event_free (Armed seat cpu value) h = rw (number_free seat h.0, number_free cpu h.1, signed_free value h.2) refl
-event_free (Shown seat State cpu value) h = rw (number_free seat h.0, number_free cpu h.1, signed_free value h.2) refl
-event_free (Shown seat Target cpu value) h = rw (number_free seat h.0, number_free cpu h.1, signed_free value h.2) refl
-event_free (Shown seat Fail cpu value) h = rw (number_free seat h.0, number_free cpu h.1, signed_free value h.2) refl
-event_free (Shown seat States cpu value) h = rw (number_free seat h.0, signed_free value h.2) refl
-event_free (Wakeup seat) h = rw (number_free seat h) refl
+pub event_free : (v : Version) (n : ℕ) (e : Event) → IsU32 n → EventFits e → all_free (event_words v n e) ≡ true
+event_free v n (Admit seat r) u h = rw (number_free seat h.0, role_free r h.1) refl
+event_free v n (Leave seat) u h = rw (number_free seat h) refl
+event_free v n (Enter seat o) u h = rw (number_free seat h.0, number_words_free v n u (op_words o), op_free o h.1) refl
+event_free v n (Refused seat errno o) u h = rw (number_free seat h.0, number_words_free v n u (decimal errno ∷ op_words o), number_free errno h.1, op_free o h.2) refl
+event_free v n (WalkBegin seat cpu from to) u h = rw (number_free seat h.0, number_free cpu h.1, number_free from h.2, number_free to h.3) refl
+event_free v n (Call seat cpu state inst dir x) u h = rw (number_free seat h.0, number_free cpu h.1, number_free state h.2, number_free inst h.3, dir_free dir, how_free x h.4) refl
+event_free v n (WalkEnd seat cpu a) u h = rw (number_free seat h.0, number_free cpu h.1, walk_answer_free a h.2) refl
+event_free v n (OpEnd seat a) u h = rw (number_free seat h.0, number_words_free v n u (answer_words a), answer_free a h.1) refl
+event_free v n (RegBegin seat state o) u h = rw (number_free seat h.0, number_words_free v n u (decimal state ∷ op_words o), number_free state h.1, op_free o h.2) refl
+event_free v n (RegEnd seat a) u h = rw (number_free seat h.0, number_words_free v n u (answer_words a), answer_free a h.1) refl
+event_free v n (ReadLock seat) u h = rw (number_free seat h, number_alone_free v n u) refl
+event_free v n (ReadUnlock seat) u h = rw (number_free seat h, number_alone_free v n u) refl
+event_free v n (Armed seat cpu value) u h = rw (number_free seat h.0, number_words_free v n u (decimal cpu ∷ signed_decimal value ∷ []), number_free cpu h.1, signed_free value h.2) refl
+event_free v n (Shown seat State cpu value) u h = rw (number_free seat h.0, number_two_free v n u (file_words State cpu) (signed_decimal value ∷ []), number_free cpu h.1, signed_free value h.2) refl
+event_free v n (Shown seat Target cpu value) u h = rw (number_free seat h.0, number_two_free v n u (file_words Target cpu) (signed_decimal value ∷ []), number_free cpu h.1, signed_free value h.2) refl
+event_free v n (Shown seat Fail cpu value) u h = rw (number_free seat h.0, number_two_free v n u (file_words Fail cpu) (signed_decimal value ∷ []), number_free cpu h.1, signed_free value h.2) refl
+event_free v n (Shown seat States cpu value) u h = rw (number_free seat h.0, number_two_free v n u (file_words States cpu) (signed_decimal value ∷ []), signed_free value h.2) refl
+event_free v n (Wakeup seat) u h = rw (number_free seat h, number_alone_free v n u) refl
 
 -- each event has a first word
-pub words_some : (e : Event) → (w : List ℕ) × (ws : List (List ℕ)) × (event_words e ≡ w ∷ ws)
-words_some (Admit seat r) = (_, _, refl)
-words_some (Leave seat) = (_, _, refl)
-words_some (Enter seat o) = (_, _, refl)
-words_some (Refused seat errno o) = (_, _, refl)
-words_some (WalkBegin seat cpu from to) = (_, _, refl)
-words_some (Call seat cpu state inst dir x) = (_, _, refl)
-words_some (WalkEnd seat cpu a) = (_, _, refl)
-words_some (OpEnd seat a) = (_, _, refl)
-words_some (RegBegin seat state o) = (_, _, refl)
-words_some (RegEnd seat a) = (_, _, refl)
-words_some (ReadLock seat) = (_, _, refl)
-words_some (ReadUnlock seat) = (_, _, refl)
-words_some (Armed seat cpu value) = (_, _, refl)
-words_some (Shown seat file cpu value) = (_, _, refl)
-words_some (Wakeup seat) = (_, _, refl)
+pub words_some : (v : Version) (n : ℕ) (e : Event) → (w : List ℕ) × (ws : List (List ℕ)) × (event_words v n e ≡ w ∷ ws)
+words_some v n (Admit seat r) = (_, _, refl)
+words_some v n (Leave seat) = (_, _, refl)
+words_some v n (Enter seat o) = (_, _, refl)
+words_some v n (Refused seat errno o) = (_, _, refl)
+words_some v n (WalkBegin seat cpu from to) = (_, _, refl)
+words_some v n (Call seat cpu state inst dir x) = (_, _, refl)
+words_some v n (WalkEnd seat cpu a) = (_, _, refl)
+words_some v n (OpEnd seat a) = (_, _, refl)
+words_some v n (RegBegin seat state o) = (_, _, refl)
+words_some v n (RegEnd seat a) = (_, _, refl)
+words_some v n (ReadLock seat) = (_, _, refl)
+words_some v n (ReadUnlock seat) = (_, _, refl)
+words_some v n (Armed seat cpu value) = (_, _, refl)
+words_some v n (Shown seat file cpu value) = (_, _, refl)
+words_some v n (Wakeup seat) = (_, _, refl)
 
 pub words_are_again : (ws : List (List ℕ)) (w : List ℕ) (vs : List (List ℕ)) → ws ≡ w ∷ vs → all_free ws ≡ true → words_at (line ws) ≡ Some ws
 words_are_again ws w vs e free =
@@ -150,8 +158,8 @@ words_are_again ws w vs e free =
     let p = and_parts (is_free w) (all_free vs) both in
     ap (λ (us : List (List ℕ)). words_at (line us)) e ∙ words_again w vs p.0 p.1 ∙ ap Some (sym e)
 
-pub event_at_again : (e : Event) → EventFits e → IsSpelled e → event_at (event_line e) ≡ Some e
+pub event_at_again : (v : Version) (n : ℕ) (e : Event) → IsU32 n → EventFits e → IsSpelled e → event_at v (event_line v n e) ≡ Some (numbered_event v n e)
 unfolding event_at
-event_at_again e h s =
-    let p = words_some e in
-    ap (option_and_then event) (words_are_again (event_words e) p.0 p.1 p.2 (event_free e h)) ∙ event_again e h s
+event_at_again v n e u h s =
+    let p = words_some v n e in
+    ap (option_and_then (event v)) (words_are_again (event_words v n e) p.0 p.1 p.2 (event_free v n e u h)) ∙ event_again v n e u h s

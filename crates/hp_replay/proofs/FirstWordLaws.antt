@@ -2,7 +2,8 @@
 use Rattle.std.proofs.Common.{◌≡◌, ℕ, Bool, true, false, cond, List, [], ◌∷◌, map, Option, Some, None, refl, sym, ap, ◌∙◌}
 use Rattle.std.specs.Prelude.{find}
 use Rattle.std.specs.Str.{bytes_eq}
-use Rattle.hp_event.specs.declared.event.Event.{Event}
+use Rattle.hp_replay.specs.declared.event.NumberedEvent.{NumberedEvent}
+use Rattle.hp_event.specs.declared.version.Version.{Version}
 use Rattle.hp_replay.specs.declared.first_word.EventWord.{EventWord}
 use Rattle.hp_replay.specs.Readers.{Tail, Row, row, row_of}
 use Rattle.hp_replay.specs.EventAt.{event_tail, event_rows, event as event_at}
@@ -39,24 +40,24 @@ unknown text tail (u ∷ us) w ws e = unknown_by text tail u us w ws (unknown te
 
 -- ---- event lines
 
-event_says : (v : EventWord) (words : List (List ℕ)) (word : List ℕ) → Some word ≡ first_of words → Some v ≡ event_word_of word → event_tail v (others_of words) ≡ event_at words
+event_says : (v : Version) (w : EventWord) (words : List (List ℕ)) (word : List ℕ) → Some word ≡ first_of words → Some w ≡ event_word_of word → event_tail v w (others_of words) ≡ event_at v words
 unfolding event_word_of event_at
-event_says v words word first is = found text_of_event event_tail event_words word (others_of words) v is ∙ by_row event_rows words word first
+event_says v w words word first is = found text_of_event (event_tail v) event_words word (others_of words) w is ∙ by_row (event_rows v) words word first
 
 -- what a row says of the words behind its first word is what the table says
-pub event_row : (v : EventWord) (words rest : List (List ℕ)) (word : List ℕ) (u : EventWord) (said : Option Event) →
-    Some word ≡ first_of words → rest ≡ others_of words → Some u ≡ event_word_of word → u ≡ v → said ≡ event_tail v rest → said ≡ event_at words
-event_row v words rest word u said first behind is same says =
-    let known : Some v ≡ event_word_of word = ap (λ x. Some x) (sym same) ∙ is in
-    says ∙ ap (event_tail v) behind ∙ event_says v words word first known
+pub event_row : (v : Version) (w : EventWord) (words rest : List (List ℕ)) (word : List ℕ) (u : EventWord) (said : Option NumberedEvent) →
+    Some word ≡ first_of words → rest ≡ others_of words → Some u ≡ event_word_of word → u ≡ w → said ≡ event_tail v w rest → said ≡ event_at v words
+event_row v w words rest word u said first behind is same says =
+    let known : Some w ≡ event_word_of word = ap (λ x. Some x) (sym same) ∙ is in
+    says ∙ ap (event_tail v w) behind ∙ event_says v w words word first known
 
 -- no word says nothing
-pub no_event : (words : List (List ℕ)) → None ≡ first_of words → None ≡ event_at words
+pub no_event : (v : Version) (words : List (List ℕ)) → None ≡ first_of words → None ≡ event_at v words
 unfolding event_at
-no_event [] e = refl
-no_event (w ∷ ws) e = absurd cc
+no_event v [] e = refl
+no_event v (w ∷ ws) e = absurd cc
 
 -- and neither does another first word
-pub other_event : (words : List (List ℕ)) (word : List ℕ) → Some word ≡ first_of words → None ≡ event_word_of word → None ≡ event_at words
+pub other_event : (v : Version) (words : List (List ℕ)) (word : List ℕ) → Some word ≡ first_of words → None ≡ event_word_of word → None ≡ event_at v words
 unfolding event_word_of event_at
-other_event words word first is = unknown text_of_event event_tail event_words word (others_of words) is ∙ by_row event_rows words word first
+other_event v words word first is = unknown text_of_event (event_tail v) event_words word (others_of words) is ∙ by_row (event_rows v) words word first

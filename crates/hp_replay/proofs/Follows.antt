@@ -2,6 +2,7 @@
 use Rattle.std.proofs.Common.{◌≡◌, ℕ, ◌+◌, List, [], ◌∷◌, ◌++◌, refl, sym, ap, subst, ◌∙◌, inl, inr}
 use Rattle.std.specs.Prelude.{◌⊎◌}
 use Rattle.hp_model.specs.Lawful.{Stands}
+use Rattle.hp_event.specs.declared.version.Version.{Version}
 use Rattle.hp_replay.specs.declared.error.ReplayKind.{ReplayKind}
 use Rattle.hp_replay.specs.declared.error.ReplayKind.TheVariants.{Unlawful}
 use Rattle.hp_replay.specs.Stages.{Stage, among_events, Step, goes, asks, stops, step}
@@ -32,8 +33,8 @@ from (stops kind) n more o h = inr (kind, refl, h)
 from (asks head events e) n more o (inl h) = inl (among_events head (events ++ e ∷ []), (h.0, refl), h.1)
 from (asks head events e) n more o (inr h) = inr (Unlawful, (h.0, refl), h.1)
 
-pub judged_follows : (s : Stage) (n : ℕ) (l : List ℕ) (ls : List (List ℕ)) (o : Outcome) → Judged s n (l ∷ ls) o → Follows (step s l) n (λ m. Judged m (n + 1) ls o) o
-judged_follows s n l ls o h = to (step s l) n (λ m. Judged m (n + 1) ls o) o h
+pub judged_follows : (v : Version) (s : Stage) (n : ℕ) (l : List ℕ) (ls : List (List ℕ)) (o : Outcome) → Judged v s n (l ∷ ls) o → Follows (step v s l) n (λ m. Judged v m (n + 1) ls o) o
+judged_follows v s n l ls o h = to (step v s l) n (λ m. Judged v m (n + 1) ls o) o h
 
-pub follows_judged : (s : Stage) (n : ℕ) (l : List ℕ) (ls : List (List ℕ)) (o : Outcome) → Follows (step s l) n (λ m. Judged m (n + 1) ls o) o → Judged s n (l ∷ ls) o
-follows_judged s n l ls o h = from (step s l) n (λ m. Judged m (n + 1) ls o) o h
+pub follows_judged : (v : Version) (s : Stage) (n : ℕ) (l : List ℕ) (ls : List (List ℕ)) (o : Outcome) → Follows (step v s l) n (λ m. Judged v m (n + 1) ls o) o → Judged v s n (l ∷ ls) o
+follows_judged v s n l ls o h = from (step v s l) n (λ m. Judged v m (n + 1) ls o) o h

@@ -5,7 +5,7 @@ use Rattle.std.specs.Option.{option_map}
 use Rattle.std.specs.Result.{result_ok}
 use Rattle.std.proofs.lemmas.Bool.{cond-true}
 use Rattle.hp_states.proofs.Basics.{passed, same_some}
-use Rattle.hp_states.specs.declared.limits.TheConstants.{MAX_CPUS, MAX_RULE_CPU, MAX_INSTANCE, MAX_EVENTS}
+use Rattle.hp_states.specs.declared.limits.TheConstants.{MAX_RULE_CPU, MAX_INSTANCE, MAX_EVENTS}
 use Rattle.hp_states.specs.declared.plan.Rule.{Rule}
 use Rattle.hp_event.specs.declared.head.Sub.{Sub}
 use Rattle.hp_model.specs.Words.{line, dir_word, name_word, any_word, calls_word, kind_word, list_words}
@@ -22,10 +22,13 @@ use Rattle.hp_text.proofs.SetWords.{rises, tested}
 use Rattle.hp_text.proofs.ListLaws.{dash_takes, dash_again}
 use Rattle.hp_text.proofs.SubLaws.{InRange, range_field, IsFresh}
 use Rattle.hp_text.proofs.SubLaws as text
+use Rattle.hp_event.specs.declared.version.Version.{Version}
 use Rattle.hp_replay.specs.LineWords.{words_at}
 use Rattle.hp_replay.specs.Readers.{one_of}
 use Rattle.hp_replay.specs.Tails.{read}
 use Rattle.hp_replay.specs.HeadLines.{HeadLine, a_sub, a_rule, the_events, cpus_tail, cpus_rows, cpus_at, if_rising, absent_tail, absent_rows, absent_at, head_rows, head_line_at}
+use Rattle.hp_replay.specs.Versions.{most_cpus}
+use Rattle.hp_replay.proofs.VersionLaws.{most_small}
 use Rattle.hp_replay.specs.EndAt.{any_number, end_tail, end_rows, end_at}
 use Rattle.hp_replay.proofs.NumberLaws.{ok_is}
 use Rattle.hp_replay.proofs.LineLaws.{all_free, decimal_free, words_take}
@@ -39,29 +42,31 @@ use Rattle.hp_replay.proofs.AbsentLaws.{rise_free}
 abbrev pub cpus_words : ℕ → List (List ℕ)
 cpus_words n = codes "cpus" ∷ decimal n ∷ []
 
-abbrev pub IsCount : ℕ → Type 0
-IsCount n = InRange 1 (MAX_CPUS + 1) n
+abbrev pub IsCount : Version → ℕ → Type 0
+IsCount v n = InRange 1 (most_cpus v + 1) n
 
-cpus_take : (ws : List (List ℕ)) (n : ℕ) → cpus_tail ws ≡ Some n → (codes "cpus" ∷ ws ≡ cpus_words n) × IsCount n
-cpus_take ws n e =
-    let t = (alone_is (range_field 1 (MAX_CPUS + 1) (omega arith))).takes ws n (ok_is (alone (number_from 1 (MAX_CPUS + 1)) ws) n e) in
-    (ap (λ (v : List (List ℕ)). codes "cpus" ∷ v) t.0, t.1)
+cpus_take : (v : Version) (ws : List (List ℕ)) (n : ℕ) → cpus_tail v ws ≡ Some n → (codes "cpus" ∷ ws ≡ cpus_words n) × IsCount v n
+cpus_take v ws n e =
+    let small = most_small v in
+    let t = (alone_is (range_field 1 (most_cpus v + 1) (omega arith))).takes ws n (ok_is (alone (number_from 1 (most_cpus v + 1)) ws) n e) in
+    (ap (λ (us : List (List ℕ)). codes "cpus" ∷ us) t.0, t.1)
 
-cpus_spell : Spells cpus_words IsCount [] (one_of cpus_rows)
-cpus_spell = one_spells cpus_rows (record { takes = cpus_take }, tt)
+cpus_spell : (v : Version) → Spells cpus_words (IsCount v) [] (one_of (cpus_rows v))
+cpus_spell v = one_spells (cpus_rows v) (record { takes = cpus_take v }, tt)
 
-pub cpus_takes : (l : List ℕ) (n : ℕ) → cpus_at l ≡ Some n → (l ≡ line (cpus_words n)) × IsCount n
+pub cpus_takes : (v : Version) (l : List ℕ) (n : ℕ) → cpus_at v l ≡ Some n → (l ≡ line (cpus_words n)) × IsCount v n
 unfolding cpus_at
-cpus_takes l n h = line_takes cpus_spell l n h
+cpus_takes v l n h = line_takes (cpus_spell v) l n h
 
-pub cpus_free : (n : ℕ) → IsCount n → all_free (cpus_words n) ≡ true
-cpus_free n h = rw (decimal_free n (omega (arith, h.1))) refl
+pub cpus_free : (v : Version) (n : ℕ) → IsCount v n → all_free (cpus_words n) ≡ true
+cpus_free v n h = let small = most_small v in rw (decimal_free n (omega (arith, h.1))) refl
 
-pub cpus_again : (n : ℕ) → IsCount n → cpus_at (line (cpus_words n)) ≡ Some n
+pub cpus_again : (v : Version) (n : ℕ) → IsCount v n → cpus_at v (line (cpus_words n)) ≡ Some n
 unfolding cpus_at
-cpus_again n h =
-    line_again (one_of cpus_rows) n (codes "cpus") (decimal n ∷ []) (cpus_free n h)
-    (ap (λ r. result_ok r) (from_again 1 (MAX_CPUS + 1) n (decimal n) (omega arith) h.0 h.1 refl))
+cpus_again v n h =
+    let small = most_small v in
+    line_again (one_of (cpus_rows v)) n (codes "cpus") (decimal n ∷ []) (cpus_free v n h)
+    (ap (λ r. result_ok r) (from_again 1 (most_cpus v + 1) n (decimal n) (omega arith) h.0 h.1 refl))
 
 -- ---- the absent ones
 

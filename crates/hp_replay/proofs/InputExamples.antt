@@ -8,6 +8,8 @@ use Rattle.hp_event.specs.declared.op.Op.TheVariants.{Setup}
 use Rattle.hp_event.specs.declared.event.Role.TheVariants.{Client, Ap}
 use Rattle.hp_event.specs.declared.event.Event.{Event}
 use Rattle.hp_event.specs.declared.event.Event.TheVariants.{Admit, RegBegin}
+use Rattle.hp_event.specs.declared.version.Version.TheVariants.{Two}
+use Rattle.hp_model.specs.OperationNumber.{operations_of}
 use Rattle.hp_model.specs.JournalText.{title_line}
 use Rattle.hp_model.specs.Summary.{summary, cpu_lines, cpu_line, disabled_line, recorded, frozen_line, sub_lines_below, ops_line, events_line, answered_by}
 use Rattle.hp_model.specs.Net.{entered, keys_in_force}
@@ -54,24 +56,26 @@ four = Admit 0 (Ap 0) ∷ Admit 1 (Ap 1) ∷ Admit 2 Client ∷ RegBegin 2 120 (
 
 abbrev inputs : List (Test × List ℕ × Outcome)
 inputs =
-    (always, codes "cpuhp journal 1" ++ (10 ∷ (codes "cpus 2" ++ (10 ∷ (codes "absent -" ++ (10 ∷ (codes "sub net:a both single" ++ (10 ∷ (codes "sub net:b both single" ++ (10 ∷ (codes "rule up 1 * * 5" ++ (10 ∷ (codes "events" ++ (10 ∷ (codes "admit 0 ap 0" ++ (10 ∷ (codes "admit 1 ap 1" ++ (10 ∷ (codes "admit 2 client" ++ (10 ∷ (codes "reg 2 120 setup 120 1" ++ (10 ∷ (codes "end 4" ++ (10 ∷ ([])))))))))))))))))))))))), accepted the_head four) ∷
-    (never, codes "cpuhp journal 1" ++ (10 ∷ (codes "cpus 2" ++ (10 ∷ (codes "absent -" ++ (10 ∷ (codes "sub net:a both single" ++ (10 ∷ (codes "sub net:b both single" ++ (10 ∷ (codes "rule up 1 * * 5" ++ (10 ∷ (codes "events" ++ (10 ∷ (codes "admit 0 ap 0" ++ (10 ∷ (codes "admit 1 ap 1" ++ (10 ∷ (codes "admit 2 client" ++ (10 ∷ (codes "reg 2 120 setup 120 1" ++ (10 ∷ (codes "end 4" ++ (10 ∷ ([])))))))))))))))))))))))), refused 8 Unlawful) ∷
-    (always, codes "cpuhp journal 1" ++ (10 ∷ (codes "cpus 2" ++ (10 ∷ (codes "absent -" ++ (10 ∷ (codes "sub net:a both single" ++ (10 ∷ (codes "sub net:b both single" ++ (10 ∷ (codes "rule up 1 * * 5" ++ (10 ∷ (codes "events" ++ (10 ∷ (codes "admit 0 ap 0" ++ (10 ∷ (codes "admit 1 ap 1" ++ (10 ∷ (codes "admit 2 client" ++ (10 ∷ (codes "reg 2 120 setup 120 1" ++ (10 ∷ (codes "end 4")))))))))))))))))))))), refused 12 Syntax) ∷
-    (always, codes "cpuhp journal 1" ++ (10 ∷ (codes "cpus 2" ++ (10 ∷ (codes "absent -" ++ (10 ∷ (codes "sub net:a both single" ++ (10 ∷ (codes "sub net:b both single" ++ (10 ∷ (codes "rule up 1 * * 5" ++ (10 ∷ (codes "events" ++ (10 ∷ (codes "admit 0 ap 0" ++ (10 ∷ (codes "admit 1 ap 1" ++ (10 ∷ (codes "admit 2 client" ++ (10 ∷ (codes "reg 2 120 setup 120 1" ++ (10 ∷ (codes "end 5" ++ (10 ∷ ([])))))))))))))))))))))))), refused 12 Count) ∷
-    (always, codes "cpuhp journal 1" ++ (10 ∷ (codes "cpus 2" ++ (10 ∷ (codes "absent -" ++ (10 ∷ (codes "sub net:a both single" ++ (10 ∷ (codes "sub net:b both single" ++ (10 ∷ (codes "rule up 1 * * 5" ++ (10 ∷ (codes "events" ++ (10 ∷ (codes "admit 0 ap 0" ++ (10 ∷ (codes "admit 1 ap 1" ++ (10 ∷ (codes "admit 2 client" ++ (10 ∷ (codes "reg 2 120 setup 120 1" ++ (10 ∷ ([])))))))))))))))))))))), refused 12 Missing) ∷
-    (always, codes "cpuhp journal 1" ++ (10 ∷ (codes "cpus 2" ++ (10 ∷ (codes "absent -" ++ (10 ∷ (codes "sub net:a both single" ++ (10 ∷ (codes "sub net:b both single" ++ (10 ∷ (codes "rule up 1 * * 5" ++ (10 ∷ (codes "events" ++ (10 ∷ (codes "admit 0 ap 0" ++ (10 ∷ (codes "admit 1 ap 1" ++ (10 ∷ (codes "admit 2 clients" ++ (10 ∷ (codes "reg 2 120 setup 120 1" ++ (10 ∷ (codes "end 4" ++ (10 ∷ ([])))))))))))))))))))))))), refused 10 Syntax) ∷
-    (always, codes "cpuhp journal 1" ++ (10 ∷ (codes "cpus 2" ++ (10 ∷ (codes "absent -" ++ (10 ∷ (codes "sub net:a both single" ++ (10 ∷ (codes "sub net:b both single" ++ (10 ∷ (codes "rule up 256 * * 5" ++ (10 ∷ (codes "events" ++ (10 ∷ (codes "admit 0 ap 0" ++ (10 ∷ (codes "admit 1 ap 1" ++ (10 ∷ (codes "admit 2 client" ++ (10 ∷ (codes "reg 2 120 setup 120 1" ++ (10 ∷ (codes "end 4" ++ (10 ∷ ([])))))))))))))))))))))))), refused 6 Header) ∷
-    (always, codes "cpuhp journal 1" ++ (10 ∷ (codes "cpus 2" ++ (10 ∷ (codes "absent -" ++ (10 ∷ (codes "sub net:a both single" ++ (10 ∷ (codes "sub net:b both single" ++ (10 ∷ (codes "rule up 1 * * 5" ++ (10 ∷ (codes "event" ++ (10 ∷ (codes "admit 0 ap 0" ++ (10 ∷ (codes "admit 1 ap 1" ++ (10 ∷ (codes "admit 2 client" ++ (10 ∷ (codes "reg 2 120 setup 120 1" ++ (10 ∷ (codes "end 4" ++ (10 ∷ ([])))))))))))))))))))))))), refused 7 Header) ∷
+    (always, codes "cpuhp journal 2" ++ (10 ∷ (codes "cpus 2" ++ (10 ∷ (codes "absent -" ++ (10 ∷ (codes "sub net:a both single" ++ (10 ∷ (codes "sub net:b both single" ++ (10 ∷ (codes "rule up 1 * * 5" ++ (10 ∷ (codes "events" ++ (10 ∷ (codes "admit 0 ap 0" ++ (10 ∷ (codes "admit 1 ap 1" ++ (10 ∷ (codes "admit 2 client" ++ (10 ∷ (codes "reg 2 1 120 setup 120 1" ++ (10 ∷ (codes "end 4" ++ (10 ∷ ([])))))))))))))))))))))))), accepted the_head four) ∷
+    (always, codes "cpuhp journal 2" ++ (10 ∷ (codes "cpus 2" ++ (10 ∷ (codes "absent -" ++ (10 ∷ (codes "sub net:a both single" ++ (10 ∷ (codes "sub net:b both single" ++ (10 ∷ (codes "rule up 1 * * 5" ++ (10 ∷ (codes "events" ++ (10 ∷ (codes "admit 0 ap 0" ++ (10 ∷ (codes "admit 1 ap 1" ++ (10 ∷ (codes "admit 2 client" ++ (10 ∷ (codes "reg 2 2 120 setup 120 1" ++ (10 ∷ (codes "end 4" ++ (10 ∷ ([])))))))))))))))))))))))), refused 11 Unlawful) ∷
+    (always, codes "cpuhp journal 2" ++ (10 ∷ (codes "cpus 2" ++ (10 ∷ (codes "absent -" ++ (10 ∷ (codes "sub net:a both single" ++ (10 ∷ (codes "sub net:b both single" ++ (10 ∷ (codes "rule up 1 * * 5" ++ (10 ∷ (codes "events" ++ (10 ∷ (codes "admit 0 ap 0" ++ (10 ∷ (codes "admit 1 ap 1" ++ (10 ∷ (codes "admit 2 client" ++ (10 ∷ (codes "reg 2 120 setup 120 1" ++ (10 ∷ (codes "end 4" ++ (10 ∷ ([])))))))))))))))))))))))), refused 11 Syntax) ∷
+    (never, codes "cpuhp journal 2" ++ (10 ∷ (codes "cpus 2" ++ (10 ∷ (codes "absent -" ++ (10 ∷ (codes "sub net:a both single" ++ (10 ∷ (codes "sub net:b both single" ++ (10 ∷ (codes "rule up 1 * * 5" ++ (10 ∷ (codes "events" ++ (10 ∷ (codes "admit 0 ap 0" ++ (10 ∷ (codes "admit 1 ap 1" ++ (10 ∷ (codes "admit 2 client" ++ (10 ∷ (codes "reg 2 1 120 setup 120 1" ++ (10 ∷ (codes "end 4" ++ (10 ∷ ([])))))))))))))))))))))))), refused 8 Unlawful) ∷
+    (always, codes "cpuhp journal 2" ++ (10 ∷ (codes "cpus 2" ++ (10 ∷ (codes "absent -" ++ (10 ∷ (codes "sub net:a both single" ++ (10 ∷ (codes "sub net:b both single" ++ (10 ∷ (codes "rule up 1 * * 5" ++ (10 ∷ (codes "events" ++ (10 ∷ (codes "admit 0 ap 0" ++ (10 ∷ (codes "admit 1 ap 1" ++ (10 ∷ (codes "admit 2 client" ++ (10 ∷ (codes "reg 2 1 120 setup 120 1" ++ (10 ∷ (codes "end 4")))))))))))))))))))))), refused 12 Syntax) ∷
+    (always, codes "cpuhp journal 2" ++ (10 ∷ (codes "cpus 2" ++ (10 ∷ (codes "absent -" ++ (10 ∷ (codes "sub net:a both single" ++ (10 ∷ (codes "sub net:b both single" ++ (10 ∷ (codes "rule up 1 * * 5" ++ (10 ∷ (codes "events" ++ (10 ∷ (codes "admit 0 ap 0" ++ (10 ∷ (codes "admit 1 ap 1" ++ (10 ∷ (codes "admit 2 client" ++ (10 ∷ (codes "reg 2 1 120 setup 120 1" ++ (10 ∷ (codes "end 5" ++ (10 ∷ ([])))))))))))))))))))))))), refused 12 Count) ∷
+    (always, codes "cpuhp journal 2" ++ (10 ∷ (codes "cpus 2" ++ (10 ∷ (codes "absent -" ++ (10 ∷ (codes "sub net:a both single" ++ (10 ∷ (codes "sub net:b both single" ++ (10 ∷ (codes "rule up 1 * * 5" ++ (10 ∷ (codes "events" ++ (10 ∷ (codes "admit 0 ap 0" ++ (10 ∷ (codes "admit 1 ap 1" ++ (10 ∷ (codes "admit 2 client" ++ (10 ∷ (codes "reg 2 1 120 setup 120 1" ++ (10 ∷ ([])))))))))))))))))))))), refused 12 Missing) ∷
+    (always, codes "cpuhp journal 2" ++ (10 ∷ (codes "cpus 2" ++ (10 ∷ (codes "absent -" ++ (10 ∷ (codes "sub net:a both single" ++ (10 ∷ (codes "sub net:b both single" ++ (10 ∷ (codes "rule up 1 * * 5" ++ (10 ∷ (codes "events" ++ (10 ∷ (codes "admit 0 ap 0" ++ (10 ∷ (codes "admit 1 ap 1" ++ (10 ∷ (codes "admit 2 clients" ++ (10 ∷ (codes "reg 2 1 120 setup 120 1" ++ (10 ∷ (codes "end 4" ++ (10 ∷ ([])))))))))))))))))))))))), refused 10 Syntax) ∷
+    (always, codes "cpuhp journal 2" ++ (10 ∷ (codes "cpus 2" ++ (10 ∷ (codes "absent -" ++ (10 ∷ (codes "sub net:a both single" ++ (10 ∷ (codes "sub net:b both single" ++ (10 ∷ (codes "rule up 256 * * 5" ++ (10 ∷ (codes "events" ++ (10 ∷ (codes "admit 0 ap 0" ++ (10 ∷ (codes "admit 1 ap 1" ++ (10 ∷ (codes "admit 2 client" ++ (10 ∷ (codes "reg 2 1 120 setup 120 1" ++ (10 ∷ (codes "end 4" ++ (10 ∷ ([])))))))))))))))))))))))), refused 6 Header) ∷
+    (always, codes "cpuhp journal 2" ++ (10 ∷ (codes "cpus 2" ++ (10 ∷ (codes "absent -" ++ (10 ∷ (codes "sub net:a both single" ++ (10 ∷ (codes "sub net:b both single" ++ (10 ∷ (codes "rule up 1 * * 5" ++ (10 ∷ (codes "event" ++ (10 ∷ (codes "admit 0 ap 0" ++ (10 ∷ (codes "admit 1 ap 1" ++ (10 ∷ (codes "admit 2 client" ++ (10 ∷ (codes "reg 2 1 120 setup 120 1" ++ (10 ∷ (codes "end 4" ++ (10 ∷ ([])))))))))))))))))))))))), refused 7 Header) ∷
     (always, [], refused 1 Missing) ∷
-    (always, codes "cpuhp journal 1", refused 1 Header) ∷
-    (always, codes "cpuhp journal 2" ++ (10 ∷ ([])), refused 1 Header) ∷
-    (always, codes "cpuhp journal 1" ++ (10 ∷ (codes "cpus 2" ++ (10 ∷ ([])))), refused 3 Missing) ∷
-    (always, codes "cpuhp journal 1" ++ (10 ∷ (codes "cpus 2" ++ (10 ∷ (codes "absent -" ++ (10 ∷ (codes "rule up * * * 5" ++ (10 ∷ ([])))))))), refused 4 Header) ∷
-    (always, codes "cpuhp journal 1" ++ (10 ∷ (codes "cpus 2" ++ (10 ∷ (codes "" ++ (10 ∷ (codes "absent -" ++ (10 ∷ ([])))))))), refused 3 Header) ∷
+    (always, codes "cpuhp journal 2", refused 1 Header) ∷
+    (always, codes "cpuhp journal 1" ++ (10 ∷ ([])), refused 1 Header) ∷
+    (always, codes "cpuhp journal 2" ++ (10 ∷ (codes "cpus 2" ++ (10 ∷ ([])))), refused 3 Missing) ∷
+    (always, codes "cpuhp journal 2" ++ (10 ∷ (codes "cpus 2" ++ (10 ∷ (codes "absent -" ++ (10 ∷ (codes "rule up * * * 5" ++ (10 ∷ ([])))))))), refused 4 Header) ∷
+    (always, codes "cpuhp journal 2" ++ (10 ∷ (codes "cpus 2" ++ (10 ∷ (codes "" ++ (10 ∷ (codes "absent -" ++ (10 ∷ ([])))))))), refused 3 Header) ∷
     []
 
-inputs_judged : map (λ row. judge row.0 begins 1 (lines_of row.1)) inputs ≡ map (λ row. row.2) inputs
-unfolding step title_line lines_of event_at words_at event op_at op_tail op_word_of file_of set form number_below integer dir_of role how answer walk_answer end_at any_number cpus_at absent_at head_line_at name_of calls_of kind_of any_from number_list_or_dash sub rule
+inputs_judged : map (λ row. judge Two row.0 begins 1 (lines_of row.1)) inputs ≡ map (λ row. row.2) inputs
+unfolding step title_line operations_of lines_of event_at words_at event op_at op_tail op_word_of file_of set form number_below integer dir_of role how answer walk_answer end_at any_number cpus_at absent_at head_line_at name_of calls_of kind_of any_from number_list_or_dash sub rule
 inputs_judged = refl
 
 -- ---- the summary of a journal without events
@@ -93,17 +97,17 @@ bare_summary = rw (two_hundred_is, zero_is) refl
 
 abbrev summaries : List (Test × List ℕ × Outcome)
 summaries =
-    (always, codes "cpuhp journal 1" ++ (10 ∷ (codes "cpus 1" ++ (10 ∷ (codes "absent -" ++ (10 ∷ (codes "events" ++ (10 ∷ (codes "end 0" ++ (10 ∷ ([])))))))))), accepted bare []) ∷
-    (always, codes "cpuhp journal 1" ++ (10 ∷ (codes "cpus 1" ++ (10 ∷ (codes "absent -" ++ (10 ∷ (codes "events" ++ (10 ∷ (codes "end 0" ++ (10 ∷ (codes "cpu 0 present state 200 keys -" ++ (10 ∷ (codes "disabled 0" ++ (10 ∷ (codes "frozen -" ++ (10 ∷ (codes "ops ok 0 refused 0 fault 0 stuck 0 full 0" ++ (10 ∷ (codes "events 0" ++ (10 ∷ ([])))))))))))))))))))), accepted bare []) ∷
-    (always, codes "cpuhp journal 1" ++ (10 ∷ (codes "cpus 1" ++ (10 ∷ (codes "absent -" ++ (10 ∷ (codes "events" ++ (10 ∷ (codes "end 0" ++ (10 ∷ (codes "cpu 0 present state 199 keys -" ++ (10 ∷ (codes "disabled 0" ++ (10 ∷ (codes "frozen -" ++ (10 ∷ (codes "ops ok 0 refused 0 fault 0 stuck 0 full 0" ++ (10 ∷ (codes "events 0" ++ (10 ∷ ([])))))))))))))))))))), refused 6 Trailing) ∷
-    (always, codes "cpuhp journal 1" ++ (10 ∷ (codes "cpus 1" ++ (10 ∷ (codes "absent -" ++ (10 ∷ (codes "events" ++ (10 ∷ (codes "end 0" ++ (10 ∷ (codes "cpu 0 present state 200 keys -" ++ (10 ∷ (codes "disabled 0" ++ (10 ∷ (codes "frozen -" ++ (10 ∷ (codes "ops ok 0 refused 0 fault 0 stuck 0 full 0" ++ (10 ∷ (codes "events 0" ++ (10 ∷ (codes "events 0" ++ (10 ∷ ([])))))))))))))))))))))), refused 11 Trailing) ∷
-    (always, codes "cpuhp journal 1" ++ (10 ∷ (codes "cpus 1" ++ (10 ∷ (codes "absent -" ++ (10 ∷ (codes "events" ++ (10 ∷ (codes "end 0" ++ (10 ∷ (codes "cpu 0 present state 200 keys -" ++ (10 ∷ (codes "disabled 0" ++ (10 ∷ (codes "frozen -" ++ (10 ∷ (codes "ops ok 0 refused 0 fault 0 stuck 0 full 0" ++ (10 ∷ (codes "events 0")))))))))))))))))), refused 10 Trailing) ∷
-    (always, codes "cpuhp journal 1" ++ (10 ∷ (codes "cpus 1" ++ (10 ∷ (codes "absent -" ++ (10 ∷ (codes "events" ++ (10 ∷ (codes "end 0" ++ (10 ∷ (codes "cpu 0 present state 200 keys -" ++ (10 ∷ (codes "disabled 0" ++ (10 ∷ (codes "frozen -" ++ (10 ∷ (codes "ops ok 0 refused 0 fault 0 stuck 0 full 0" ++ (10 ∷ ([])))))))))))))))))), refused 10 Missing) ∷
-    (always, codes "cpuhp journal 1" ++ (10 ∷ (codes "cpus 1" ++ (10 ∷ (codes "absent -" ++ (10 ∷ (codes "events" ++ (10 ∷ (codes "end 0" ++ (10 ∷ (codes "" ++ (10 ∷ ([])))))))))))), refused 6 Trailing) ∷
-    (always, codes "cpuhp journal 1" ++ (10 ∷ (codes "cpus 1" ++ (10 ∷ (codes "absent -" ++ (10 ∷ (codes "events" ++ (10 ∷ (codes "end 0" ++ (10 ∷ (codes "leave 0" ++ (10 ∷ ([])))))))))))), refused 6 Trailing) ∷
-    (never, codes "cpuhp journal 1" ++ (10 ∷ (codes "cpus 1" ++ (10 ∷ (codes "absent -" ++ (10 ∷ (codes "events" ++ (10 ∷ (codes "leave 0" ++ (10 ∷ ([])))))))))), refused 5 Unlawful) ∷
+    (always, codes "cpuhp journal 2" ++ (10 ∷ (codes "cpus 1" ++ (10 ∷ (codes "absent -" ++ (10 ∷ (codes "events" ++ (10 ∷ (codes "end 0" ++ (10 ∷ ([])))))))))), accepted bare []) ∷
+    (always, codes "cpuhp journal 2" ++ (10 ∷ (codes "cpus 1" ++ (10 ∷ (codes "absent -" ++ (10 ∷ (codes "events" ++ (10 ∷ (codes "end 0" ++ (10 ∷ (codes "cpu 0 present state 200 keys -" ++ (10 ∷ (codes "disabled 0" ++ (10 ∷ (codes "frozen -" ++ (10 ∷ (codes "ops ok 0 refused 0 fault 0 stuck 0 full 0" ++ (10 ∷ (codes "events 0" ++ (10 ∷ ([])))))))))))))))))))), accepted bare []) ∷
+    (always, codes "cpuhp journal 2" ++ (10 ∷ (codes "cpus 1" ++ (10 ∷ (codes "absent -" ++ (10 ∷ (codes "events" ++ (10 ∷ (codes "end 0" ++ (10 ∷ (codes "cpu 0 present state 199 keys -" ++ (10 ∷ (codes "disabled 0" ++ (10 ∷ (codes "frozen -" ++ (10 ∷ (codes "ops ok 0 refused 0 fault 0 stuck 0 full 0" ++ (10 ∷ (codes "events 0" ++ (10 ∷ ([])))))))))))))))))))), refused 6 Trailing) ∷
+    (always, codes "cpuhp journal 2" ++ (10 ∷ (codes "cpus 1" ++ (10 ∷ (codes "absent -" ++ (10 ∷ (codes "events" ++ (10 ∷ (codes "end 0" ++ (10 ∷ (codes "cpu 0 present state 200 keys -" ++ (10 ∷ (codes "disabled 0" ++ (10 ∷ (codes "frozen -" ++ (10 ∷ (codes "ops ok 0 refused 0 fault 0 stuck 0 full 0" ++ (10 ∷ (codes "events 0" ++ (10 ∷ (codes "events 0" ++ (10 ∷ ([])))))))))))))))))))))), refused 11 Trailing) ∷
+    (always, codes "cpuhp journal 2" ++ (10 ∷ (codes "cpus 1" ++ (10 ∷ (codes "absent -" ++ (10 ∷ (codes "events" ++ (10 ∷ (codes "end 0" ++ (10 ∷ (codes "cpu 0 present state 200 keys -" ++ (10 ∷ (codes "disabled 0" ++ (10 ∷ (codes "frozen -" ++ (10 ∷ (codes "ops ok 0 refused 0 fault 0 stuck 0 full 0" ++ (10 ∷ (codes "events 0")))))))))))))))))), refused 10 Trailing) ∷
+    (always, codes "cpuhp journal 2" ++ (10 ∷ (codes "cpus 1" ++ (10 ∷ (codes "absent -" ++ (10 ∷ (codes "events" ++ (10 ∷ (codes "end 0" ++ (10 ∷ (codes "cpu 0 present state 200 keys -" ++ (10 ∷ (codes "disabled 0" ++ (10 ∷ (codes "frozen -" ++ (10 ∷ (codes "ops ok 0 refused 0 fault 0 stuck 0 full 0" ++ (10 ∷ ([])))))))))))))))))), refused 10 Missing) ∷
+    (always, codes "cpuhp journal 2" ++ (10 ∷ (codes "cpus 1" ++ (10 ∷ (codes "absent -" ++ (10 ∷ (codes "events" ++ (10 ∷ (codes "end 0" ++ (10 ∷ (codes "" ++ (10 ∷ ([])))))))))))), refused 6 Trailing) ∷
+    (always, codes "cpuhp journal 2" ++ (10 ∷ (codes "cpus 1" ++ (10 ∷ (codes "absent -" ++ (10 ∷ (codes "events" ++ (10 ∷ (codes "end 0" ++ (10 ∷ (codes "leave 0" ++ (10 ∷ ([])))))))))))), refused 6 Trailing) ∷
+    (never, codes "cpuhp journal 2" ++ (10 ∷ (codes "cpus 1" ++ (10 ∷ (codes "absent -" ++ (10 ∷ (codes "events" ++ (10 ∷ (codes "leave 0" ++ (10 ∷ ([])))))))))), refused 5 Unlawful) ∷
     []
 
-summaries_judged : map (λ row. judge row.0 begins 1 (lines_of row.1)) summaries ≡ map (λ row. row.2) summaries
+summaries_judged : map (λ row. judge Two row.0 begins 1 (lines_of row.1)) summaries ≡ map (λ row. row.2) summaries
 unfolding step title_line lines_of event_at words_at event end_at any_number cpus_at absent_at head_line_at any_from number_below number_list_or_dash sub rule dir_of name_of calls_of kind_of
 summaries_judged = rw bare_summary refl

@@ -12,16 +12,21 @@ use Rattle.hp_event.specs.declared.event.Event.{Event}
 use Rattle.hp_model.specs.JournalText.{title_line}
 use Rattle.hp_model.specs.Summary.{summary}
 use Rattle.hp_text.proofs.SubLaws.{other_word}
+use Rattle.hp_event.specs.declared.version.Version.{Version}
 use Rattle.hp_replay.specs.declared.error.ReplayKind.{ReplayKind}
 use Rattle.hp_replay.specs.declared.error.ReplayKind.TheVariants.{Header, Syntax, Unlawful, Count, Trailing}
 use Rattle.hp_replay.specs.InputLines.{lines_of}
 use Rattle.hp_replay.specs.LineWords.{words_at}
 use Rattle.hp_replay.specs.Readers.{one_of}
 use Rattle.hp_replay.specs.HeadLines.{HeadLine, a_sub, a_rule, the_events, cpus_rows, cpus_at, absent_rows, absent_at, head_rows, head_line_at}
+use Rattle.hp_model.specs.Lawful.{Stands}
+use Rattle.hp_event.specs.declared.version.Version.TheVariants.{One, Two}
+use Rattle.hp_replay.specs.declared.event.NumberedEvent.{NumberedEvent}
+use Rattle.hp_replay.specs.Versions.{is_numbered}
 use Rattle.hp_replay.specs.EventAt.{event_at}
 use Rattle.hp_replay.specs.EndAt.{end_at}
 use Rattle.hp_replay.specs.Kinds.{is_there, is_events_line, is_end_line, kind_among_events, kind_of}
-use Rattle.hp_replay.specs.Stages.{Stage, begins, titled, counted, headed, ruled, among_events, whole, among_summary, Step, goes, asks, stops, with_sub, cpus_step, absent_step, headed_step, ruled_step, event_step, end_step, summary_step, step}
+use Rattle.hp_replay.specs.Stages.{Stage, begins, titled, counted, headed, ruled, among_events, whole, among_summary, Step, goes, asks, stops, with_sub, cpus_step, absent_step, headed_step, ruled_step, said_step, event_step, end_step, summary_step, step}
 use Rattle.hp_replay.proofs.ReaderLaws.{same_word}
 use Rattle.hp_replay.proofs.HeadLaws.{head_takes, events_again, end_says}
 use Rattle.hp_replay.proofs.TextLines.{events_line}
@@ -63,9 +68,9 @@ no_end l o a h none = is (end_at l) refl
 no_events : (l : List ℕ) → l ≢ events_line → is_events_line l ≡ false
 no_events l h = other_word l events_line (bytes_eq l events_line) refl h
 
-cpus_no_end : (l : List ℕ) (n : ℕ) → end_at l ≡ Some n → cpus_at l ≡ None
+cpus_no_end : (v : Version) (l : List ℕ) (n : ℕ) → end_at l ≡ Some n → cpus_at v l ≡ None
 unfolding cpus_at
-cpus_no_end l n h = let s = end_says l n h in ap (option_and_then (one_of cpus_rows)) s.1
+cpus_no_end v l n h = let s = end_says l n h in ap (option_and_then (one_of (cpus_rows v))) s.1
 
 absent_no_end : (possible : ℕ) (l : List ℕ) (n : ℕ) → end_at l ≡ Some n → absent_at possible l ≡ None
 unfolding absent_at
@@ -75,38 +80,39 @@ head_no_end : (l : List ℕ) (n : ℕ) → end_at l ≡ Some n → head_line_at 
 unfolding head_line_at
 head_no_end l n h = let s = end_says l n h in ap (option_and_then (one_of head_rows)) s.1
 
-cpus_no_events : cpus_at events_line ≡ None
+cpus_no_events : (v : Version) → cpus_at v events_line ≡ None
 unfolding cpus_at words_at
-cpus_no_events = refl
+cpus_no_events v = refl
 
 absent_no_events : (possible : ℕ) → absent_at possible events_line ≡ None
 unfolding absent_at words_at
 absent_no_events possible = refl
 
-title_no_events : is_events_line title_line ≡ false
+title_no_events : (v : Version) → is_events_line (title_line v) ≡ false
 unfolding title_line
-title_no_events = refl
+title_no_events v = refl
 
-title_words : end_at title_line ≡ None
+title_words : (v : Version) → end_at (title_line v) ≡ None
 unfolding title_line end_at words_at
-title_words = refl
+title_words One = refl
+title_words Two = refl
 
 -- ---- one line more
 
-title_parts : (before : List (List ℕ)) (l : List ℕ) (t : Bool) (m : Stage) → Seen before false false → bytes_eq l title_line ≡ t → Leads (cond t (goes titled) (stops Header)) m → Parted m (before ++ l ∷ [])
-title_parts before l true m r t h =
-    let same : l ≡ title_line = same_word l title_line t in
+title_parts : (v : Version) (before : List (List ℕ)) (l : List ℕ) (t : Bool) (m : Stage) → Seen before false false → bytes_eq l (title_line v) ≡ t → Leads (cond t (goes titled) (stops Header)) m → Parted m (before ++ l ∷ [])
+title_parts v before l true m r t h =
+    let same : l ≡ title_line v = same_word l (title_line v) t in
     subst (λ (s : Stage). Parted s (before ++ l ∷ [])) h
-    (seen_more before l false false false false r (ap is_events_line same ∙ title_no_events) (ap is_end_line same ∙ ap is_there title_words))
-title_parts before l false m r t h = absurd h
+    (seen_more before l false false false false r (ap is_events_line same ∙ title_no_events v) (ap is_end_line same ∙ ap is_there (title_words v)))
+title_parts v before l false m r t h = absurd h
 
-cpus_parts : (before : List (List ℕ)) (l : List ℕ) (o : Option ℕ) (m : Stage) → Seen before false false → cpus_at l ≡ o → Leads (cpus_step o) m → Parted m (before ++ l ∷ [])
-cpus_parts before l (Some n) m r t h =
+cpus_parts : (v : Version) (before : List (List ℕ)) (l : List ℕ) (o : Option ℕ) (m : Stage) → Seen before false false → cpus_at v l ≡ o → Leads (cpus_step o) m → Parted m (before ++ l ∷ [])
+cpus_parts v before l (Some n) m r t h =
     subst (λ (s : Stage). Parted s (before ++ l ∷ [])) h
     (seen_more before l false false false false r
-    (no_events l (λ same. let x : cpus_at l ≡ None = ap cpus_at same ∙ cpus_no_events in cc))
-    (no_end l (cpus_at l) n t (λ k e. cpus_no_end l k e)))
-cpus_parts before l None m r t h = absurd h
+    (no_events l (λ same. let x : cpus_at v l ≡ None = ap (cpus_at v) same ∙ cpus_no_events v in cc))
+    (no_end l (cpus_at v l) n t (λ k e. cpus_no_end v l k e)))
+cpus_parts v before l None m r t h = absurd h
 
 absent_parts : (possible : ℕ) (before : List (List ℕ)) (l : List ℕ) (o : Option (List ℕ)) (m : Stage) → Seen before false false → absent_at possible l ≡ o → Leads (absent_step possible o) m → Parted m (before ++ l ∷ [])
 absent_parts possible before l (Some absent) m r t h =
@@ -153,11 +159,24 @@ end_parts : (head : Head) (events : List Event) (before : List (List ℕ)) (l : 
 end_parts head events before l None m r e h = absurd h
 end_parts head events before l (Some n) m r e h = count_parts head events before l n (eqb n (length events)) m r e h
 
-among_parts : (head : Head) (events : List Event) (before : List (List ℕ)) (l : List ℕ) (o : Option Event) (m : Stage) → Seen before true false → event_at l ≡ o → Leads (event_step head events o (end_step head events (end_at l))) m → Parted m (before ++ l ∷ [])
-among_parts head events before l None m r e h = end_parts head events before l (end_at l) m r refl h
-among_parts head events before l (Some x) m r e h =
-    subst (λ (s : Stage). Parted s (before ++ l ∷ [])) h.1
-    (seen_more before l true false (is_events_line l) false r refl (no_end l (event_at l) x e (λ k y. end_no_event l k y)))
+-- an event's line that leads on: the event stands, and its number and its seat are right
+pub record GoesTo (v : Version) (head : Head) (events : List Event) (said : NumberedEvent) (m : Stage) : Type 0 where
+  pub right : is_numbered v events said ≡ true
+  pub stands : Stands head events said.event
+  pub next : among_events head (events ++ said.event ∷ []) ≡ m
+
+pub said_goes : (v : Version) (head : Head) (events : List Event) (said : NumberedEvent) (m : Stage) → Leads (said_step v head events said) m → GoesTo v head events said m
+said_goes v head events said m h = go (is_numbered v events said) refl h
+  where
+    go : (b : Bool) → is_numbered v events said ≡ b → Leads (cond b (asks head events said.event) (stops Unlawful)) m → GoesTo v head events said m
+    go true e g = record { right = e; stands = g.0; next = g.1 }
+    go false e g = absurd g
+
+among_parts : (v : Version) (head : Head) (events : List Event) (before : List (List ℕ)) (l : List ℕ) (o : Option NumberedEvent) (m : Stage) → Seen before true false → event_at v l ≡ o → Leads (event_step v head events o (end_step head events (end_at l))) m → Parted m (before ++ l ∷ [])
+among_parts v head events before l None m r e h = end_parts head events before l (end_at l) m r refl h
+among_parts v head events before l (Some x) m r e h =
+    subst (λ (s : Stage). Parted s (before ++ l ∷ [])) (said_goes v head events x m h).next
+    (seen_more before l true false (is_events_line l) false r refl (no_end l (event_at v l) x e (λ k y. end_no_event v l k y)))
 
 summary_parts : (head : Head) (events : List Event) (left before : List (List ℕ)) (l : List ℕ) (m : Stage) → Seen before true true → Leads (summary_step head events left l) m → Parted m (before ++ l ∷ [])
 summary_parts head events [] before l m r h = absurd h
@@ -167,16 +186,16 @@ summary_parts head events (x ∷ left) before l m r h = same (bytes_eq l x) h
     same true g = subst (λ (s : Stage). Parted s (before ++ l ∷ [])) g (seen_more before l true true (is_events_line l) (is_end_line l) r refl refl)
     same false g = absurd g
 
-pub parted_more : (s : Stage) (before : List (List ℕ)) (l : List ℕ) (m : Stage) → Parted s before → Leads (step s l) m → Parted m (before ++ l ∷ [])
+pub parted_more : (v : Version) (s : Stage) (before : List (List ℕ)) (l : List ℕ) (m : Stage) → Parted s before → Leads (step v s l) m → Parted m (before ++ l ∷ [])
 unfolding step
-parted_more begins before l m r h = title_parts before l (bytes_eq l title_line) m r refl h
-parted_more titled before l m r h = cpus_parts before l (cpus_at l) m r refl h
-parted_more (counted possible) before l m r h = absent_parts possible before l (absent_at possible l) m r refl h
-parted_more (headed head) before l m r h = headed_parts head before l (head_line_at l) m r refl h
-parted_more (ruled head sub) before l m r h = ruled_parts head sub before l (head_line_at l) m r refl h
-parted_more (among_events head events) before l m r h = among_parts head events before l (event_at l) m r refl h
-parted_more (whole head events) before l m r h = summary_parts head events (lines_of (summary head events)) before l m r h
-parted_more (among_summary head events left) before l m r h = summary_parts head events left before l m r h
+parted_more v begins before l m r h = title_parts v before l (bytes_eq l (title_line v)) m r refl h
+parted_more v titled before l m r h = cpus_parts v before l (cpus_at v l) m r refl h
+parted_more v (counted possible) before l m r h = absent_parts possible before l (absent_at possible l) m r refl h
+parted_more v (headed head) before l m r h = headed_parts head before l (head_line_at l) m r refl h
+parted_more v (ruled head sub) before l m r h = ruled_parts head sub before l (head_line_at l) m r refl h
+parted_more v (among_events head events) before l m r h = among_parts v head events before l (event_at v l) m r refl h
+parted_more v (whole head events) before l m r h = summary_parts head events (lines_of (summary head events)) before l m r h
+parted_more v (among_summary head events left) before l m r h = summary_parts head events left before l m r h
 
 -- ---- the kind of a line that stops, or whose event doesn't stand
 
@@ -185,16 +204,16 @@ HasKind (goes s) k = Unit {0}
 HasKind (stops j) k = k ≡ j
 HasKind (asks head events e) k = k ≡ Unlawful
 
-kind_by : (before : List (List ℕ)) (l : List ℕ) (events ended : Bool) → Seen before events ended → kind_of before l ≡ cond events (cond ended Trailing (kind_among_events l)) Header
-kind_by before l events ended s = rw (s.events_is, s.end_is) refl
+kind_by : (v : Version) (before : List (List ℕ)) (l : List ℕ) (events ended : Bool) → Seen before events ended → kind_of v before l ≡ cond events (cond ended Trailing (kind_among_events v l)) Header
+kind_by v before l events ended s = rw (s.events_is, s.end_is) refl
 
 header_cond : (t : Bool) (s : Stage) → HasKind (cond t (goes s) (stops Header)) Header
 header_cond true s = tt
 header_cond false s = refl
 
-header_title : (l : List ℕ) → HasKind (step begins l) Header
+header_title : (v : Version) (l : List ℕ) → HasKind (step v begins l) Header
 unfolding step
-header_title l = header_cond (bytes_eq l title_line) titled
+header_title v l = header_cond (bytes_eq l (title_line v)) titled
 
 header_cpus : (o : Option ℕ) → HasKind (cpus_step o) Header
 header_cpus None = refl
@@ -224,9 +243,13 @@ kind_end head events (Some n) = count (eqb n (length events))
     count true = tt
     count false = refl
 
-kind_event : (head : Head) (events : List Event) (l : List ℕ) (o : Option Event) → HasKind (event_step head events o (end_step head events (end_at l))) (cond (is_there o) Unlawful (cond (is_there (end_at l)) Count Syntax))
-kind_event head events l None = kind_end head events (end_at l)
-kind_event head events l (Some e) = refl
+kind_event : (v : Version) (head : Head) (events : List Event) (l : List ℕ) (o : Option NumberedEvent) → HasKind (event_step v head events o (end_step head events (end_at l))) (cond (is_there o) Unlawful (cond (is_there (end_at l)) Count Syntax))
+kind_event v head events l None = kind_end head events (end_at l)
+kind_event v head events l (Some x) = kind_said (is_numbered v events x)
+  where
+    kind_said : (b : Bool) → HasKind (cond b (asks head events x.event) (stops Unlawful)) Unlawful
+    kind_said true = refl
+    kind_said false = refl
 
 kind_summary : (head : Head) (events : List Event) (left : List (List ℕ)) (l : List ℕ) → HasKind (summary_step head events left l) Trailing
 kind_summary head events [] l = refl
@@ -236,19 +259,19 @@ kind_summary head events (x ∷ left) l = same (bytes_eq l x)
     same true = tt
     same false = refl
 
-kind_step : (s : Stage) (before : List (List ℕ)) (l : List ℕ) → Parted s before → (k : ReplayKind) × (kind_of before l ≡ k) × HasKind (step s l) k
+kind_step : (v : Version) (s : Stage) (before : List (List ℕ)) (l : List ℕ) → Parted s before → (k : ReplayKind) × (kind_of v before l ≡ k) × HasKind (step v s l) k
 unfolding step
-kind_step begins before l r = (Header, kind_by before l false false r, header_title l)
-kind_step titled before l r = (Header, kind_by before l false false r, header_cpus (cpus_at l))
-kind_step (counted possible) before l r = (Header, kind_by before l false false r, header_absent possible (absent_at possible l))
-kind_step (headed head) before l r = (Header, kind_by before l false false r, header_headed head (head_line_at l))
-kind_step (ruled head sub) before l r = (Header, kind_by before l false false r, header_ruled head sub (head_line_at l))
-kind_step (among_events head events) before l r = (kind_among_events l, kind_by before l true false r, kind_event head events l (event_at l))
-kind_step (whole head events) before l r = (Trailing, kind_by before l true true r, kind_summary head events (lines_of (summary head events)) l)
-kind_step (among_summary head events left) before l r = (Trailing, kind_by before l true true r, kind_summary head events left l)
+kind_step v begins before l r = (Header, kind_by v before l false false r, header_title v l)
+kind_step v titled before l r = (Header, kind_by v before l false false r, header_cpus (cpus_at v l))
+kind_step v (counted possible) before l r = (Header, kind_by v before l false false r, header_absent possible (absent_at possible l))
+kind_step v (headed head) before l r = (Header, kind_by v before l false false r, header_headed head (head_line_at l))
+kind_step v (ruled head sub) before l r = (Header, kind_by v before l false false r, header_ruled head sub (head_line_at l))
+kind_step v (among_events head events) before l r = (kind_among_events v l, kind_by v before l true false r, kind_event v head events l (event_at v l))
+kind_step v (whole head events) before l r = (Trailing, kind_by v before l true true r, kind_summary head events (lines_of (summary head events)) l)
+kind_step v (among_summary head events left) before l r = (Trailing, kind_by v before l true true r, kind_summary head events left l)
 
-pub kind_is : (s : Stage) (before : List (List ℕ)) (l : List ℕ) → Parted s before → HasKind (step s l) (kind_of before l)
-kind_is s before l r = let k = kind_step s before l r in subst (HasKind (step s l)) (sym k.1) k.2
+pub kind_is : (v : Version) (s : Stage) (before : List (List ℕ)) (l : List ℕ) → Parted s before → HasKind (step v s l) (kind_of v before l)
+kind_is v s before l r = let k = kind_step v s before l r in subst (HasKind (step v s l)) (sym k.1) k.2
 
 -- ---- what is asked is asked among the events
 
@@ -285,24 +308,28 @@ asks_end : (s : Stage) (head : Head) (events : List Event) (o : Option ℕ) → 
 asks_end s head events None = tt
 asks_end s head events (Some n) = asks_cond (eqb n (length events)) (whole head events) s Count
 
-asks_event : (head : Head) (events : List Event) (l : List ℕ) (o : Option Event) → AsksOnly (event_step head events o (end_step head events (end_at l))) (among_events head events)
-asks_event head events l None = asks_end (among_events head events) head events (end_at l)
-asks_event head events l (Some e) = refl
+asks_event : (v : Version) (head : Head) (events : List Event) (l : List ℕ) (o : Option NumberedEvent) → AsksOnly (event_step v head events o (end_step head events (end_at l))) (among_events head events)
+asks_event v head events l None = asks_end (among_events head events) head events (end_at l)
+asks_event v head events l (Some x) = asks_said (is_numbered v events x)
+  where
+    asks_said : (b : Bool) → AsksOnly (cond b (asks head events x.event) (stops Unlawful)) (among_events head events)
+    asks_said true = refl
+    asks_said false = tt
 
 asks_summary : (s : Stage) (head : Head) (events : List Event) (left : List (List ℕ)) (l : List ℕ) → AsksOnly (summary_step head events left l) s
 asks_summary s head events [] l = tt
 asks_summary s head events (x ∷ left) l = asks_cond (bytes_eq l x) (among_summary head events left) s Trailing
 
-asks_step : (s : Stage) (l : List ℕ) → AsksOnly (step s l) s
+asks_step : (v : Version) (s : Stage) (l : List ℕ) → AsksOnly (step v s l) s
 unfolding step
-asks_step begins l = asks_cond (bytes_eq l title_line) titled begins Header
-asks_step titled l = asks_cpus titled (cpus_at l)
-asks_step (counted possible) l = asks_absent (counted possible) possible (absent_at possible l)
-asks_step (headed head) l = asks_headed (headed head) head (head_line_at l)
-asks_step (ruled head sub) l = asks_ruled (ruled head sub) head sub (head_line_at l)
-asks_step (among_events head events) l = asks_event head events l (event_at l)
-asks_step (whole head events) l = asks_summary (whole head events) head events (lines_of (summary head events)) l
-asks_step (among_summary head events left) l = asks_summary (among_summary head events left) head events left l
+asks_step v begins l = asks_cond (bytes_eq l (title_line v)) titled begins Header
+asks_step v titled l = asks_cpus titled (cpus_at v l)
+asks_step v (counted possible) l = asks_absent (counted possible) possible (absent_at possible l)
+asks_step v (headed head) l = asks_headed (headed head) head (head_line_at l)
+asks_step v (ruled head sub) l = asks_ruled (ruled head sub) head sub (head_line_at l)
+asks_step v (among_events head events) l = asks_event v head events l (event_at v l)
+asks_step v (whole head events) l = asks_summary (whole head events) head events (lines_of (summary head events)) l
+asks_step v (among_summary head events left) l = asks_summary (among_summary head events left) head events left l
 
-pub asked_of : (s : Stage) (l : List ℕ) (head : Head) (events : List Event) (e : Event) → step s l ≡ asks head events e → s ≡ among_events head events
-asked_of s l head events e h = subst (λ (x : Step). AsksOnly x s) h (asks_step s l)
+pub asked_of : (v : Version) (s : Stage) (l : List ℕ) (head : Head) (events : List Event) (e : Event) → step v s l ≡ asks head events e → s ≡ among_events head events
+asked_of v s l head events e h = subst (λ (x : Step). AsksOnly x s) h (asks_step v s l)

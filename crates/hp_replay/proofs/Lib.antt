@@ -2,6 +2,7 @@ pub mod NumberLaws
 pub mod LineLaws
 pub mod ReaderLaws
 pub mod OpWords
+pub mod VersionLaws
 pub mod EventTakes
 pub mod EventAgain
 pub mod SpelledLaws

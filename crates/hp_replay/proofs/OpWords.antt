@@ -1,6 +1,6 @@
 -- Words that are numbers and operations in the lines of a journal: what is read is spelled by them, what is spelled is
 -- read again, and they have no spaces and newlines.
-use Rattle.std.proofs.Common.{◌≡◌, ℕ, ◌^◌, Bool, true, false, [], Some, refl, ap, arith}
+use Rattle.std.proofs.Common.{◌≡◌, ℕ, Bool, true, false, [], Some, refl, ap, arith}
 use Rattle.std.specs.Result.{result_ok}
 use Rattle.std.specs.Fmt.{decimal, signed_decimal}
 use Rattle.hp_event.specs.declared.op.Op.{Op}

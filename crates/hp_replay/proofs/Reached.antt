@@ -1,8 +1,8 @@
 -- What has come where a stage is reached: so its lines can stand.
-use Rattle.std.proofs.Common.{◌≡◌, ℕ, ◌^◌, ◌<◌, Bool, true, false, cond, eqb, ltb, List, [], ◌∷◌, ◌++◌, length, Option, Some, None, refl, sym, ap, subst, ◌∙◌, append_assoc, arith}
+use Rattle.std.proofs.Common.{◌≡◌, ℕ, ◌^◌, ◌<◌, ◌≤◌, Bool, true, false, cond, eqb, ltb, List, [], ◌∷◌, ◌++◌, length, Option, Some, None, refl, sym, ap, subst, ◌∙◌, append_assoc, arith}
 use Rattle.std.specs.Str.{bytes_eq}
 use Rattle.std.specs.List.{flat_map, All}
-use Rattle.std.proofs.lemmas.Bool.{eqb-true, ltb-true, lt-ltb}
+use Rattle.std.proofs.lemmas.Bool.{and_parts, eqb-true, ltb-true, lt-ltb}
 use Rattle.std.proofs.lemmas.List.{append-nil, length-append}
 use Rattle.std.proofs.lemmas.List.Concat.{flat_map-append}
 use Rattle.std.proofs.lemmas.List.Elements.{All-nil, All-push, All-pop}
@@ -15,15 +15,20 @@ use Rattle.hp_model.specs.Lists.{occurs}
 use Rattle.hp_model.specs.Words.{line}
 use Rattle.hp_model.specs.Heads.{IsHead, IsSub, IsRule, IsName}
 use Rattle.hp_model.specs.EventLine.{event_line}
+use Rattle.hp_model.specs.OperationNumber.{operation_number}
 use Rattle.hp_model.specs.JournalText.{rule_line, title_line, journal_text}
 use Rattle.hp_model.specs.Summary.{summary}
-use Rattle.hp_model.specs.Lawful.{Stands}
 use Rattle.hp_model.proofs.HeadlineProof.{lawful_more}
 use Rattle.hp_model.proofs.Rising.{Rise, rise_below, rise_increases}
+use Rattle.hp_event.specs.declared.version.Version.{Version}
 use Rattle.hp_replay.specs.Fits.{EventFits}
 use Rattle.hp_replay.specs.declared.error.ReplayKind.TheVariants.{Header, Count, Trailing}
 use Rattle.hp_replay.specs.InputLines.{lines_of}
 use Rattle.hp_replay.specs.HeadLines.{HeadLine, a_sub, a_rule, the_events, cpus_at, absent_at, head_line_at}
+use Rattle.hp_replay.specs.declared.event.NumberedEvent.{NumberedEvent}
+use Rattle.hp_replay.specs.Versions.{most_cpus, has_seat, is_its_number, named_number}
+use Rattle.hp_replay.proofs.VersionLaws.{most_small, most_some, cpus_within, within_none, within_more, same_line}
+use Rattle.hp_replay.proofs.KindLaws.{GoesTo, said_goes}
 use Rattle.hp_replay.specs.EventAt.{event_at}
 use Rattle.hp_replay.specs.EndAt.{end_at}
 use Rattle.hp_replay.specs.CanStand.{IsJournal, CanStand}
@@ -32,134 +37,140 @@ use Rattle.hp_replay.proofs.ReaderLaws.{same_word}
 use Rattle.hp_replay.proofs.EventTakes.{event_at_takes}
 use Rattle.hp_replay.proofs.AbsentLaws.{zero_not_among}
 use Rattle.hp_replay.proofs.HeadLaws.{cpus_words, IsCount, cpus_takes, absent_words, absent_takes, head_words, head_takes, end_words, end_takes}
-use Rattle.hp_replay.proofs.TextLines.{lines_of_sub, rule_lines, front_lines, events_line, event_lines, text_lines, text_lines_are}
+use Rattle.hp_replay.proofs.TextLines.{lines_of_sub, rule_lines, front_lines, events_line, lines_after, lines_after_push, text_lines, text_lines_are}
 use Rattle.hp_replay.specs.Judged.{Leads}
 use Rattle.hp_replay.proofs.TextPasses.{not_many}
 
-pub record AtHead (head : Head) (before : List (List ℕ)) : Type 0 where
+pub record AtHead (v : Version) (head : Head) (before : List (List ℕ)) : Type 0 where
   pub is_head : IsHead head
-  pub lines_are : before ≡ front_lines head
+  pub few : head.possible ≤ most_cpus v
+  pub lines_are : before ≡ front_lines v head
 
-pub record AtEvents (head : Head) (events : List Event) (before : List (List ℕ)) : Type 0 where
-  pub journal : IsJournal head events
-  pub lines_are : before ≡ front_lines head ++ events_line ∷ event_lines events
+pub record AtEvents (v : Version) (head : Head) (events : List Event) (before : List (List ℕ)) : Type 0 where
+  pub journal : IsJournal v head events
+  pub lines_are : before ≡ front_lines v head ++ events_line ∷ lines_after v [] events
 
-pub record AtWhole (head : Head) (events : List Event) (before : List (List ℕ)) : Type 0 where
-  pub journal : IsJournal head events
-  pub lines_are : before ≡ text_lines head events
+pub record AtWhole (v : Version) (head : Head) (events : List Event) (before : List (List ℕ)) : Type 0 where
+  pub journal : IsJournal v head events
+  pub lines_are : before ≡ text_lines v head events
 
-pub record AtSummary (head : Head) (events : List Event) (left before : List (List ℕ)) : Type 0 where
-  pub journal : IsJournal head events
-  pub lines_are : before ++ left ≡ text_lines head events ++ lines_of (summary head events)
+pub record AtSummary (v : Version) (head : Head) (events : List Event) (left before : List (List ℕ)) : Type 0 where
+  pub journal : IsJournal v head events
+  pub lines_are : before ++ left ≡ text_lines v head events ++ lines_of (summary head events)
 
-abbrev pub Reached : Stage → (before : List (List ℕ)) → Type 0
-Reached begins before = before ≡ []
-Reached titled before = before ≡ title_line ∷ []
-Reached (counted possible) before = IsCount possible × (before ≡ title_line ∷ line (cpus_words possible) ∷ [])
-Reached (headed head) before = AtHead head before
-Reached (ruled head sub) before = AtHead (with_sub head sub) before
-Reached (among_events head events) before = AtEvents head events before
-Reached (whole head events) before = AtWhole head events before
-Reached (among_summary head events left) before = AtSummary head events left before
+abbrev pub Reached : Version → Stage → (before : List (List ℕ)) → Type 0
+Reached v begins before = before ≡ []
+Reached v titled before = before ≡ title_line v ∷ []
+Reached v (counted possible) before = IsCount v possible × (before ≡ title_line v ∷ line (cpus_words possible) ∷ [])
+Reached v (headed head) before = AtHead v head before
+Reached v (ruled head sub) before = AtHead v (with_sub head sub) before
+Reached v (among_events head events) before = AtEvents v head events before
+Reached v (whole head events) before = AtWhole v head events before
+Reached v (among_summary head events left) before = AtSummary v head events left before
 
 -- ---- they can stand
 
-pub lines_are : (head : Head) (events : List Event) → IsJournal head events → lines_of (journal_text head events ++ summary head events) ≡ text_lines head events ++ lines_of (summary head events)
-lines_are head events j = text_lines_are head events (summary head events) j.lawful.0 j.fit (not_many head events j.lawful)
+pub all_lines_are : (v : Version) (head : Head) (events : List Event) → IsJournal v head events → lines_of (journal_text v head events ++ summary head events) ≡ text_lines v head events ++ lines_of (summary head events)
+all_lines_are v head events j = text_lines_are v head events (summary head events) j.lawful.0 (cpus_within v head events j.lawful.0 j.within) j.fit (not_many head events j.lawful)
 
-stands_of : (head : Head) (events : List Event) (before rest : List (List ℕ)) → IsJournal head events → before ++ rest ≡ text_lines head events ++ lines_of (summary head events) → CanStand before
-stands_of head events before rest j e = record { head = head; events = events; journal = j; rest = rest; is_front = e ∙ sym (lines_are head events j) }
+stands_of : (v : Version) (head : Head) (events : List Event) (before rest : List (List ℕ)) → IsJournal v head events → before ++ rest ≡ text_lines v head events ++ lines_of (summary head events) → CanStand v before
+stands_of v head events before rest j e = record { head = head; events = events; journal = j; rest = rest; is_front = e ∙ sym (all_lines_are v head events j) }
 
-pub no_events : (head : Head) → IsHead head → IsJournal head []
-no_events head h = record { lawful = (h, tt); fit = All-nil EventFits }
+pub no_events : (v : Version) (head : Head) → IsHead head → head.possible ≤ most_cpus v → IsJournal v head []
+no_events v head h c = record { lawful = (h, tt); fit = All-nil EventFits; within = within_none v head c }
 
 abbrev first_head : (possible : ℕ) → Head
 first_head possible = record { possible = possible; absent = []; subs = [] }
 
-pub first_is_head : (possible : ℕ) → IsCount possible → IsHead (first_head possible)
-first_is_head possible c = record {
-  some_possible = omega (arith, c.0);
-  few_possible = omega (arith, c.1);
-  absent_rising = λ k inside. absurd (omega (arith, inside));
-  absent_possible = All-nil (λ n. n < possible);
-  first_present = let some : ltb 0 possible ≡ true = lt-ltb _ _ (omega (arith, c.0)) in rw some refl;
-  few_subs = omega arith;
-  subs_are = All-nil IsSub;
-}
+pub first_is_head : (v : Version) (possible : ℕ) → IsCount v possible → IsHead (first_head possible)
+first_is_head v possible c =
+    let small = most_small v in
+    record {
+      some_possible = omega (arith, c.0);
+      few_possible = omega (arith, c.1);
+      absent_rising = λ k inside. absurd (omega (arith, inside));
+      absent_possible = All-nil (λ n. n < possible);
+      first_present = let some : ltb 0 possible ≡ true = lt-ltb _ _ (omega (arith, c.0)) in rw some refl;
+      few_subs = omega arith;
+      subs_are = All-nil IsSub;
+    }
 
-one_processor : IsCount 1
-one_processor = (omega arith, omega arith)
+one_processor : (v : Version) → IsCount v 1
+one_processor v = (omega arith, omega (arith, most_some v))
 
-front_stands : (head : Head) (before : List (List ℕ)) → AtHead head before → CanStand before
-front_stands head before a =
-    stands_of head [] before (events_line ∷ (line (end_words 0) ∷ []) ++ lines_of (summary head [])) (no_events head a.is_head)
+front_stands : (v : Version) (head : Head) (before : List (List ℕ)) → AtHead v head before → CanStand v before
+front_stands v head before a =
+    stands_of v head [] before (events_line ∷ (line (end_words 0) ∷ []) ++ lines_of (summary head [])) (no_events v head a.is_head a.few)
     (ap (λ (b : List (List ℕ)). b ++ (events_line ∷ (line (end_words 0) ∷ []) ++ lines_of (summary head []))) a.lines_are
-    ∙ sym (append_assoc (front_lines head) (events_line ∷ line (end_words 0) ∷ []) (lines_of (summary head []))))
+    ∙ sym (append_assoc (front_lines v head) (events_line ∷ line (end_words 0) ∷ []) (lines_of (summary head []))))
 
-events_stand : (head : Head) (events : List Event) (before : List (List ℕ)) → AtEvents head events before → CanStand before
-events_stand head events before a =
+events_stand : (v : Version) (head : Head) (events : List Event) (before : List (List ℕ)) → AtEvents v head events before → CanStand v before
+events_stand v head events before a =
     let end = line (end_words (length events)) ∷ [] in
-    stands_of head events before (end ++ lines_of (summary head events)) a.journal
+    stands_of v head events before (end ++ lines_of (summary head events)) a.journal
     (ap (λ (b : List (List ℕ)). b ++ (end ++ lines_of (summary head events))) a.lines_are
-    ∙ sym (append_assoc (front_lines head ++ events_line ∷ event_lines events) end (lines_of (summary head events)))
-    ∙ ap (λ (b : List (List ℕ)). b ++ lines_of (summary head events)) (append_assoc (front_lines head) (events_line ∷ event_lines events) end))
+    ∙ sym (append_assoc (front_lines v head ++ events_line ∷ lines_after v [] events) end (lines_of (summary head events)))
+    ∙ ap (λ (b : List (List ℕ)). b ++ lines_of (summary head events)) (append_assoc (front_lines v head) (events_line ∷ lines_after v [] events) end))
 
-pub reached_stands : (s : Stage) (before : List (List ℕ)) → Reached s before → CanStand before
-reached_stands begins before r = stands_of (first_head 1) [] before (text_lines (first_head 1) [] ++ lines_of (summary (first_head 1) [])) (no_events (first_head 1) (first_is_head 1 one_processor))
-    (ap (λ (b : List (List ℕ)). b ++ (text_lines (first_head 1) [] ++ lines_of (summary (first_head 1) []))) r)
-reached_stands titled before r = stands_of (first_head 1) [] before _ (no_events (first_head 1) (first_is_head 1 one_processor))
+pub reached_stands : (v : Version) (s : Stage) (before : List (List ℕ)) → Reached v s before → CanStand v before
+reached_stands v begins before r = stands_of v (first_head 1) [] before (text_lines v (first_head 1) [] ++ lines_of (summary (first_head 1) [])) (no_events v (first_head 1) (first_is_head v 1 (one_processor v)) (most_some v))
+    (ap (λ (b : List (List ℕ)). b ++ (text_lines v (first_head 1) [] ++ lines_of (summary (first_head 1) []))) r)
+reached_stands v titled before r = stands_of v (first_head 1) [] before _ (no_events v (first_head 1) (first_is_head v 1 (one_processor v)) (most_some v))
     (ap (λ (b : List (List ℕ)). b ++ (line (cpus_words 1) ∷ line (absent_words []) ∷ events_line ∷ line (end_words 0) ∷ lines_of (summary (first_head 1) []))) r)
-reached_stands (counted possible) before r = stands_of (first_head possible) [] before _ (no_events (first_head possible) (first_is_head possible r.0))
+reached_stands v (counted possible) before r = stands_of v (first_head possible) [] before _ (no_events v (first_head possible) (first_is_head v possible r.0) (omega (arith, r.0.1)))
     (ap (λ (b : List (List ℕ)). b ++ (line (absent_words []) ∷ events_line ∷ line (end_words 0) ∷ lines_of (summary (first_head possible) []))) r.1)
-reached_stands (headed head) before r = front_stands head before r
-reached_stands (ruled head sub) before r = front_stands (with_sub head sub) before r
-reached_stands (among_events head events) before r = events_stand head events before r
-reached_stands (whole head events) before r = stands_of head events before (lines_of (summary head events)) r.journal (ap (λ (b : List (List ℕ)). b ++ lines_of (summary head events)) r.lines_are)
-reached_stands (among_summary head events left) before r = stands_of head events before left r.journal r.lines_are
+reached_stands v (headed head) before r = front_stands v head before r
+reached_stands v (ruled head sub) before r = front_stands v (with_sub head sub) before r
+reached_stands v (among_events head events) before r = events_stand v head events before r
+reached_stands v (whole head events) before r = stands_of v head events before (lines_of (summary head events)) r.journal (ap (λ (b : List (List ℕ)). b ++ lines_of (summary head events)) r.lines_are)
+reached_stands v (among_summary head events left) before r = stands_of v head events before left r.journal r.lines_are
 
 -- ---- one line more
 
-title_more : (before : List (List ℕ)) (l : List ℕ) (t : Bool) (m : Stage) → before ≡ [] → bytes_eq l title_line ≡ t → Leads (cond t (goes titled) (stops Header)) m → Reached m (before ++ l ∷ [])
-title_more before l true m r t h =
-    subst (λ (s : Stage). Reached s (before ++ l ∷ [])) h
-    (ap (λ (b : List (List ℕ)). b ++ l ∷ []) r ∙ ap (λ (x : List ℕ). x ∷ []) (same_word l title_line t))
-title_more before l false m r t h = absurd h
+title_more : (v : Version) (before : List (List ℕ)) (l : List ℕ) (t : Bool) (m : Stage) → before ≡ [] → bytes_eq l (title_line v) ≡ t → Leads (cond t (goes titled) (stops Header)) m → Reached v m (before ++ l ∷ [])
+title_more v before l true m r t h =
+    subst (λ (s : Stage). Reached v s (before ++ l ∷ [])) h
+    (ap (λ (b : List (List ℕ)). b ++ l ∷ []) r ∙ ap (λ (x : List ℕ). x ∷ []) (same_word l (title_line v) t))
+title_more v before l false m r t h = absurd h
 
-cpus_more : (before : List (List ℕ)) (l : List ℕ) (o : Option ℕ) (m : Stage) → before ≡ title_line ∷ [] → cpus_at l ≡ o → Leads (cpus_step o) m → Reached m (before ++ l ∷ [])
-cpus_more before l (Some n) m r t h =
-    let c = cpus_takes l n t in
-    subst (λ (s : Stage). Reached s (before ++ l ∷ [])) h
-    (c.1, ap (λ (b : List (List ℕ)). b ++ l ∷ []) r ∙ ap (λ (x : List ℕ). title_line ∷ x ∷ []) c.0)
-cpus_more before l None m r t h = absurd h
+cpus_more : (v : Version) (before : List (List ℕ)) (l : List ℕ) (o : Option ℕ) (m : Stage) → before ≡ title_line v ∷ [] → cpus_at v l ≡ o → Leads (cpus_step o) m → Reached v m (before ++ l ∷ [])
+cpus_more v before l (Some n) m r t h =
+    let c = cpus_takes v l n t in
+    subst (λ (s : Stage). Reached v s (before ++ l ∷ [])) h
+    (c.1, ap (λ (b : List (List ℕ)). b ++ l ∷ []) r ∙ ap (λ (x : List ℕ). title_line v ∷ x ∷ []) c.0)
+cpus_more v before l None m r t h = absurd h
 
-bare_is_head : (possible : ℕ) (absent : List ℕ) → IsCount possible → Rise 1 possible absent → IsHead (record { possible = possible; absent = absent; subs = [] })
-bare_is_head possible absent c a = record {
-  some_possible = omega (arith, c.0);
-  few_possible = omega (arith, c.1);
-  absent_rising = rise_increases 1 possible absent a;
-  absent_possible = rise_below 1 possible absent a;
-  first_present =
-      let some : ltb 0 possible ≡ true = lt-ltb _ _ (omega (arith, c.0)) in
-      let none : occurs 0 absent ≡ 0 = zero_not_among 1 possible absent (omega arith) a in
-      rw (some, none) refl;
-  few_subs = omega arith;
-  subs_are = All-nil IsSub;
-}
+bare_is_head : (v : Version) (possible : ℕ) (absent : List ℕ) → IsCount v possible → Rise 1 possible absent → IsHead (record { possible = possible; absent = absent; subs = [] })
+bare_is_head v possible absent c a =
+    let small = most_small v in
+    record {
+      some_possible = omega (arith, c.0);
+      few_possible = omega (arith, c.1);
+      absent_rising = rise_increases 1 possible absent a;
+      absent_possible = rise_below 1 possible absent a;
+      first_present =
+          let some : ltb 0 possible ≡ true = lt-ltb _ _ (omega (arith, c.0)) in
+          let none : occurs 0 absent ≡ 0 = zero_not_among 1 possible absent (omega arith) a in
+          rw (some, none) refl;
+      few_subs = omega arith;
+      subs_are = All-nil IsSub;
+    }
 
-absent_more : (possible : ℕ) (before : List (List ℕ)) (l : List ℕ) (o : Option (List ℕ)) (m : Stage) → Reached (counted possible) before → absent_at possible l ≡ o → Leads (absent_step possible o) m → Reached m (before ++ l ∷ [])
-absent_more possible before l (Some absent) m r t h =
+absent_more : (v : Version) (possible : ℕ) (before : List (List ℕ)) (l : List ℕ) (o : Option (List ℕ)) (m : Stage) → Reached v (counted possible) before → absent_at possible l ≡ o → Leads (absent_step possible o) m → Reached v m (before ++ l ∷ [])
+absent_more v possible before l (Some absent) m r t h =
     let a = absent_takes possible l absent t in
-    subst (λ (s : Stage). Reached s (before ++ l ∷ [])) h
+    subst (λ (s : Stage). Reached v s (before ++ l ∷ [])) h
     (record {
-      is_head = bare_is_head possible absent r.0 a.1;
-      lines_are = ap (λ (b : List (List ℕ)). b ++ l ∷ []) r.1 ∙ ap (λ (x : List ℕ). title_line ∷ line (cpus_words possible) ∷ x ∷ []) a.0;
+      is_head = bare_is_head v possible absent r.0 a.1;
+      few = omega (arith, r.0.1);
+      lines_are = ap (λ (b : List (List ℕ)). b ++ l ∷ []) r.1 ∙ ap (λ (x : List ℕ). title_line v ∷ line (cpus_words possible) ∷ x ∷ []) a.0;
     })
-absent_more possible before l None m r t h = absurd h
+absent_more v possible before l None m r t h = absurd h
 
 -- a head with one subsystem more
-more_front : (head : Head) (sub : Sub) → front_lines (with_sub head sub) ≡ front_lines head ++ lines_of_sub sub
-more_front head sub =
-    ap (λ (x : List (List ℕ)). title_line ∷ line (cpus_words head.possible) ∷ line (absent_words head.absent) ∷ x)
+more_front : (v : Version) (head : Head) (sub : Sub) → front_lines v (with_sub head sub) ≡ front_lines v head ++ lines_of_sub sub
+more_front v head sub =
+    ap (λ (x : List (List ℕ)). title_line v ∷ line (cpus_words head.possible) ∷ line (absent_words head.absent) ∷ x)
     (flat_map-append lines_of_sub head.subs (sub ∷ []) ∙ ap (λ (x : List (List ℕ)). flat_map lines_of_sub head.subs ++ x) (append-nil (lines_of_sub sub)))
 
 more_head : (head : Head) (sub : Sub) → IsHead head → IsSub sub → length head.subs < MAX_SUBS → IsHead (with_sub head sub)
@@ -180,32 +191,33 @@ fresh_sub sub n e = record {
   rules_are = subst (λ (p : List Rule). All IsRule p) (sym e) (All-nil IsRule);
 }
 
-next_sub_more : (head : Head) (sub : Sub) (before : List (List ℕ)) (l : List ℕ) (t : Bool) (m : Stage) → AtHead head before → head_line_at l ≡ Some (a_sub sub) → ltb (length head.subs) MAX_SUBS ≡ t →
-    Leads (cond t (goes (ruled head sub)) (stops Header)) m → Reached m (before ++ l ∷ [])
-next_sub_more head sub before l true m r e t h =
+next_sub_more : (v : Version) (head : Head) (sub : Sub) (before : List (List ℕ)) (l : List ℕ) (t : Bool) (m : Stage) → AtHead v head before → head_line_at l ≡ Some (a_sub sub) → ltb (length head.subs) MAX_SUBS ≡ t →
+    Leads (cond t (goes (ruled head sub)) (stops Header)) m → Reached v m (before ++ l ∷ [])
+next_sub_more v head sub before l true m r e t h =
     let x = head_takes l (a_sub sub) e in
     let lines : lines_of_sub sub ≡ l ∷ [] = ap (λ (p : List Rule). line (head_words (a_sub sub)) ∷ rule_lines p) x.1.1 ∙ ap (λ (y : List ℕ). y ∷ []) (sym x.0) in
-    subst (λ (s : Stage). Reached s (before ++ l ∷ [])) h
+    subst (λ (s : Stage). Reached v s (before ++ l ∷ [])) h
     (record {
       is_head = more_head head sub r.is_head (fresh_sub sub x.1.0 x.1.1) (ltb-true _ _ t);
-      lines_are = ap (λ (b : List (List ℕ)). b ++ l ∷ []) r.lines_are ∙ ap (λ (y : List (List ℕ)). front_lines head ++ y) (sym lines) ∙ sym (more_front head sub);
+      few = r.few;
+      lines_are = ap (λ (b : List (List ℕ)). b ++ l ∷ []) r.lines_are ∙ ap (λ (y : List (List ℕ)). front_lines v head ++ y) (sym lines) ∙ sym (more_front v head sub);
     })
-next_sub_more head sub before l false m r e t h = absurd h
+next_sub_more v head sub before l false m r e t h = absurd h
 
-events_more : (head : Head) (before : List (List ℕ)) (l : List ℕ) (m : Stage) → AtHead head before → head_line_at l ≡ Some the_events → among_events head [] ≡ m → Reached m (before ++ l ∷ [])
-events_more head before l m r e h =
+events_more : (v : Version) (head : Head) (before : List (List ℕ)) (l : List ℕ) (m : Stage) → AtHead v head before → head_line_at l ≡ Some the_events → among_events head [] ≡ m → Reached v m (before ++ l ∷ [])
+events_more v head before l m r e h =
     let x = head_takes l the_events e in
-    subst (λ (s : Stage). Reached s (before ++ l ∷ [])) h
+    subst (λ (s : Stage). Reached v s (before ++ l ∷ [])) h
     (record {
-      journal = no_events head r.is_head;
-      lines_are = ap (λ (b : List (List ℕ)). b ++ l ∷ []) r.lines_are ∙ ap (λ (y : List ℕ). front_lines head ++ y ∷ []) x.0;
+      journal = no_events v head r.is_head r.few;
+      lines_are = ap (λ (b : List (List ℕ)). b ++ l ∷ []) r.lines_are ∙ ap (λ (y : List ℕ). front_lines v head ++ y ∷ []) x.0;
     })
 
-headed_more : (head : Head) (before : List (List ℕ)) (l : List ℕ) (o : Option HeadLine) (m : Stage) → AtHead head before → head_line_at l ≡ o → Leads (headed_step head o) m → Reached m (before ++ l ∷ [])
-headed_more head before l None m r e h = absurd h
-headed_more head before l (Some (a_sub sub)) m r e h = next_sub_more head sub before l (ltb (length head.subs) MAX_SUBS) m r e refl h
-headed_more head before l (Some (a_rule rule)) m r e h = absurd h
-headed_more head before l (Some the_events) m r e h = events_more head before l m r e h
+headed_more : (v : Version) (head : Head) (before : List (List ℕ)) (l : List ℕ) (o : Option HeadLine) (m : Stage) → AtHead v head before → head_line_at l ≡ o → Leads (headed_step head o) m → Reached v m (before ++ l ∷ [])
+headed_more v head before l None m r e h = absurd h
+headed_more v head before l (Some (a_sub sub)) m r e h = next_sub_more v head sub before l (ltb (length head.subs) MAX_SUBS) m r e refl h
+headed_more v head before l (Some (a_rule rule)) m r e h = absurd h
+headed_more v head before l (Some the_events) m r e h = events_more v head before l m r e h
 
 -- a rule more of the last subsystem
 last_sub : (head : Head) (sub : Sub) → IsHead (with_sub head sub) → All IsSub head.subs × IsSub sub
@@ -231,93 +243,104 @@ ruled_head head sub rule h i lt =
       });
     }
 
-rule_front : (head : Head) (sub : Sub) (rule : Rule) → front_lines (with_sub head (with_rule sub rule)) ≡ front_lines (with_sub head sub) ++ rule_line rule ∷ []
-rule_front head sub rule =
-    more_front head (with_rule sub rule)
-    ∙ ap (λ (x : List (List ℕ)). front_lines head ++ (line (head_words (a_sub sub)) ∷ x)) (flat_map-append (λ r. rule_line r ∷ []) sub.plan (rule ∷ []))
-    ∙ sym (append_assoc (front_lines head) (lines_of_sub sub) (rule_line rule ∷ []))
-    ∙ ap (λ (x : List (List ℕ)). x ++ rule_line rule ∷ []) (sym (more_front head sub))
+rule_front : (v : Version) (head : Head) (sub : Sub) (rule : Rule) → front_lines v (with_sub head (with_rule sub rule)) ≡ front_lines v (with_sub head sub) ++ rule_line rule ∷ []
+rule_front v head sub rule =
+    more_front v head (with_rule sub rule)
+    ∙ ap (λ (x : List (List ℕ)). front_lines v head ++ (line (head_words (a_sub sub)) ∷ x)) (flat_map-append (λ r. rule_line r ∷ []) sub.plan (rule ∷ []))
+    ∙ sym (append_assoc (front_lines v head) (lines_of_sub sub) (rule_line rule ∷ []))
+    ∙ ap (λ (x : List (List ℕ)). x ++ rule_line rule ∷ []) (sym (more_front v head sub))
 
-next_rule_more : (head : Head) (sub : Sub) (rule : Rule) (before : List (List ℕ)) (l : List ℕ) (t : Bool) (m : Stage) → AtHead (with_sub head sub) before → head_line_at l ≡ Some (a_rule rule) → ltb (length sub.plan) MAX_RULES ≡ t →
-    Leads (cond t (goes (ruled head (with_rule sub rule))) (stops Header)) m → Reached m (before ++ l ∷ [])
-next_rule_more head sub rule before l true m r e t h =
+next_rule_more : (v : Version) (head : Head) (sub : Sub) (rule : Rule) (before : List (List ℕ)) (l : List ℕ) (t : Bool) (m : Stage) → AtHead v (with_sub head sub) before → head_line_at l ≡ Some (a_rule rule) → ltb (length sub.plan) MAX_RULES ≡ t →
+    Leads (cond t (goes (ruled head (with_rule sub rule))) (stops Header)) m → Reached v m (before ++ l ∷ [])
+next_rule_more v head sub rule before l true m r e t h =
     let x = head_takes l (a_rule rule) e in
-    subst (λ (s : Stage). Reached s (before ++ l ∷ [])) h
+    subst (λ (s : Stage). Reached v s (before ++ l ∷ [])) h
     (record {
       is_head = ruled_head head sub rule r.is_head x.1 (ltb-true _ _ t);
-      lines_are = ap (λ (b : List (List ℕ)). b ++ l ∷ []) r.lines_are ∙ ap (λ (y : List ℕ). front_lines (with_sub head sub) ++ y ∷ []) x.0 ∙ sym (rule_front head sub rule);
+      few = r.few;
+      lines_are = ap (λ (b : List (List ℕ)). b ++ l ∷ []) r.lines_are ∙ ap (λ (y : List ℕ). front_lines v (with_sub head sub) ++ y ∷ []) x.0 ∙ sym (rule_front v head sub rule);
     })
-next_rule_more head sub rule before l false m r e t h = absurd h
+next_rule_more v head sub rule before l false m r e t h = absurd h
 
-ruled_more : (head : Head) (sub : Sub) (before : List (List ℕ)) (l : List ℕ) (o : Option HeadLine) (m : Stage) → AtHead (with_sub head sub) before → head_line_at l ≡ o → Leads (ruled_step head sub o) m → Reached m (before ++ l ∷ [])
-ruled_more head sub before l None m r e h = absurd h
-ruled_more head sub before l (Some (a_sub other)) m r e h = next_sub_more (with_sub head sub) other before l (ltb (length (head.subs ++ sub ∷ [])) MAX_SUBS) m r e refl h
-ruled_more head sub before l (Some (a_rule rule)) m r e h = next_rule_more head sub rule before l (ltb (length sub.plan) MAX_RULES) m r e refl h
-ruled_more head sub before l (Some the_events) m r e h = events_more (with_sub head sub) before l m r e h
+ruled_more : (v : Version) (head : Head) (sub : Sub) (before : List (List ℕ)) (l : List ℕ) (o : Option HeadLine) (m : Stage) → AtHead v (with_sub head sub) before → head_line_at l ≡ o → Leads (ruled_step head sub o) m → Reached v m (before ++ l ∷ [])
+ruled_more v head sub before l None m r e h = absurd h
+ruled_more v head sub before l (Some (a_sub other)) m r e h = next_sub_more v (with_sub head sub) other before l (ltb (length (head.subs ++ sub ∷ [])) MAX_SUBS) m r e refl h
+ruled_more v head sub before l (Some (a_rule rule)) m r e h = next_rule_more v head sub rule before l (ltb (length sub.plan) MAX_RULES) m r e refl h
+ruled_more v head sub before l (Some the_events) m r e h = events_more v (with_sub head sub) before l m r e h
 
 -- ---- an event more, and the end
 
-event_more : (head : Head) (events : List Event) (before : List (List ℕ)) (l : List ℕ) (e : Event) (m : Stage) → AtEvents head events before → event_at l ≡ Some e → Stands head events e → among_events head (events ++ e ∷ []) ≡ m → Reached m (before ++ l ∷ [])
-event_more head events before l e m r t s h =
-    let x = event_at_takes l e t in
-    subst (λ (g : Stage). Reached g (before ++ l ∷ [])) h
+event_more : (v : Version) (head : Head) (events : List Event) (before : List (List ℕ)) (l : List ℕ) (said : NumberedEvent) (m : Stage) → AtEvents v head events before → event_at v l ≡ Some said →
+    GoesTo v head events said m → Reached v m (before ++ l ∷ [])
+event_more v head events before l said m r t g =
+    let e = said.event in
+    let x = event_at_takes v l said t in
+    let lawful = lawful_more head events e r.journal.lawful g.stands in
+    let right = and_parts (is_its_number (operation_number events e) said.number) (has_seat v e) g.right in
+    let named : is_its_number (operation_number events e) (named_number v x.number e) ≡ true = subst (λ (o : Option ℕ). is_its_number (operation_number events e) o ≡ true) x.named right.0 in
+    let is : l ≡ event_line v (operation_number events e) e = x.bytes_are ∙ same_line v x.number (operation_number events e) e named in
+    subst (λ (g : Stage). Reached v g (before ++ l ∷ [])) g.next
     (record {
-      journal = record { lawful = lawful_more head events e r.journal.lawful s; fit = All-push EventFits events e r.journal.fit x.1 };
+      journal = record {
+        lawful = lawful;
+        fit = All-push EventFits events e r.journal.fit x.fits;
+        within = within_more v head events e r.journal.within g.stands right.1;
+      };
       lines_are =
           ap (λ (b : List (List ℕ)). b ++ l ∷ []) r.lines_are
-          ∙ append_assoc (front_lines head) (events_line ∷ event_lines events) (l ∷ [])
-          ∙ ap (λ (y : List ℕ). front_lines head ++ (events_line ∷ (event_lines events ++ y ∷ []))) x.0
-          ∙ ap (λ (y : List (List ℕ)). front_lines head ++ (events_line ∷ y)) (sym (flat_map-append (λ e. event_line e ∷ []) events (e ∷ [])));
+          ∙ append_assoc (front_lines v head) (events_line ∷ lines_after v [] events) (l ∷ [])
+          ∙ ap (λ (y : List ℕ). front_lines v head ++ (events_line ∷ (lines_after v [] events ++ y ∷ []))) is
+          ∙ ap (λ (y : List (List ℕ)). front_lines v head ++ (events_line ∷ y)) (sym (lines_after_push v [] events e));
     })
 
-count_more : (head : Head) (events : List Event) (before : List (List ℕ)) (l : List ℕ) (n : ℕ) (t : Bool) (m : Stage) → AtEvents head events before → end_at l ≡ Some n → eqb n (length events) ≡ t →
-    Leads (cond t (goes (whole head events)) (stops Count)) m → Reached m (before ++ l ∷ [])
-count_more head events before l n true m r e t h =
+count_more : (v : Version) (head : Head) (events : List Event) (before : List (List ℕ)) (l : List ℕ) (n : ℕ) (t : Bool) (m : Stage) → AtEvents v head events before → end_at l ≡ Some n → eqb n (length events) ≡ t →
+    Leads (cond t (goes (whole head events)) (stops Count)) m → Reached v m (before ++ l ∷ [])
+count_more v head events before l n true m r e t h =
     let same : n ≡ length events = eqb-true n (length events) t in
-    let small : length events < 2 ^ 64 = not_many head events r.journal.lawful in
+    let small : length events < 2 ^ 64 = omega (arith, not_many head events r.journal.lawful) in
     let is : l ≡ line (end_words n) = end_takes l n (omega (arith, same, small)) e in
-    subst (λ (g : Stage). Reached g (before ++ l ∷ [])) h
+    subst (λ (g : Stage). Reached v g (before ++ l ∷ [])) h
     (record {
       journal = r.journal;
       lines_are =
           ap (λ (b : List (List ℕ)). b ++ l ∷ []) r.lines_are
-          ∙ append_assoc (front_lines head) (events_line ∷ event_lines events) (l ∷ [])
-          ∙ ap (λ (y : List ℕ). front_lines head ++ (events_line ∷ (event_lines events ++ y ∷ []))) (is ∙ ap (λ (k : ℕ). line (end_words k)) same);
+          ∙ append_assoc (front_lines v head) (events_line ∷ lines_after v [] events) (l ∷ [])
+          ∙ ap (λ (y : List ℕ). front_lines v head ++ (events_line ∷ (lines_after v [] events ++ y ∷ []))) (is ∙ ap (λ (k : ℕ). line (end_words k)) same);
     })
-count_more head events before l n false m r e t h = absurd h
+count_more v head events before l n false m r e t h = absurd h
 
-end_more : (head : Head) (events : List Event) (before : List (List ℕ)) (l : List ℕ) (o : Option ℕ) (m : Stage) → AtEvents head events before → end_at l ≡ o → Leads (end_step head events o) m → Reached m (before ++ l ∷ [])
-end_more head events before l None m r e h = absurd h
-end_more head events before l (Some n) m r e h = count_more head events before l n (eqb n (length events)) m r e refl h
+end_more : (v : Version) (head : Head) (events : List Event) (before : List (List ℕ)) (l : List ℕ) (o : Option ℕ) (m : Stage) → AtEvents v head events before → end_at l ≡ o → Leads (end_step head events o) m → Reached v m (before ++ l ∷ [])
+end_more v head events before l None m r e h = absurd h
+end_more v head events before l (Some n) m r e h = count_more v head events before l n (eqb n (length events)) m r e refl h
 
-among_more : (head : Head) (events : List Event) (before : List (List ℕ)) (l : List ℕ) (o : Option Event) (m : Stage) → AtEvents head events before → event_at l ≡ o → Leads (event_step head events o (end_step head events (end_at l))) m → Reached m (before ++ l ∷ [])
-among_more head events before l None m r e h = end_more head events before l (end_at l) m r refl h
-among_more head events before l (Some x) m r e h = event_more head events before l x m r e h.0 h.1
+among_more : (v : Version) (head : Head) (events : List Event) (before : List (List ℕ)) (l : List ℕ) (o : Option NumberedEvent) (m : Stage) → AtEvents v head events before → event_at v l ≡ o → Leads (event_step v head events o (end_step head events (end_at l))) m → Reached v m (before ++ l ∷ [])
+among_more v head events before l None m r e h = end_more v head events before l (end_at l) m r refl h
+among_more v head events before l (Some x) m r e h = event_more v head events before l x m r e (said_goes v head events x m h)
 
 -- ---- a line of the summary more
 
-summary_line_more : (head : Head) (events : List Event) (x : List ℕ) (left before : List (List ℕ)) (l : List ℕ) (t : Bool) (m : Stage) → IsJournal head events → before ++ x ∷ left ≡ text_lines head events ++ lines_of (summary head events) → bytes_eq l x ≡ t →
-    Leads (cond t (goes (among_summary head events left)) (stops Trailing)) m → Reached m (before ++ l ∷ [])
-summary_line_more head events x left before l true m j r t h =
-    subst (λ (g : Stage). Reached g (before ++ l ∷ [])) h
+summary_line_more : (v : Version) (head : Head) (events : List Event) (x : List ℕ) (left before : List (List ℕ)) (l : List ℕ) (t : Bool) (m : Stage) → IsJournal v head events → before ++ x ∷ left ≡ text_lines v head events ++ lines_of (summary head events) → bytes_eq l x ≡ t →
+    Leads (cond t (goes (among_summary head events left)) (stops Trailing)) m → Reached v m (before ++ l ∷ [])
+summary_line_more v head events x left before l true m j r t h =
+    subst (λ (g : Stage). Reached v g (before ++ l ∷ [])) h
     (record {
       journal = j;
       lines_are = append_assoc before (l ∷ []) left ∙ ap (λ (y : List ℕ). before ++ y ∷ left) (same_word l x t) ∙ r;
     })
-summary_line_more head events x left before l false m j r t h = absurd h
+summary_line_more v head events x left before l false m j r t h = absurd h
 
-summary_more : (head : Head) (events : List Event) (left before : List (List ℕ)) (l : List ℕ) (m : Stage) → IsJournal head events → before ++ left ≡ text_lines head events ++ lines_of (summary head events) →
-    Leads (summary_step head events left l) m → Reached m (before ++ l ∷ [])
-summary_more head events [] before l m j r h = absurd h
-summary_more head events (x ∷ left) before l m j r h = summary_line_more head events x left before l (bytes_eq l x) m j r refl h
+summary_more : (v : Version) (head : Head) (events : List Event) (left before : List (List ℕ)) (l : List ℕ) (m : Stage) → IsJournal v head events → before ++ left ≡ text_lines v head events ++ lines_of (summary head events) →
+    Leads (summary_step head events left l) m → Reached v m (before ++ l ∷ [])
+summary_more v head events [] before l m j r h = absurd h
+summary_more v head events (x ∷ left) before l m j r h = summary_line_more v head events x left before l (bytes_eq l x) m j r refl h
 
-pub reached_more : (s : Stage) (before : List (List ℕ)) (l : List ℕ) (m : Stage) → Reached s before → Leads (step s l) m → Reached m (before ++ l ∷ [])
+pub reached_more : (v : Version) (s : Stage) (before : List (List ℕ)) (l : List ℕ) (m : Stage) → Reached v s before → Leads (step v s l) m → Reached v m (before ++ l ∷ [])
 unfolding step
-reached_more begins before l m r h = title_more before l (bytes_eq l title_line) m r refl h
-reached_more titled before l m r h = cpus_more before l (cpus_at l) m r refl h
-reached_more (counted possible) before l m r h = absent_more possible before l (absent_at possible l) m r refl h
-reached_more (headed head) before l m r h = headed_more head before l (head_line_at l) m r refl h
-reached_more (ruled head sub) before l m r h = ruled_more head sub before l (head_line_at l) m r refl h
-reached_more (among_events head events) before l m r h = among_more head events before l (event_at l) m r refl h
-reached_more (whole head events) before l m r h = summary_more head events (lines_of (summary head events)) before l m r.journal (ap (λ (b : List (List ℕ)). b ++ lines_of (summary head events)) r.lines_are) h
-reached_more (among_summary head events left) before l m r h = summary_more head events left before l m r.journal r.lines_are h
+reached_more v begins before l m r h = title_more v before l (bytes_eq l (title_line v)) m r refl h
+reached_more v titled before l m r h = cpus_more v before l (cpus_at v l) m r refl h
+reached_more v (counted possible) before l m r h = absent_more v possible before l (absent_at possible l) m r refl h
+reached_more v (headed head) before l m r h = headed_more v head before l (head_line_at l) m r refl h
+reached_more v (ruled head sub) before l m r h = ruled_more v head sub before l (head_line_at l) m r refl h
+reached_more v (among_events head events) before l m r h = among_more v head events before l (event_at v l) m r refl h
+reached_more v (whole head events) before l m r h = summary_more v head events (lines_of (summary head events)) before l m r.journal (ap (λ (b : List (List ℕ)). b ++ lines_of (summary head events)) r.lines_are) h
+reached_more v (among_summary head events left) before l m r h = summary_more v head events left before l m r.journal r.lines_are h

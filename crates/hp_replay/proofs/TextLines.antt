@@ -1,8 +1,9 @@
 -- The lines of a journal's text.
-use Rattle.std.proofs.Common.{◌≡◌, ℕ, ◌^◌, ◌<◌, ◌≤◌, true, not, ltb, List, [], ◌∷◌, ◌++◌, length, refl, sym, ap, subst, ◌∙◌, append_assoc, arith}
+use Rattle.std.proofs.Common.{◌≡◌, ℕ, ◌+◌, ◌^◌, ◌≤◌, true, not, ltb, List, [], ◌∷◌, ◌++◌, length, refl, sym, ap, subst, ◌∙◌, append_assoc, arith}
 use Rattle.std.specs.Prelude.{codes}
 use Rattle.std.specs.List.{flat_map, AllByRecursion, All}
 use Rattle.std.proofs.lemmas.Bool.{and_parts, not-true}
+use Rattle.std.proofs.lemmas.List.{append-nil, length-append}
 use Rattle.std.proofs.lemmas.List.Elements.{recursion_from_All}
 use Rattle.hp_states.specs.declared.plan.Rule.{Rule}
 use Rattle.hp_event.specs.declared.head.Sub.{Sub}
@@ -12,8 +13,15 @@ use Rattle.hp_model.specs.Lists.{among}
 use Rattle.hp_model.specs.Words.{line}
 use Rattle.hp_model.specs.Heads.{IsHead, IsSub, IsRule}
 use Rattle.hp_model.specs.EventLine.{event_words, event_line}
-use Rattle.hp_model.specs.JournalText.{rule_line, sub_lines, processor_lines, title_line, head_text, journal_text}
+use Rattle.hp_model.specs.JournalText.{rule_line, sub_lines, processor_lines, version_word, title_line, head_text, event_lines, journal_text}
 use Rattle.hp_model.proofs.Rising.{Rise}
+use Rattle.hp_event.specs.declared.version.Version.{Version}
+use Rattle.hp_event.specs.declared.version.Version.TheVariants.{One, Two}
+use Rattle.hp_model.specs.OperationNumber.{operation_number}
+use Rattle.hp_print.proofs.OperationNumbersLaws.{operations_few}
+use Rattle.hp_event.specs.Events.{seat_of}
+use Rattle.hp_states.specs.declared.limits.TheConstants.{MAX_EVENTS}
+use Rattle.hp_replay.specs.Versions.{most_cpus}
 use Rattle.hp_replay.specs.Fits.{EventFits}
 use Rattle.hp_replay.specs.InputLines.{lines_of}
 use Rattle.hp_replay.specs.HeadLines.{a_sub, a_rule}
@@ -55,17 +63,27 @@ rule_lines rules = flat_map (λ r. rule_line r ∷ []) rules
 abbrev pub lines_of_sub : Sub → List (List ℕ)
 lines_of_sub sub = line (head_words (a_sub sub)) ∷ rule_lines sub.plan
 
-abbrev pub front_lines : Head → List (List ℕ)
-front_lines head = title_line ∷ line (cpus_words head.possible) ∷ line (absent_words head.absent) ∷ flat_map lines_of_sub head.subs
+abbrev pub front_lines : Version → Head → List (List ℕ)
+front_lines v head = title_line v ∷ line (cpus_words head.possible) ∷ line (absent_words head.absent) ∷ flat_map lines_of_sub head.subs
 
 abbrev pub events_line : List ℕ
 events_line = line (codes "events" ∷ [])
 
-abbrev pub event_lines : List Event → List (List ℕ)
-event_lines events = flat_map (λ e. event_line e ∷ []) events
+-- the lines of events that follow others
+abbrev pub lines_after : Version → (before : List Event) → List Event → List (List ℕ)
+lines_after v before [] = []
+lines_after v before (e ∷ es) = event_line v (operation_number before e) e ∷ lines_after v (before ++ e ∷ []) es
 
-abbrev pub text_lines : Head → List Event → List (List ℕ)
-text_lines head events = front_lines head ++ events_line ∷ (event_lines events ++ line (end_words (length events)) ∷ [])
+pub lines_after_push : (v : Version) (before xs : List Event) (e : Event) →
+    lines_after v before (xs ++ e ∷ []) ≡ lines_after v before xs ++ event_line v (operation_number (before ++ xs) e) e ∷ []
+lines_after_push v before [] e = ap (λ (z : List Event). event_line v (operation_number z e) e ∷ []) (sym (append-nil before))
+lines_after_push v before (x ∷ xs) e =
+    ap (λ (z : List (List ℕ)). event_line v (operation_number before x) x ∷ z)
+    (lines_after_push v (before ++ x ∷ []) xs e
+    ∙ ap (λ (z : List Event). lines_after v (before ++ x ∷ []) xs ++ event_line v (operation_number z e) e ∷ []) (append_assoc before (x ∷ []) xs))
+
+abbrev pub text_lines : Version → Head → List Event → List (List ℕ)
+text_lines v head events = front_lines v head ++ events_line ∷ (lines_after v [] events ++ line (end_words (length events)) ∷ [])
 
 sub_has : (sub : Sub) → IsSub sub → IsLines (sub_lines sub) (lines_of_sub sub)
 sub_has sub h =
@@ -74,8 +92,8 @@ sub_has sub h =
     (lines-each rule_line (λ r. rule_line r ∷ []) sub.plan
     (each IsRule (λ r. IsLines (rule_line r) (rule_line r ∷ [])) (λ r i. one_line (head_words (a_rule r)) (rule_free r i)) sub.plan (recursion_from_All IsRule sub.plan h.rules_are)))
 
-pub head_count : (head : Head) → IsHead head → IsCount head.possible
-head_count head h = (omega (arith, h.some_possible), omega (arith, h.few_possible))
+pub head_count : (v : Version) (head : Head) → IsHead head → head.possible ≤ most_cpus v → IsCount v head.possible
+head_count v head h c = (omega (arith, h.some_possible), omega (arith, c))
 
 pub head_rise : (head : Head) → IsHead head → Rise 1 head.possible head.absent
 head_rise head h =
@@ -85,15 +103,19 @@ head_rise head h =
 pub head_small : (head : Head) → IsHead head → head.possible ≤ 2 ^ 32
 head_small head h = omega (arith, h.few_possible)
 
-title_has : IsLines title_line (title_line ∷ [])
-unfolding title_line
-title_has = one_line (codes "cpuhp" ∷ codes "journal" ∷ codes "1" ∷ []) refl
+title_free : (v : Version) → all_free (codes "cpuhp" ∷ codes "journal" ∷ version_word v ∷ []) ≡ true
+title_free One = refl
+title_free Two = refl
 
-processors_have : (head : Head) → IsHead head → IsLines (processor_lines head) (line (cpus_words head.possible) ∷ line (absent_words head.absent) ∷ [])
+title_has : (v : Version) → IsLines (title_line v) (title_line v ∷ [])
+unfolding title_line
+title_has v = one_line (codes "cpuhp" ∷ codes "journal" ∷ version_word v ∷ []) (title_free v)
+
+processors_have : (v : Version) (head : Head) → IsHead head → head.possible ≤ most_cpus v → IsLines (processor_lines head) (line (cpus_words head.possible) ∷ line (absent_words head.absent) ∷ [])
 unfolding processor_lines
-processors_have head h =
+processors_have v head h c =
     lines-append (line (cpus_words head.possible)) (line (absent_words head.absent)) _ _
-    (one_line (cpus_words head.possible) (cpus_free head.possible (head_count head h)))
+    (one_line (cpus_words head.possible) (cpus_free v head.possible (head_count v head h c)))
     (one_line (absent_words head.absent) (absent_free head.possible head.absent (head_small head h) (head_rise head h)))
 
 subs_have : (head : Head) → IsHead head → IsLines (flat_map sub_lines head.subs) (flat_map lines_of_sub head.subs)
@@ -101,34 +123,40 @@ subs_have head h =
     lines-each sub_lines lines_of_sub head.subs
     (each IsSub (λ s. IsLines (sub_lines s) (lines_of_sub s)) sub_has head.subs (recursion_from_All IsSub head.subs h.subs_are))
 
-head_has : (head : Head) → IsHead head → IsLines (head_text head) (front_lines head ++ events_line ∷ [])
+head_has : (v : Version) (head : Head) → IsHead head → head.possible ≤ most_cpus v → IsLines (head_text v head) (front_lines v head ++ events_line ∷ [])
 unfolding head_text
-head_has head h =
-    lines-append (title_line ++ processor_lines head ++ flat_map sub_lines head.subs) events_line (front_lines head) (events_line ∷ [])
-    (lines-append (title_line ++ processor_lines head) (flat_map sub_lines head.subs) (title_line ∷ line (cpus_words head.possible) ∷ line (absent_words head.absent) ∷ []) (flat_map lines_of_sub head.subs)
-    (lines-append title_line (processor_lines head) (title_line ∷ []) _ title_has (processors_have head h)) (subs_have head h))
+head_has v head h c =
+    lines-append (title_line v ++ processor_lines head ++ flat_map sub_lines head.subs) events_line (front_lines v head) (events_line ∷ [])
+    (lines-append (title_line v ++ processor_lines head) (flat_map sub_lines head.subs) (title_line v ∷ line (cpus_words head.possible) ∷ line (absent_words head.absent) ∷ []) (flat_map lines_of_sub head.subs)
+    (lines-append (title_line v) (processor_lines head) (title_line v ∷ []) _ (title_has v) (processors_have v head h c)) (subs_have head h))
     (one_line (codes "events" ∷ []) refl)
 
-events_have : (events : List Event) → All EventFits events → IsLines (flat_map event_line events) (event_lines events)
-events_have events h =
-    lines-each event_line (λ e. event_line e ∷ []) events
-    (each EventFits (λ e. IsLines (event_line e) (event_line e ∷ [])) (λ e f. one_line (event_words e) (event_free e f)) events (recursion_from_All EventFits events h))
+events_have : (v : Version) (before es : List Event) → AllByRecursion EventFits es → length before + length es ≤ MAX_EVENTS →
+    IsLines (event_lines v before es) (lines_after v before es)
+events_have v before [] f few = no_lines
+events_have v before (e ∷ es) f few =
+    let n = operation_number before e in
+    let small = operations_few (seat_of e) (before ++ e ∷ []) in
+    let count = length-append before (e ∷ []) in
+    lines-append (event_line v n e) (event_lines v (before ++ e ∷ []) es) (event_line v n e ∷ []) (lines_after v (before ++ e ∷ []) es)
+    (one_line (event_words v n e) (event_free v n e (omega (arith, few)) f.0))
+    (events_have v (before ++ e ∷ []) es f.1 (omega (arith, few)))
 
-regroup : (head : Head) (events : List Event) →
-    ((front_lines head ++ events_line ∷ []) ++ event_lines events) ++ line (end_words (length events)) ∷ [] ≡ text_lines head events
-regroup head events =
-    append_assoc (front_lines head ++ events_line ∷ []) (event_lines events) (line (end_words (length events)) ∷ [])
-    ∙ append_assoc (front_lines head) (events_line ∷ []) (event_lines events ++ line (end_words (length events)) ∷ [])
+regroup : (v : Version) (head : Head) (events : List Event) →
+    ((front_lines v head ++ events_line ∷ []) ++ lines_after v [] events) ++ line (end_words (length events)) ∷ [] ≡ text_lines v head events
+regroup v head events =
+    append_assoc (front_lines v head ++ events_line ∷ []) (lines_after v [] events) (line (end_words (length events)) ∷ [])
+    ∙ append_assoc (front_lines v head) (events_line ∷ []) (lines_after v [] events ++ line (end_words (length events)) ∷ [])
 
-text_has : (head : Head) (events : List Event) → IsHead head → All EventFits events → length events < 2 ^ 64 → IsLines (journal_text head events) (text_lines head events)
+text_has : (v : Version) (head : Head) (events : List Event) → IsHead head → head.possible ≤ most_cpus v → All EventFits events → length events ≤ MAX_EVENTS → IsLines (journal_text v head events) (text_lines v head events)
 unfolding journal_text
-text_has head events h f lt =
-    subst (IsLines (head_text head ++ flat_map event_line events ++ line (end_words (length events)))) (regroup head events)
-    (lines-append (head_text head ++ flat_map event_line events) (line (end_words (length events))) ((front_lines head ++ events_line ∷ []) ++ event_lines events) (line (end_words (length events)) ∷ [])
-    (lines-append (head_text head) (flat_map event_line events) (front_lines head ++ events_line ∷ []) (event_lines events) (head_has head h) (events_have events f))
-    (one_line (end_words (length events)) (end_free (length events) lt)))
+text_has v head events h c f few =
+    subst (IsLines (head_text v head ++ event_lines v [] events ++ line (end_words (length events)))) (regroup v head events)
+    (lines-append (head_text v head ++ event_lines v [] events) (line (end_words (length events))) ((front_lines v head ++ events_line ∷ []) ++ lines_after v [] events) (line (end_words (length events)) ∷ [])
+    (lines-append (head_text v head) (event_lines v [] events) (front_lines v head ++ events_line ∷ []) (lines_after v [] events) (head_has v head h c) (events_have v [] events (recursion_from_All EventFits events f) (omega (arith, few))))
+    (one_line (end_words (length events)) (end_free (length events) (omega (arith, few)))))
 
 -- the lines of a text, and of what follows it
-pub text_lines_are : (head : Head) (events : List Event) (rest : List ℕ) → IsHead head → All EventFits events → length events < 2 ^ 64 →
-    lines_of (journal_text head events ++ rest) ≡ text_lines head events ++ lines_of rest
-text_lines_are head events rest h f lt = (text_has head events h f lt).before rest
+pub text_lines_are : (v : Version) (head : Head) (events : List Event) (rest : List ℕ) → IsHead head → head.possible ≤ most_cpus v → All EventFits events → length events ≤ MAX_EVENTS →
+    lines_of (journal_text v head events ++ rest) ≡ text_lines v head events ++ lines_of rest
+text_lines_are v head events rest h c f few = (text_has v head events h c f few).before rest

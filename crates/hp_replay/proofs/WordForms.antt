@@ -1,6 +1,6 @@
 -- The words that are left, in the forms that code has them: the first word ends at the first space, and without a space
 -- there is one word.
-use Rattle.std.proofs.Common.{◌≡◌, ◌≢◌, ℕ, zero, suc, ◌+◌, ◌-◌, ◌<◌, length, get_or, take, drop, arith, Bool, true, false, cond, eqb, Option, List, [], ◌∷◌, Some, None, refl, sym, ap, ◌∙◌, length-drop}
+use Rattle.std.proofs.Common.{◌≡◌, ◌≢◌, ℕ, zero, suc, ◌+◌, ◌-◌, ◌<◌, length, get_or, take, drop, arith, Bool, true, false, cond, eqb, List, [], ◌∷◌, None, refl, sym, ap, ◌∙◌, length-drop}
 use Rattle.std.specs.List.{onto_first, slice_split}
 use Rattle.hp_model.specs.Lists.{is_empty}
 use Rattle.std.proofs.lemmas.Bool.{eq-eqb, ne_eqb}

@@ -1,4 +1,4 @@
--- The event that a line says, by the table of the event lines. This project's own.
+-- The event that a line says in a version, by the table of the event lines. This project's own.
 use Rattle.std.specs.Prelude.{ℕ, map, List, [], ◌∷◌, Option, Some, None, codes, pos}
 use Rattle.std.specs.Option.{option_and_then}
 use Rattle.hp_event.specs.declared.how.How.{How}
@@ -11,6 +11,9 @@ use Rattle.hp_event.specs.declared.event.File.TheVariants.{State, Target, Fail, 
 use Rattle.hp_event.specs.declared.event.Event.{Event}
 use Rattle.hp_event.specs.declared.event.Event.TheVariants.{Admit, Leave, Enter, Refused, WalkBegin, Call, WalkEnd, OpEnd, RegBegin, RegEnd, ReadLock, ReadUnlock, Armed, Shown, Wakeup}
 use Rattle.hp_text.specs.Choices.{dir_of}
+use Rattle.hp_event.specs.declared.version.Version.{Version}
+use Rattle.hp_event.specs.declared.version.Version.TheVariants.{One, Two}
+use Rattle.hp_replay.specs.declared.event.NumberedEvent.{NumberedEvent}
 use Rattle.hp_replay.specs.declared.first_word.EventWord.{EventWord}
 use Rattle.hp_replay.specs.declared.first_word.EventWord.TheVariants as word
 use Rattle.hp_replay.specs.FirstWords.{text_of_event, event_words}
@@ -67,124 +70,137 @@ walk_answer_rows =
 unfoldable pub walk_answer : Tail Answer
 walk_answer words = one_of walk_answer_rows words
 
-abbrev pub admit_tail : Tail Event
+-- an event whose line names no operation
+abbrev pub alone : Event → NumberedEvent
+alone event = record { event = event; number = None }
+
+-- an event of an operation, with its number where the line names it
+abbrev pub of_operation : Option ℕ → Event → NumberedEvent
+of_operation number event = record { event = event; number = number }
+
+abbrev pub admit_tail : Tail NumberedEvent
 admit_tail = do
   seat ← number
-  mapped (λ r. Admit seat r) role
-
-abbrev pub enter_tail : Tail Event
-enter_tail = do
-  seat ← number
-  mapped (λ o. Enter seat o) op
-
-abbrev pub refused_tail : Tail Event
-refused_tail = do
-  seat ← number
-  errno ← number
-  mapped (λ o. Refused seat errno o) op
+  mapped (λ r. alone (Admit seat r)) role
 
 -- from where a walk goes, and to where
-abbrev pub way_tail : (seat cpu : ℕ) → Tail Event
+abbrev pub way_tail : (seat cpu : ℕ) → Tail NumberedEvent
 way_tail seat cpu = do
   from ← number
   to ← number
-  done (WalkBegin seat cpu from to)
+  done (alone (WalkBegin seat cpu from to))
 
-abbrev pub walk_tail : Tail Event
+abbrev pub walk_tail : Tail NumberedEvent
 walk_tail = do
   seat ← number
   cpu ← number
   way_tail seat cpu
 
 -- in which direction an entry goes, and how it was made
-abbrev pub made_tail : (seat cpu state inst : ℕ) → Tail Event
+abbrev pub made_tail : (seat cpu state inst : ℕ) → Tail NumberedEvent
 made_tail seat cpu state inst = do
   dir ← dir_of
-  mapped (λ h. Call seat cpu state inst dir h) how
+  mapped (λ h. alone (Call seat cpu state inst dir h)) how
 
 -- the key of an entry, and how it was made
-abbrev pub entry_tail : (seat cpu : ℕ) → Tail Event
+abbrev pub entry_tail : (seat cpu : ℕ) → Tail NumberedEvent
 entry_tail seat cpu = do
   state ← number
   inst ← number
   made_tail seat cpu state inst
 
-abbrev pub call_tail : Tail Event
+abbrev pub call_tail : Tail NumberedEvent
 call_tail = do
   seat ← number
   cpu ← number
   entry_tail seat cpu
 
-abbrev pub walked_tail : Tail Event
+abbrev pub walked_tail : Tail NumberedEvent
 walked_tail = do
   seat ← number
   cpu ← number
-  mapped (λ a. WalkEnd seat cpu a) walk_answer
+  mapped (λ a. alone (WalkEnd seat cpu a)) walk_answer
 
-abbrev pub done_tail : Tail Event
-done_tail = do
-  seat ← number
-  mapped (λ a. OpEnd seat a) answer
+-- ---- behind the seat of an operation, and its number where the line names it
 
-abbrev pub reg_tail : Tail Event
-reg_tail = do
-  seat ← number
+abbrev pub enter_tail : (seat : ℕ) → Option ℕ → Tail NumberedEvent
+enter_tail seat n words = mapped (λ o. of_operation n (Enter seat o)) op words
+
+abbrev pub refused_tail : (seat : ℕ) → Option ℕ → Tail NumberedEvent
+refused_tail seat n = do
+  errno ← number
+  mapped (λ o. of_operation n (Refused seat errno o)) op
+
+abbrev pub done_tail : (seat : ℕ) → Option ℕ → Tail NumberedEvent
+done_tail seat n words = mapped (λ a. of_operation n (OpEnd seat a)) answer words
+
+abbrev pub reg_tail : (seat : ℕ) → Option ℕ → Tail NumberedEvent
+reg_tail seat n = do
   state ← number
-  mapped (λ o. RegBegin seat state o) op
+  mapped (λ o. of_operation n (RegBegin seat state o)) op
 
-abbrev pub regged_tail : Tail Event
-regged_tail = do
-  seat ← number
-  mapped (λ a. RegEnd seat a) answer
+abbrev pub regged_tail : (seat : ℕ) → Option ℕ → Tail NumberedEvent
+regged_tail seat n words = mapped (λ a. of_operation n (RegEnd seat a)) answer words
 
-abbrev pub armed_tail : Tail Event
-armed_tail = do
-  seat ← number
-  valued (λ cpu value. Armed seat cpu value)
+abbrev pub armed_tail : (seat : ℕ) → Option ℕ → Tail NumberedEvent
+armed_tail seat n words = valued (λ cpu value. of_operation n (Armed seat cpu value)) words
 
-abbrev pub shown_states_tail : ℕ → Tail Event
-shown_states_tail seat = do
+abbrev pub shown_states_tail : (seat : ℕ) → Option ℕ → Tail NumberedEvent
+shown_states_tail seat n = do
   value ← integer
-  done (Shown seat States 0 value)
+  done (of_operation n (Shown seat States 0 value))
 
-abbrev pub shown_rows : ℕ → List (Row Event)
-shown_rows seat =
-    row (codes "state") (valued (λ cpu value. Shown seat State cpu value))
-    ∷ row (codes "target") (valued (λ cpu value. Shown seat Target cpu value))
-    ∷ row (codes "fail") (valued (λ cpu value. Shown seat Fail cpu value)) ∷ row (codes "states") (shown_states_tail seat) ∷ []
+abbrev pub shown_rows : (seat : ℕ) → Option ℕ → List (Row NumberedEvent)
+shown_rows seat n =
+    row (codes "state") (valued (λ cpu value. of_operation n (Shown seat State cpu value)))
+    ∷ row (codes "target") (valued (λ cpu value. of_operation n (Shown seat Target cpu value)))
+    ∷ row (codes "fail") (valued (λ cpu value. of_operation n (Shown seat Fail cpu value)))
+    ∷ row (codes "states") (shown_states_tail seat n) ∷ []
 
-abbrev pub file_tail : (seat : ℕ) → Tail Event
-file_tail seat words = one_of (shown_rows seat) words
+abbrev pub shown_tail : (seat : ℕ) → Option ℕ → Tail NumberedEvent
+shown_tail seat n words = one_of (shown_rows seat n) words
 
-abbrev pub shown_tail : Tail Event
-shown_tail = do
+-- by the first word of the line; of another than an operation's there is none
+abbrev pub operation_tail : EventWord → (seat : ℕ) → Option ℕ → Tail NumberedEvent
+operation_tail word.Enter seat n words = enter_tail seat n words
+operation_tail word.Refused seat n words = refused_tail seat n words
+operation_tail word.Done seat n words = done_tail seat n words
+operation_tail word.Reg seat n words = reg_tail seat n words
+operation_tail word.Regged seat n words = regged_tail seat n words
+operation_tail word.Lock seat n words = done (of_operation n (ReadLock seat)) words
+operation_tail word.Unlock seat n words = done (of_operation n (ReadUnlock seat)) words
+operation_tail word.Armed seat n words = armed_tail seat n words
+operation_tail word.Shown seat n words = shown_tail seat n words
+operation_tail word.Wakeup seat n words = done (of_operation n (Wakeup seat)) words
+operation_tail w seat n words = None
+
+-- the number of an operation, in version 2, and what stands behind it
+abbrev pub behind_number : Version → (Option ℕ → Tail NumberedEvent) → Tail NumberedEvent
+behind_number One tail words = tail None words
+behind_number Two tail words = (number >>= (λ n. tail (Some n))) words
+
+abbrev pub of_operation_tail : Version → EventWord → Tail NumberedEvent
+of_operation_tail v w = do
   seat ← number
-  file_tail seat
+  behind_number v (operation_tail w seat)
+
+-- ---- any event
 
 -- what stands behind the first word
-abbrev pub event_tail : EventWord → Tail Event
-event_tail word.Admit = admit_tail
-event_tail word.Leave = numbered (λ seat. Leave seat)
-event_tail word.Enter = enter_tail
-event_tail word.Refused = refused_tail
-event_tail word.Walk = walk_tail
-event_tail word.Call = call_tail
-event_tail word.Walked = walked_tail
-event_tail word.Done = done_tail
-event_tail word.Reg = reg_tail
-event_tail word.Regged = regged_tail
-event_tail word.Lock = numbered (λ seat. ReadLock seat)
-event_tail word.Unlock = numbered (λ seat. ReadUnlock seat)
-event_tail word.Armed = armed_tail
-event_tail word.Shown = shown_tail
-event_tail word.Wakeup = numbered (λ seat. Wakeup seat)
+abbrev pub event_tail : Version → EventWord → Tail NumberedEvent
+event_tail v word.Admit = admit_tail
+event_tail v word.Leave = numbered (λ seat. alone (Leave seat))
+event_tail v word.Walk = walk_tail
+event_tail v word.Call = call_tail
+event_tail v word.Walked = walked_tail
+event_tail v w = of_operation_tail v w
 
-abbrev pub event_rows : List (Row Event)
-event_rows = map (λ v. row (text_of_event v) (event_tail v)) event_words
+abbrev pub event_rows : Version → List (Row NumberedEvent)
+event_rows v = map (λ w. row (text_of_event w) (event_tail v w)) event_words
 
-unfoldable pub event : Tail Event
-event words = one_of event_rows words
+unfoldable pub event : Version → Tail NumberedEvent
+event v words = one_of (event_rows v) words
 
 -- a line is its words and a newline
-unfoldable pub event_at : (line : List ℕ) → Option Event
-event_at line = option_and_then event (words_at line)
+unfoldable pub event_at : Version → (line : List ℕ) → Option NumberedEvent
+event_at v line = option_and_then (event v) (words_at line)

@@ -1,8 +1,8 @@
--- What the lines before the events say: how many processors are possible, which of them are absent, a subsystem, a
+-- What the lines before the events say: how many processors are possible, of those that a version has, which of them are absent, a subsystem, a
 -- rule of it, or that the events follow. This project's own.
 use Rattle.std.specs.Prelude.{ℕ, ◌+◌, if◌then◌else◌, List, [], ◌∷◌, Option, Some, None, codes}
 use Rattle.std.specs.Option.{option_and_then}
-use Rattle.hp_states.specs.declared.limits.TheConstants.{MAX_CPUS}
+use Rattle.hp_event.specs.declared.version.Version.{Version}
 pub use Rattle.hp_replay.specs.declared.head_lines.HeadLine.{HeadLine}
 pub use Rattle.hp_replay.specs.declared.head_lines.HeadLine.TheVariants.{Sub as a_sub, Rule as a_rule, Events as the_events}
 use Rattle.hp_text.specs.Numbers.{number_from}
@@ -13,15 +13,16 @@ use Rattle.hp_text.specs.Subs.{sub, rule}
 use Rattle.hp_replay.specs.LineWords.{words_at}
 use Rattle.hp_replay.specs.Readers.{Tail, Row, done, mapped, row, one_of}
 use Rattle.hp_replay.specs.Tails.{read}
+use Rattle.hp_replay.specs.Versions.{most_cpus}
 
-abbrev pub cpus_tail : Tail ℕ
-cpus_tail words = read (alone (number_from 1 (MAX_CPUS + 1))) words
+abbrev pub cpus_tail : Version → Tail ℕ
+cpus_tail v words = read (alone (number_from 1 (most_cpus v + 1))) words
 
-abbrev pub cpus_rows : List (Row ℕ)
-cpus_rows = row (codes "cpus") cpus_tail ∷ []
+abbrev pub cpus_rows : Version → List (Row ℕ)
+cpus_rows v = row (codes "cpus") (cpus_tail v) ∷ []
 
-unfoldable pub cpus_at : (line : List ℕ) → Option ℕ
-cpus_at line = option_and_then (one_of cpus_rows) (words_at line)
+unfoldable pub cpus_at : Version → (line : List ℕ) → Option ℕ
+cpus_at v line = option_and_then (one_of (cpus_rows v)) (words_at line)
 
 -- numbers that rise from 1 to the last possible processor's
 abbrev pub if_rising : (possible : ℕ) → List ℕ → Option (List ℕ)

@@ -1,9 +1,10 @@
--- The answer of a journal's reader as a function, by a test of whether an event stands. This project's own.
+-- The answer of the reader of a journal in a version as a function, by a test of whether an event stands. This project's own.
 use Rattle.std.specs.Prelude.{ℕ, ◌+◌, Bool, if◌then◌else◌, List, [], ◌∷◌, ◌++◌}
 use Rattle.std.specs.Bool.{Decides}
 use Rattle.hp_event.specs.declared.head.Head.{Head}
 use Rattle.hp_event.specs.declared.event.Event.{Event}
 use Rattle.hp_model.specs.Lawful.{IsLawful, Stands}
+use Rattle.hp_event.specs.declared.version.Version.{Version}
 use Rattle.hp_replay.specs.declared.error.ReplayKind.TheVariants.{Unlawful}
 use Rattle.hp_replay.specs.Stages.{Stage, among_events, Step, goes, asks, stops, step}
 use Rattle.hp_replay.specs.Judged.{Outcome, refused, at_end}
@@ -21,6 +22,6 @@ after_step can (stops kind) n more = refused n kind
 after_step can (asks head events e) n more =
     if can head events e then more (among_events head (events ++ e ∷ [])) else refused n Unlawful
 
-abbrev pub judge : Test → Stage → (line : ℕ) → List (List ℕ) → Outcome
-judge can stage n [] = at_end stage n
-judge can stage n (l ∷ ls) = after_step can (step stage l) n (λ next. judge can next (n + 1) ls)
+abbrev pub judge : Version → Test → Stage → (line : ℕ) → List (List ℕ) → Outcome
+judge v can stage n [] = at_end stage n
+judge v can stage n (l ∷ ls) = after_step can (step v stage l) n (λ next. judge v can next (n + 1) ls)

@@ -3,7 +3,9 @@ use Rattle.std.specs.Prelude.{ℕ, List, [], ◌∷◌, ◌++◌}
 use Rattle.hp_event.specs.declared.event.Event.{Event}
 use Rattle.hp_law.specs.Law.{Taken}
 use Rattle.hp_replay.specs.EndAt.{end_at}
-use Rattle.hp_replay.specs.Stages.{Stage, among_events, whole, Step, asks, end_step}
+use Rattle.hp_event.specs.declared.version.Version.{Version}
+use Rattle.hp_replay.specs.declared.event.NumberedEvent.{NumberedEvent}
+use Rattle.hp_replay.specs.Stages.{Stage, among_events, whole, Step, said_step, end_step}
 
 -- an event more
 abbrev pub with_event : Taken → Event → Taken
@@ -18,8 +20,8 @@ abbrev pub whole_of : Taken → Stage
 whole_of taken = whole taken.head taken.events
 
 -- what the line of an event does
-abbrev pub event_asked : Taken → Event → Step
-event_asked taken e = asks taken.head taken.events e
+abbrev pub event_told : Version → Taken → NumberedEvent → Step
+event_told v taken said = said_step v taken.head taken.events said
 
 -- what another line does, which may be the `end` line
 abbrev pub end_told : Taken → (line : List ℕ) → Step

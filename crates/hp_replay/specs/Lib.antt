@@ -3,6 +3,7 @@ pub mod LineWords
 pub mod Readers
 pub mod Tails
 pub mod Fits
+pub mod Versions
 pub mod Spelled
 pub mod EventAt
 pub mod HeadLines

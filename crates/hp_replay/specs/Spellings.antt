@@ -6,14 +6,17 @@ use Rattle.hp_states.specs.declared.plan.Rule.{Rule}
 use Rattle.hp_event.specs.declared.event.Event.{Event}
 use Rattle.hp_event.specs.declared.head.Head.{Head}
 use Rattle.hp_event.specs.declared.head.Sub.{Sub}
+use Rattle.hp_event.specs.declared.version.Version.{Version}
 use Rattle.hp_model.specs.EventLine.{event_line}
+use Rattle.hp_replay.specs.declared.event.NumberedEvent.{NumberedEvent}
 use Rattle.hp_model.specs.Heads.{IsName, IsRule}
 use Rattle.hp_model.specs.JournalText.{rule_line}
 use Rattle.hp_model.specs.Lists.{among}
 use Rattle.hp_model.specs.Words.{line, list_words, name_word, calls_word, kind_word}
-use Rattle.hp_replay.specs.Fits.{EventFits}
+use Rattle.hp_replay.specs.Fits.{IsU32, EventFits}
 use Rattle.hp_replay.specs.Spelled.{IsSpelled}
 use Rattle.hp_replay.specs.HeadLines.{HeadLine, absent_at, head_line_at}
+use Rattle.hp_replay.specs.Versions.{most_cpus, named_number}
 
 -- ---- events
 
@@ -21,18 +24,28 @@ use Rattle.hp_replay.specs.HeadLines.{HeadLine, absent_at, head_line_at}
 abbrev pub IfSaid : Event → Type 0 → Type 0
 IfSaid event Holds = EventFits event → IsSpelled event → Holds
 
--- the bytes are the line of an event that the text can say
-abbrev pub IsEventLine : (bytes : List ℕ) → Event → Type 0
-IsEventLine bytes event = (bytes ≡ event_line event) × EventFits event × IsSpelled event
+-- the bytes are the line of an event that the text can say, with some number of its operation
+pub record IsEventLine (v : Version) (bytes : List ℕ) (said : NumberedEvent) : Type 0 where
+  pub number : ℕ
+  pub number_fits : IsU32 number
+  pub named : said.number ≡ named_number v number said.event
+  pub bytes_are : bytes ≡ event_line v number said.event
+  pub fits : EventFits said.event
+  pub spelled : IsSpelled said.event
 
-abbrev pub HaveSameLine : (one other : Event) → Type 0
-HaveSameLine one other = event_line one ≡ event_line other
+-- with some numbers of their operations
+pub record HaveSameLine (v : Version) (one other : Event) : Type 0 where
+  pub first : ℕ
+  pub second : ℕ
+  pub first_fits : IsU32 first
+  pub second_fits : IsU32 second
+  pub same : event_line v first one ≡ event_line v second other
 
 -- ---- the lines round the events
 
--- so many processors, as many as may be
-abbrev pub IsCpusLine : (bytes : List ℕ) → (possible : ℕ) → Type 0
-IsCpusLine bytes n = (1 ≤ n) × (n ≤ MAX_CPUS) × (bytes ≡ line (codes "cpus" ∷ decimal n ∷ []))
+-- so many processors, as many as the version may have
+abbrev pub IsCpusLine : Version → (bytes : List ℕ) → (possible : ℕ) → Type 0
+IsCpusLine v bytes n = (1 ≤ n) × (n ≤ most_cpus v) × (bytes ≡ line (codes "cpus" ∷ decimal n ∷ []))
 
 abbrev pub absent_text : (absent : List ℕ) → List ℕ
 absent_text absent = line (codes "absent" ∷ list_words (map decimal absent))

@@ -7,12 +7,15 @@ use Rattle.hp_states.specs.declared.plan.Rule.{Rule}
 use Rattle.hp_event.specs.declared.head.Sub.{Sub}
 use Rattle.hp_event.specs.declared.head.Head.{Head}
 use Rattle.hp_event.specs.declared.event.Event.{Event}
+use Rattle.hp_event.specs.declared.version.Version.{Version}
 use Rattle.hp_model.specs.JournalText.{title_line}
 use Rattle.hp_model.specs.Summary.{summary}
 use Rattle.hp_replay.specs.declared.error.ReplayKind.{ReplayKind}
 use Rattle.hp_replay.specs.declared.error.ReplayKind.TheVariants as bad
 use Rattle.hp_replay.specs.InputLines.{lines_of}
 use Rattle.hp_replay.specs.HeadLines.{HeadLine, a_sub, a_rule, the_events, cpus_at, absent_at, head_line_at}
+use Rattle.hp_replay.specs.declared.event.NumberedEvent.{NumberedEvent}
+use Rattle.hp_replay.specs.Versions.{is_numbered}
 use Rattle.hp_replay.specs.EventAt.{event_at}
 use Rattle.hp_replay.specs.EndAt.{end_at}
 
@@ -73,20 +76,23 @@ abbrev pub end_step : Head → List Event → Option ℕ → Step
 end_step head events None = stops bad.Syntax
 end_step head events (Some count) = if count == length events then goes (whole head events) else stops bad.Count
 
-abbrev pub event_step : Head → List Event → Option Event → Step → Step
-event_step head events None other = other
-event_step head events (Some e) other = asks head events e
+abbrev pub said_step : Version → Head → List Event → NumberedEvent → Step
+said_step v head events said = if is_numbered v events said then asks head events said.event else stops bad.Unlawful
+
+abbrev pub event_step : Version → Head → List Event → Option NumberedEvent → Step → Step
+event_step v head events None other = other
+event_step v head events (Some said) other = said_step v head events said
 
 abbrev pub summary_step : Head → List Event → (left : List (List ℕ)) → (line : List ℕ) → Step
 summary_step head events [] l = stops bad.Trailing
 summary_step head events (m ∷ ms) l = if bytes_eq l m then goes (among_summary head events ms) else stops bad.Trailing
 
-unfoldable pub step : Stage → (line : List ℕ) → Step
-step begins l = if bytes_eq l title_line then goes titled else stops bad.Header
-step titled l = cpus_step (cpus_at l)
-step (counted possible) l = absent_step possible (absent_at possible l)
-step (headed head) l = headed_step head (head_line_at l)
-step (ruled head sub) l = ruled_step head sub (head_line_at l)
-step (among_events head events) l = event_step head events (event_at l) (end_step head events (end_at l))
-step (whole head events) l = summary_step head events (lines_of (summary head events)) l
-step (among_summary head events left) l = summary_step head events left l
+unfoldable pub step : Version → Stage → (line : List ℕ) → Step
+step v begins l = if bytes_eq l (title_line v) then goes titled else stops bad.Header
+step v titled l = cpus_step (cpus_at v l)
+step v (counted possible) l = absent_step possible (absent_at possible l)
+step v (headed head) l = headed_step head (head_line_at l)
+step v (ruled head sub) l = ruled_step head sub (head_line_at l)
+step v (among_events head events) l = event_step v head events (event_at v l) (end_step head events (end_at l))
+step v (whole head events) l = summary_step head events (lines_of (summary head events)) l
+step v (among_summary head events left) l = summary_step head events left l

@@ -1,4 +1,4 @@
--- A journal that the code holds, and the text of it. This project's own.
+-- A journal that the code holds, and the texts of it. This project's own.
 use Rattle.std.specs.Prelude.{◌≤◌, ℕ, List, [], length}
 use Rattle.hp_states.specs.declared.limits.TheConstants.{MAX_JOURNAL_BYTES}
 use Rattle.hp_event.specs.declared.event.Event.{Event}
@@ -6,6 +6,8 @@ use Rattle.hp_event.specs.declared.head.Head.{Head}
 use Rattle.hp_event.specs.Story.{Story}
 use Rattle.hp_model.specs.Lawful.{IsLawful}
 use Rattle.hp_model.specs.Summary.{summary}
+use Rattle.hp_event.specs.declared.version.Version.{Version}
+use Rattle.hp_event.specs.declared.version.Version.TheVariants.{Two}
 use Rattle.hp_replay.specs.declared.error.ReplayError.{ReplayError}
 use Rattle.hp_replay.specs.InputLines.{lines_of}
 use Rattle.hp_replay.specs.Judged.{accepted, Judged}
@@ -21,13 +23,13 @@ IsLawfulStory story = IsLawful story.head story.events
 abbrev pub IsShort : (bytes : List ℕ) → Type 0
 IsShort bytes = length bytes ≤ MAX_JOURNAL_BYTES
 
--- the bytes are its text, or its text and its summary
+-- the bytes are its text in version 2, or that text and its summary
 abbrev pub IsItsText : (bytes : List ℕ) → Story → Type 0
-IsItsText bytes story = IsTextOrBoth bytes story.head story.events
+IsItsText bytes story = IsTextOrBoth Two bytes story.head story.events
 
--- the reader answers it to these bytes
-abbrev pub IsAccepted : (bytes : List ℕ) → Story → Type 0
-IsAccepted bytes story = IsReplay bytes (accepted story.head story.events)
+-- the reader of a version answers it to these bytes
+abbrev pub IsAccepted : Version → (bytes : List ℕ) → Story → Type 0
+IsAccepted v bytes story = IsReplay v bytes (accepted story.head story.events)
 
 abbrev pub summary_of : Story → List ℕ
 summary_of story = summary story.head story.events
@@ -39,20 +41,20 @@ abbrev pub text_stage : Story → Stage
 text_stage story = whole story.head story.events
 
 -- from the line `events` on, over the lines of its events and the `end` line
-abbrev pub ReadsEvents : (before : LinesLeft) → Head → (after : LinesLeft) → Story → Type 0
-ReadsEvents before head after story = GoesOver before (among_events head []) after (text_stage story)
+abbrev pub ReadsEvents : Version → (before : LinesLeft) → Head → (after : LinesLeft) → Story → Type 0
+ReadsEvents v before head after story = GoesOver v before (among_events head []) after (text_stage story)
 
 -- the lines that are left are none, or its summary
-abbrev pub AcceptsRest : LinesLeft → Story → Type 0
-AcceptsRest left story = Judged (text_stage story) left.number left.lines (accepted story.head story.events)
+abbrev pub AcceptsRest : Version → LinesLeft → Story → Type 0
+AcceptsRest v left story = Judged v (text_stage story) left.number left.lines (accepted story.head story.events)
 
 -- The lines that are left are those of a text, or aren't. So they are accepted or refused behind the text of any journal
 -- with that summary.
-abbrev pub AcceptsAsSummary : (text : List ℕ) → LinesLeft → Type 0
-AcceptsAsSummary text left =
+abbrev pub AcceptsAsSummary : Version → (text : List ℕ) → LinesLeft → Type 0
+AcceptsAsSummary v text left =
     (head : Head) (events : List Event) →
-    Judged (among_summary head events (lines_of text)) left.number left.lines (accepted head events)
+    Judged v (among_summary head events (lines_of text)) left.number left.lines (accepted head events)
 
-abbrev pub RefusesAsSummary : (text : List ℕ) → LinesLeft → ReplayError → Type 0
-RefusesAsSummary text left error =
-    (head : Head) (events : List Event) → RefusedFrom (among_summary head events (lines_of text)) left error
+abbrev pub RefusesAsSummary : Version → (text : List ℕ) → LinesLeft → ReplayError → Type 0
+RefusesAsSummary v text left error =
+    (head : Head) (events : List Event) → RefusedFrom v (among_summary head events (lines_of text)) left error

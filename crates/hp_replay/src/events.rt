@@ -1,32 +1,67 @@
 //! The lines of the events and the `end` line: they say the journal.
 
-ghost use Rattle.std.specs.Prelude.{◌≡◌, [], OnOk, IfOk, IfErr};
+ghost use Rattle.std.specs.Prelude.{◌≡◌, [], true, OnOk, IfOk, IfErr};
 ghost use Rattle.hp_model.specs.Heads.{IsHead};
 ghost use Rattle.hp_model.specs.Lawful.{Stands};
 ghost use Rattle.hp_replay.specs.Stages.{among_events};
 ghost use Rattle.hp_replay.specs.Judged.{Leads};
 ghost use Rattle.hp_replay.specs.Reading.{GoesOver, RefusesLine, RefusedFrom};
-ghost use Rattle.hp_replay.specs.LawStages.{with_event, stage_of, whole_of, event_asked, end_told};
+ghost use Rattle.hp_print.specs.OperationNumbers.{IsNumbered};
+ghost use Rattle.hp_replay.specs.LawStages.{with_event, stage_of, whole_of, event_told, end_told};
+ghost use Rattle.hp_replay.specs.Versions.{is_its_number, is_numbered};
 ghost use Rattle.hp_replay.specs.Stories.{ReadsEvents};
 
 use crate::end::end_of_line;
 use crate::error::{ReplayError, ReplayKind};
-use crate::event::event_of_line;
+use crate::event::{NumberedEvent, event_of_line};
 use crate::line::{Line, Lines};
-use hp_event::{Event, Head, Journal};
+use crate::versions::has_seat;
+use hp_event::{Head, Journal, Version};
 use hp_law::Law;
+use hp_print::OperationNumbers;
 use std::alloc::Global;
 
-/// Takes an event's line.
-fn take_event(law: &mut Law, event: &Event, line: &Line<'_>) -> Result<(), ReplayError>
-    ensures stands { OnOk result (Stands law.old.head law.old.events event.now) }
-    ensures taken { OnOk result (law.new ≡ with_event law.old event.now) }
-    ensures bad { IfErr result (RefusesLine (event_asked law.old event.now) line.now.number) }
+/// Whether a line that names the number of an operation names this one.
+fn is_its(number: u32, named: Option<u32>) -> bool
+    ensures { result ≡ is_its_number number named }
 {
-    if !law.offer(event)? {
-        return Err(line.bad(ReplayKind::Unlawful));
+    match named {
+        None => true,
+        Some(named) => named == number,
     }
-    Ok(())
+}
+
+/// The events so far, and how many operations of each seat have one.
+#[derive(Drop)]
+struct Taking {
+    version: Version,
+    law: Law,
+    numbers: OperationNumbers,
+}
+
+impl Taking {
+    /// Takes an event's line. After `Err` this is as a refused line leaves it, and isn't used.
+    fn take(&mut self, said: &NumberedEvent, line: &Line<'_>) -> Result<(), ReplayError>
+        requires numbered { IsNumbered self.old.law.events self.old.numbers }
+        ensures stands { OnOk result (Stands self.old.law.head self.old.law.events said.now.event) }
+        ensures right { OnOk result (is_numbered self.old.version self.old.law.events said.now ≡ true) }
+        ensures taken { OnOk result (self.new.law ≡ with_event self.old.law said.now.event) }
+        ensures numbered { OnOk result (IsNumbered self.new.law.events self.new.numbers) }
+        ensures version { OnOk result (self.new.version ≡ self.old.version) }
+        ensures bad { IfErr result (RefusesLine (event_told self.old.version self.old.law said.now) line.now.number) }
+    {
+        if !self.law.offer(&said.event)? {
+            return Err(line.bad(ReplayKind::Unlawful));
+        }
+        // The law holds fewer than `u32::MAX` events, and so has a seat fewer operations.
+        let _ = self.law.len();
+        let number = self.numbers.take(&said.event)?;
+        if is_its(number, said.number) && has_seat(self.version, &said.event) {
+            Ok(())
+        } else {
+            Err(line.bad(ReplayKind::Unlawful))
+        }
+    }
 }
 
 /// Takes the line behind the last event's.
@@ -47,15 +82,16 @@ pub fn take_end(law: &Law, line: &Line<'_>) -> Result<(), ReplayError>
 }
 
 /// Takes the lines of the events, and the `end` line behind them.
-fn take_events(law: &mut Law, lines: &mut Lines<'_>) -> Result<(), ReplayError>
-    ensures ok { OnOk result (GoesOver lines.old (stage_of law.old) lines.new (whole_of law.new)) }
-    ensures bad { IfErr result (RefusedFrom (stage_of law.old) lines.old) }
+fn take_events(taking: &mut Taking, lines: &mut Lines<'_>) -> Result<(), ReplayError>
+    requires { IsNumbered taking.old.law.events taking.old.numbers }
+    ensures ok { OnOk result (GoesOver taking.old.version lines.old (stage_of taking.old.law) lines.new (whole_of taking.new.law)) }
+    ensures bad { IfErr result (RefusedFrom taking.old.version (stage_of taking.old.law) lines.old) }
 {
     loop {
         let line = lines.expect()?;
-        match event_of_line(&line) {
-            Some(ref event) => take_event(law, event, &line)?,
-            None => return take_end(law, &line),
+        match event_of_line(taking.version, &line) {
+            Some(ref said) => taking.take(said, &line)?,
+            None => return take_end(&taking.law, &line),
         }
     }
 }
@@ -63,15 +99,20 @@ fn take_events(law: &mut Law, lines: &mut Lines<'_>) -> Result<(), ReplayError>
 /// The journal that the lines of the events say, with the `end` line behind them.
 pub fn read_events(
     alloc: Global,
+    version: Version,
     head: &Head,
     lines: &mut Lines<'_>,
 ) -> Result<Journal, ReplayError>
     requires { IsHead head.now }
-    ensures ok { IfOk result (λ journal. ReadsEvents lines.old head.now lines.new journal) }
+    ensures ok { IfOk result (λ journal. ReadsEvents version lines.old head.now lines.new journal) }
     ensures promised { IfOk result (λ journal. journal.promised ≡ 0) }
-    ensures bad { IfErr result (RefusedFrom (among_events head.now []) lines.old) }
+    ensures bad { IfErr result (RefusedFrom version (among_events head.now []) lines.old) }
 {
-    let mut law = Law::start(alloc, head)?;
-    take_events(&mut law, lines)?;
-    Ok(law.into_journal())
+    let mut taking = Taking {
+        version,
+        law: Law::start(alloc, head)?,
+        numbers: OperationNumbers::new(alloc),
+    };
+    take_events(&mut taking, lines)?;
+    Ok(taking.law.into_journal())
 }

@@ -1,6 +1,8 @@
 //! The lines before the events, one after another: they say the head.
 
 ghost use Rattle.std.specs.Prelude.{◌≡◌, [], OnOk, IfOk, IfErr};
+ghost use Rattle.hp_model.specs.JournalText.{title_line};
+ghost use Rattle.hp_event.specs.declared.version.Version.{Version as AVersion};
 ghost use Rattle.hp_replay.specs.Stages.{begins, titled, counted, headed, among_events};
 ghost use Rattle.hp_replay.specs.Judged.{Leads};
 ghost use Rattle.hp_replay.specs.Reading.{GoesOver, RefusesLine, RefusedFrom, ended_head};
@@ -10,20 +12,28 @@ ghost use Rattle.hp_replay.specs.HeadDraft.{draft_stage, sub_step, rule_step};
 use crate::error::{ReplayError, ReplayKind};
 use crate::head_lines::{HeadLine, absent, cpus, head_line};
 use crate::line::{Line, Lines};
-use hp_event::{Head, Sub, Subs};
+use hp_event::{Head, Sub, Subs, Version};
 use hp_states::{MAX_SUBS, NoMemory, Rule};
 use std::alloc::Global;
 
 /// The first line of a journal's text: the format and its version.
-const TITLE: &[u8; 16] = b"cpuhp journal 1\n";
+#[tactic(auto, unfolding(hp_model::specs::JournalText::title_line))]
+fn title(version: Version) -> &'static [u8]
+    ensures { result.now ≡ title_line version }
+{
+    match version {
+        Version::One => b"cpuhp journal 1\n",
+        Version::Two => b"cpuhp journal 2\n",
+    }
+}
 
 /// Takes the title.
-#[tactic(auto, unfolding(crate::specs::Stages::step, hp_model::specs::JournalText::title_line))]
-fn take_title(line: &Line<'_>) -> Result<(), ReplayError>
-    ensures ok { OnOk result (LineLeads begins line.now titled) }
-    ensures bad { IfErr result (λ e. LineRefused begins line.now e) }
+#[tactic(auto, unfolding(crate::specs::Stages::step))]
+fn take_title(version: Version, line: &Line<'_>) -> Result<(), ReplayError>
+    ensures ok { OnOk result (LineLeads version begins line.now titled) }
+    ensures bad { IfErr result (λ e. LineRefused version begins line.now e) }
 {
-    if line.bytes == TITLE.as_slice() {
+    if line.bytes == title(version) {
         return Ok(());
     }
     Err(line.bad(ReplayKind::Header))
@@ -31,11 +41,11 @@ fn take_title(line: &Line<'_>) -> Result<(), ReplayError>
 
 /// Takes how many processors are possible.
 #[tactic(auto, unfolding(crate::specs::Stages::step))]
-fn take_cpus(line: &Line<'_>) -> Result<u32, ReplayError>
-    ensures ok { IfOk result (λ n. LineLeads titled line.now (counted n)) }
-    ensures bad { IfErr result (λ e. LineRefused titled line.now e) }
+fn take_cpus(version: Version, line: &Line<'_>) -> Result<u32, ReplayError>
+    ensures ok { IfOk result (λ n. LineLeads version titled line.now (counted n)) }
+    ensures bad { IfErr result (λ e. LineRefused version titled line.now e) }
 {
-    match cpus(line) {
+    match cpus(version, line) {
         Some(possible) => Ok(possible),
         None => Err(line.bad(ReplayKind::Header)),
     }
@@ -44,8 +54,8 @@ fn take_cpus(line: &Line<'_>) -> Result<u32, ReplayError>
 /// Takes which of them are absent. The head is as yet without subsystems.
 #[tactic(auto, unfolding(crate::specs::Stages::step))]
 fn take_absent(alloc: Global, possible: u32, line: &Line<'_>) -> Result<Head, ReplayError>
-    ensures ok { IfOk result (λ head. LineLeads (counted possible) line.now (headed head)) }
-    ensures bad { IfErr result (λ e. LineRefused (counted possible) line.now e) }
+    ensures ok { IfOk result (λ head. (v : AVersion) → LineLeads v (counted possible) line.now (headed head)) }
+    ensures bad { IfErr result (λ e. (v : AVersion) → LineRefused v (counted possible) line.now e) }
 {
     match absent(alloc, possible, line)? {
         Some(absent) => Ok(Head {
@@ -108,9 +118,14 @@ impl Draft {
 }
 
 /// Takes the lines of the subsystems and their rules, and the line `events`.
-fn read_subs(alloc: Global, head: Head, lines: &mut Lines<'_>) -> Result<Head, ReplayError>
-    ensures ok { IfOk result (λ all. GoesOver lines.old (headed head) lines.new (among_events all [])) }
-    ensures bad { IfErr result (RefusedFrom (headed head) lines.old) }
+fn read_subs(
+    alloc: Global,
+    version: Version,
+    head: Head,
+    lines: &mut Lines<'_>,
+) -> Result<Head, ReplayError>
+    ensures ok { IfOk result (λ all. GoesOver version lines.old (headed head) lines.new (among_events all [])) }
+    ensures bad { IfErr result (RefusedFrom version (headed head) lines.old) }
 {
     let mut draft = Draft { head, last: None };
     loop {
@@ -125,15 +140,19 @@ fn read_subs(alloc: Global, head: Head, lines: &mut Lines<'_>) -> Result<Head, R
 }
 
 /// Takes the lines of the head, with the line `events` behind them.
-pub fn read_head(alloc: Global, lines: &mut Lines<'_>) -> Result<Head, ReplayError>
-    ensures ok { IfOk result (λ head. GoesOver lines.old begins lines.new (among_events head [])) }
-    ensures bad { IfErr result (RefusedFrom begins lines.old) }
+pub fn read_head(
+    alloc: Global,
+    version: Version,
+    lines: &mut Lines<'_>,
+) -> Result<Head, ReplayError>
+    ensures ok { IfOk result (λ head. GoesOver version lines.old begins lines.new (among_events head [])) }
+    ensures bad { IfErr result (RefusedFrom version begins lines.old) }
 {
     let line = lines.expect()?;
-    take_title(&line)?;
+    take_title(version, &line)?;
     let line = lines.expect()?;
-    let possible = take_cpus(&line)?;
+    let possible = take_cpus(version, &line)?;
     let line = lines.expect()?;
     let head = take_absent(alloc, possible, &line)?;
-    read_subs(alloc, head, lines)
+    read_subs(alloc, version, head, lines)
 }

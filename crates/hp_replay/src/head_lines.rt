@@ -5,9 +5,10 @@ ghost use Rattle.hp_replay.specs.HeadLines.{cpus_tail, cpus_at, absent_tail, abs
 ghost use Rattle.hp_replay.specs.Readers.{done};
 
 use crate::line::Line;
+use crate::versions::most_cpus;
 use crate::words::Words;
-use hp_event::{Numbers, Sub};
-use hp_states::{MAX_CPUS, NoMemory, Rule};
+use hp_event::{Numbers, Sub, Version};
+use hp_states::{NoMemory, Rule};
 use hp_text::{number_from, number_list_or_dash, rise_from, rule, sub};
 use std::alloc::Global;
 
@@ -23,24 +24,24 @@ pub enum HeadLine {
 }
 
 /// The words behind `cpus`.
-fn possible(words: &mut Words<'_>) -> Option<u32>
-    ensures { result ≡ cpus_tail words.old }
+fn possible(version: Version, words: &mut Words<'_>) -> Option<u32>
+    ensures { result ≡ cpus_tail version words.old }
 {
     let Some(word) = words.next() else {
         return None;
     };
     words.done(())?;
-    number_from(1, MAX_CPUS as u64 + 1, word).ok()
+    number_from(1, most_cpus(version) as u64 + 1, word).ok()
 }
 
-/// How many processors are possible, as a line says.
+/// How many processors are possible, as a line says in a version.
 #[tactic(auto, unfolding(crate::specs::HeadLines::cpus_at))]
-pub fn cpus(line: &Line<'_>) -> Option<u32>
-    ensures { result ≡ cpus_at line.now.bytes.now }
+pub fn cpus(version: Version, line: &Line<'_>) -> Option<u32>
+    ensures { result ≡ cpus_at version line.now.bytes.now }
 {
     let mut words = line.words()?;
     if words.next()? == b"cpus".as_slice() {
-        return possible(&mut words);
+        return possible(version, &mut words);
     }
     None
 }

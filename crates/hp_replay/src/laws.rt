@@ -5,13 +5,17 @@
 
 ghost use Rattle.std.specs.Prelude.{◌≡◌, ◌↔◌, ℕ, ◌<◌, ◌^◌, Some, List, [], ◌∷◌, codes};
 ghost use Rattle.hp_states.specs.declared.plan.Rule.{Rule as ARule};
-ghost use Rattle.hp_event.specs.declared.event.Event.{Event as AnEvent};
 ghost use Rattle.hp_event.specs.declared.head.Head.{Head as AHead};
 ghost use Rattle.hp_event.specs.declared.head.Sub.{Sub as ASub};
 ghost use Rattle.hp_model.specs.Words.{line};
 ghost use Rattle.hp_model.specs.Heads.{IsHead};
-ghost use Rattle.hp_model.specs.EventLine.{event_line};
 ghost use Rattle.hp_model.specs.Lawful.{Stands};
+ghost use Rattle.hp_event.specs.declared.version.Version.{Version as AVersion};
+ghost use Rattle.hp_event.specs.declared.version.Version.TheVariants.{Two};
+ghost use Rattle.hp_model.specs.EventLine.{event_line};
+ghost use Rattle.hp_replay.specs.declared.event.NumberedEvent.{NumberedEvent as ANumberedEvent};
+ghost use Rattle.hp_replay.specs.Fits.{IsU32};
+ghost use Rattle.hp_replay.specs.Versions.{numbered_event};
 ghost use Rattle.hp_replay.specs.Spelled.{IsSpelled};
 ghost use Rattle.hp_replay.specs.EventAt.{event_at};
 ghost use Rattle.hp_replay.specs.HeadLines.{a_sub, a_rule, the_events, cpus_at};
@@ -27,21 +31,21 @@ ghost use Rattle.hp_replay.specs.Stories.{IsLawfulStory, IsShort, IsItsText, IsA
 use crate::fits::events_fit;
 use hp_event::{Event, Head, Journal};
 
-/// The line of an event says that event, where its numbers are within their fields' types and the
-/// text can say it.
-#[tactic(auto, using(crate::proofs::EventAgain::event_at_again))]
+/// In each version the line of an event says that event, and the number of its operation where the version
+/// has it, where the numbers are within their fields' types and the text can say it.
 pub fn event_is_read(event: &Event)
-    ensures { IfSaid event.now (event_at (event_line event.now) ≡ Some event.now) }
+    ensures { (v : AVersion) (n : ℕ) → IsU32 n → IfSaid event.now
+        (event_at v (event_line v n event.now) ≡ Some (numbered_event v n event.now)) }
 {}
 
 /// A line that says an event is that event's line, byte for byte, and the event is such a one.
 pub fn read_event_is_spelled(line: &[u8])
-    ensures { (event : AnEvent) → event_at line.now ≡ Some event → IsEventLine line.now event }
+    ensures { (v : AVersion) (said : ANumberedEvent) → event_at v line.now ≡ Some said → IsEventLine v line.now said }
 {}
 
 /// A line says one event at most, and no two events have the same line.
 pub fn line_says_one(one: &Event, other: &Event)
-    ensures { IfSaid one.now (IfSaid other.now (HaveSameLine one.now other.now → one.now ≡ other.now)) }
+    ensures { (v : AVersion) → IfSaid one.now (IfSaid other.now (HaveSameLine v one.now other.now → one.now ≡ other.now)) }
 {}
 
 /// What stands after events can be said by the text.
@@ -52,7 +56,7 @@ pub fn standing_is_spelled(head: &Head, before: &[Event], event: &Event)
 
 /// The line of the possible processors: what is read is a number in its range, and so spelled.
 pub fn cpus_line(bytes: &[u8])
-    ensures { (n : ℕ) → (cpus_at bytes.now ≡ Some n) ↔ IsCpusLine bytes.now n }
+    ensures { (v : AVersion) (n : ℕ) → (cpus_at v bytes.now ≡ Some n) ↔ IsCpusLine v bytes.now n }
 {}
 
 /// The line of the absent processors: what is read rises, from 1 to the last possible one, and is so
@@ -77,38 +81,37 @@ pub fn end_line(bytes: &[u8])
 /// What is judged line by line is the verdict in the grammar's words, and the other way round. So an
 /// input has at most one.
 pub fn judged_is_verdict(input: &[u8])
-    ensures verdict { (o : Outcome) → Judged begins 1 (lines_of input.now) o → IsVerdict input.now o }
-    ensures judged { (o : Outcome) → IsVerdict input.now o → Judged begins 1 (lines_of input.now) o }
-    ensures one { (a b : Outcome) → IsVerdict input.now a → IsVerdict input.now b → a ≡ b }
+    ensures verdict { (v : AVersion) (o : Outcome) → Judged v begins 1 (lines_of input.now) o → IsVerdict v input.now o }
+    ensures judged { (v : AVersion) (o : Outcome) → IsVerdict v input.now o → Judged v begins 1 (lines_of input.now) o }
+    ensures one { (v : AVersion) (a b : Outcome) → IsVerdict v input.now a → IsVerdict v input.now b → a ≡ b }
 {}
 
-/// A journal is accepted exactly where the input isn't too long and is the text of that lawful
-/// journal, or its text and its summary. There is one answer at most.
+/// A journal is accepted in a version exactly where the input isn't too long and is the text of that lawful
+/// journal in that version, or its text and its summary. There is one answer at most.
 pub fn accepted_is_text(input: &[u8])
-    ensures accepted { AcceptsTexts input.now }
-    ensures too_long { (o : Outcome) → RefusesIfLong input.now o }
-    ensures one { (a b : Outcome) → IsReplay input.now a → IsReplay input.now b → a ≡ b }
+    ensures accepted { (v : AVersion) → AcceptsTexts v input.now }
+    ensures too_long { (v : AVersion) (o : Outcome) → RefusesIfLong v input.now o }
+    ensures one { (v : AVersion) (a b : Outcome) → IsReplay v input.now a → IsReplay v input.now b → a ≡ b }
 {}
 
 /// With a test of whether an event stands, the verdict is a function.
 pub fn judge_is_verdict(input: &[u8])
-    ensures { (can : Test) → IsTest can → IsVerdict input.now (judge can begins 1 (lines_of input.now)) }
+    ensures { (v : AVersion) (can : Test) → IsTest can → IsVerdict v input.now (judge v can begins 1 (lines_of input.now)) }
 {}
 
-/// A text is that of one journal.
-#[tactic(auto, using(crate::proofs::TextLaws::text_says_one))]
+/// In each version a text is that of one journal.
 pub fn text_says_one(one: &Head, events: &[Event], other: &Head, others: &[Event])
-    ensures { AreOneByText one.now events.now other.now others.now }
+    ensures { (v : AVersion) → AreOneByText v one.now events.now other.now others.now }
 {}
 
-/// The text of a lawful journal that the code holds is accepted, alone and with its summary, as that
+/// The text in version 2 of a lawful journal that the code holds is accepted, alone and with its summary, as that
 /// of its own head and events, where it isn't too long. As there is one answer at most, whoever
 /// answers to it says these.
 ///
 /// It looks at each event, since of the numbers of a definition it isn't known that they fit.
 pub fn text_is_accepted(journal: &Journal, text: &[u8])
     ensures { IsLawfulStory journal.now → IsShort text.now → IsItsText text.now journal.now →
-        IsAccepted text.now journal.now }
+        IsAccepted Two text.now journal.now }
 {
     events_fit(journal.events());
 }

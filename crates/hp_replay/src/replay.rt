@@ -1,6 +1,7 @@
 //! The whole of a journal's text.
 
 ghost use Rattle.std.specs.Prelude.{◌≡◌, IfOk, IfSome, IfErr};
+ghost use Rattle.hp_event.specs.declared.version.Version.TheVariants.{One, Two};
 ghost use Rattle.hp_replay.specs.Verdict.{IsRefusal};
 ghost use Rattle.hp_replay.specs.Stories.{IsAccepted, summary_of};
 
@@ -9,12 +10,12 @@ use crate::events::read_events;
 use crate::head::read_head;
 use crate::line::Lines;
 use crate::summary_lines::read_summary;
-use hp_event::Journal;
+use hp_event::{Journal, Version};
 use hp_print::summary;
 use hp_states::MAX_JOURNAL_BYTES;
 use std::alloc::Global;
 
-/// The lawful journal whose text an input is, or whose text with its summary.
+/// The lawful journal whose text in version 2 an input is, or that text with its summary.
 ///
 /// The bytes may be any.
 ///
@@ -29,12 +30,26 @@ use std::alloc::Global;
 /// journals is this project's own.
 pub fn check(alloc: Global, bytes: &[u8]) -> Result<Journal, ReplayError>
     // The bytes are the text of this lawful journal, or its text and its summary.
-    ensures journal { IfOk result (λ j. IsAccepted bytes.now j) }
+    ensures journal { IfOk result (λ j. IsAccepted Two bytes.now j) }
     ensures promised { IfOk result (λ j. j.promised ≡ 0) }
     // They are none, and this is the first line that can't stand, or that is missing.
-    ensures refused { IfErr result (IsRefusal bytes.now) }
+    ensures refused { IfErr result (IsRefusal Two bytes.now) }
 {
-    let (journal, _) = read(alloc, bytes)?;
+    let (journal, _) = read(alloc, Version::Two, bytes)?;
+    Ok(journal)
+}
+
+/// The lawful journal whose text in version 1 an input is, or that text with its summary.
+///
+/// The bytes may be any. Version 1 is of journals of at most 64 possible processors and 96 seats that come in.
+/// It answers, and refuses, as `check` does: a line of more processors is `Header`, one of a seat more
+/// `Unlawful`. Takes time and memory as `check` does.
+pub fn check1(alloc: Global, bytes: &[u8]) -> Result<Journal, ReplayError>
+    ensures journal { IfOk result (λ j. IsAccepted One bytes.now j) }
+    ensures promised { IfOk result (λ j. j.promised ≡ 0) }
+    ensures refused { IfErr result (IsRefusal One bytes.now) }
+{
+    let (journal, _) = read(alloc, Version::One, bytes)?;
     Ok(journal)
 }
 
@@ -43,12 +58,12 @@ pub fn check(alloc: Global, bytes: &[u8]) -> Result<Journal, ReplayError>
 /// It refuses what `check` refuses, and as `check` does. The summary is that of the input, where it has
 /// one, and is printed where it has none. Takes memory for it in either case.
 pub fn check_and_summarize(alloc: Global, bytes: &[u8]) -> Result<(Journal, Vec<u8>), ReplayError>
-    ensures journal { IfOk result (λ r. IsAccepted bytes.now r.0) }
+    ensures journal { IfOk result (λ r. IsAccepted Two bytes.now r.0) }
     ensures promised { IfOk result (λ r. r.0.promised ≡ 0) }
     ensures summary { IfOk result (λ r. r.1.items ≡ summary_of r.0) }
-    ensures refused { IfErr result (IsRefusal bytes.now) }
+    ensures refused { IfErr result (IsRefusal Two bytes.now) }
 {
-    let (journal, text) = read(alloc, bytes)?;
+    let (journal, text) = read(alloc, Version::Two, bytes)?;
     let text = match text {
         Some(text) => text,
         None => summary(alloc, &journal)?,
@@ -56,12 +71,16 @@ pub fn check_and_summarize(alloc: Global, bytes: &[u8]) -> Result<(Journal, Vec<
     Ok((journal, text))
 }
 
-/// The journal whose text an input is, and its summary where the input has one.
-fn read(alloc: Global, bytes: &[u8]) -> Result<(Journal, Option<Vec<u8>>), ReplayError>
-    ensures journal { IfOk result (λ r. IsAccepted bytes.now r.0) }
+/// The journal whose text in a version an input is, and its summary where the input has one.
+fn read(
+    alloc: Global,
+    version: Version,
+    bytes: &[u8],
+) -> Result<(Journal, Option<Vec<u8>>), ReplayError>
+    ensures journal { IfOk result (λ r. IsAccepted version bytes.now r.0) }
     ensures promised { IfOk result (λ r. r.0.promised ≡ 0) }
     ensures text { IfOk result (λ r. IfSome r.1 (λ text. text.items ≡ summary_of r.0)) }
-    ensures refused { IfErr result (IsRefusal bytes.now) }
+    ensures refused { IfErr result (IsRefusal version bytes.now) }
 {
     if bytes.len() > MAX_JOURNAL_BYTES as usize {
         return Err(ReplayError::Bad {
@@ -70,8 +89,8 @@ fn read(alloc: Global, bytes: &[u8]) -> Result<(Journal, Option<Vec<u8>>), Repla
         });
     }
     let mut lines = Lines::of(bytes);
-    let head = read_head(alloc, &mut lines)?;
-    let journal = read_events(alloc, &head, &mut lines)?;
+    let head = read_head(alloc, version, &mut lines)?;
+    let journal = read_events(alloc, version, &head, &mut lines)?;
     let text = read_summary(alloc, &journal, &mut lines)?;
     Ok((journal, text))
 }

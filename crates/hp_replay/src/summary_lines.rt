@@ -1,6 +1,7 @@
 //! The lines behind the `end` line: none, or those of the journal's summary.
 
 ghost use Rattle.std.specs.Prelude.{◌≡◌, OnOk, IfOk, IfSome, IfErr};
+ghost use Rattle.hp_event.specs.declared.version.Version.{Version as AVersion};
 ghost use Rattle.hp_replay.specs.Reading.{RefusedFrom};
 ghost use Rattle.hp_replay.specs.Stories.{AcceptsAsSummary, RefusesAsSummary, AcceptsRest, text_stage, summary_of};
 
@@ -12,8 +13,8 @@ use std::alloc::Global;
 
 /// Compares the lines that are left with those of a summary, of whichever journal it is.
 fn compare(text: &[u8], lines: &mut Lines<'_>) -> Result<(), ReplayError>
-    ensures same { OnOk result (AcceptsAsSummary text.now lines.old) }
-    ensures bad { IfErr result (λ e. RefusesAsSummary text.now lines.old e) }
+    ensures same { OnOk result ((v : AVersion) → AcceptsAsSummary v text.now lines.old) }
+    ensures bad { IfErr result (λ e. (v : AVersion) → RefusesAsSummary v text.now lines.old e) }
 {
     let mut rest = text;
     while !rest.is_empty() {
@@ -37,9 +38,9 @@ pub fn read_summary(
     journal: &Journal,
     lines: &mut Lines<'_>,
 ) -> Result<Option<Vec<u8>>, ReplayError>
-    ensures ok { OnOk result (AcceptsRest lines.old journal.now) }
+    ensures ok { OnOk result ((v : AVersion) → AcceptsRest v lines.old journal.now) }
     ensures text { IfOk result (λ found. IfSome found (λ text. text.items ≡ summary_of journal.now)) }
-    ensures bad { IfErr result (RefusedFrom (text_stage journal.now) lines.old) }
+    ensures bad { IfErr result (λ e. (v : AVersion) → RefusedFrom v (text_stage journal.now) lines.old e) }
 {
     if lines.is_done() {
         return Ok(None);

@@ -8,7 +8,7 @@ use std::test::*;
 /// Processor 2 fails to come up twice: at the third startup, and at a fault that was armed. Processor 1
 /// fails to go down at the first teardown, and then goes down.
 const COUNTED_ANSWERS: &'static [u8] = b"\
-cpuhp journal 1
+cpuhp journal 2
 cpus 3
 absent -
 sub net:a both single
@@ -21,44 +21,44 @@ admit 1 ap 1
 admit 2 ap 2
 admit 3 client
 admit 4 client
-reg 3 150 setup 150 1
+reg 3 1 150 setup 150 1
 call 0 0 150 0 up ok
-regged 3 ok 0
-reg 4 160 setup 160 2
+regged 3 1 ok 0
+reg 4 1 160 setup 160 2
 call 0 0 160 0 up ok
-regged 4 ok 0
-enter 3 up 1
+regged 4 1 ok 0
+enter 3 2 up 1
 walk 3 1 0 200
 call 1 1 150 0 up ok
 call 1 1 160 0 up ok
 walked 3 1 ok
-done 3 ok 0
-enter 4 up 2
+done 3 2 ok 0
+enter 4 2 up 2
 walk 4 2 0 200
 call 2 2 150 0 up fault 5
 walked 4 2 fault 5
-done 4 fault 5
-enter 4 up 2
+done 4 2 fault 5
+enter 4 3 up 2
 walk 4 2 0 200
 call 2 2 150 0 up ok
-armed 3 2 160
+armed 3 3 2 160
 call 2 2 160 0 up injected
 call 2 2 150 0 down ok
 walked 4 2 fault 11
-done 4 fault 11
-enter 3 down 1
+done 4 3 fault 11
+enter 3 4 down 1
 walk 3 1 200 0
 call 1 1 160 0 down empty
 call 1 1 150 0 down fault 7
 call 1 1 160 0 up ok
 walked 3 1 fault 7
-done 3 fault 7
-enter 3 down 1
+done 3 4 fault 7
+enter 3 5 down 1
 walk 3 1 200 0
 call 1 1 160 0 down empty
 call 1 1 150 0 down ok
 walked 3 1 ok
-done 3 ok 0
+done 3 5 ok 0
 end 43
 ";
 

@@ -1,7 +1,8 @@
 //! What the tests ask of a journal's text: whether it is accepted, whether it is refused with one line
-//! changed, and what is said of it.
+//! changed, and what is said of it, as a text of one version or of the other.
 
-use hp_replay::{ReplayError, ReplayKind, check};
+use hp_event::Version;
+use hp_replay::{ReplayError, ReplayKind, check, check1};
 use std::alloc::Global;
 use std::process::Abort;
 use std::test::*;
@@ -55,9 +56,13 @@ pub fn with_swap(alloc: Global, text: &[u8], number: usize) -> Result<Vec<u8>, F
 /// What is said of a text: nothing where it is accepted, or else the line and the kind.
 pub type Verdict = Option<(u32, ReplayKind)>;
 
-/// What is said of a text.
-pub fn verdict_of(alloc: Global, text: &[u8]) -> Result<Verdict, Fail> {
-    match check(alloc, text) {
+/// What is said of a text by the check of a version.
+pub fn verdict_of(alloc: Global, version: Version, text: &[u8]) -> Result<Verdict, Fail> {
+    let answer = match version {
+        Version::One => check1(alloc, text),
+        Version::Two => check(alloc, text),
+    };
+    match answer {
         Ok(_) => Ok(None),
         Err(ReplayError::Bad { line, kind }) => Ok(Some((line, kind))),
         Err(other) => Err(other.into()),

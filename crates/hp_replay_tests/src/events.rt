@@ -36,10 +36,10 @@ pub const EVENTS: [(usize, &'static [u8], Event); 33] = [
             role: Role::Client,
         },
     ),
-    (16, b"lock 2\n", Event::ReadLock { seat: 2 }),
+    (16, b"lock 2 1\n", Event::ReadLock { seat: 2 }),
     (
         17,
-        b"reg 2 120 setup 120 1 nocalls locked\n",
+        b"reg 2 2 120 setup 120 1 nocalls locked\n",
         Event::RegBegin {
             seat: 2,
             state: 120,
@@ -64,17 +64,17 @@ pub const EVENTS: [(usize, &'static [u8], Event); 33] = [
     ),
     (
         20,
-        b"refused 2 35 freeze -1\n",
+        b"refused 2 3 35 freeze -1\n",
         Event::Refused {
             seat: 2,
             errno: 35,
             op: Op::Freeze(-1),
         },
     ),
-    (21, b"unlock 2\n", Event::ReadUnlock { seat: 2 }),
+    (21, b"unlock 2 4\n", Event::ReadUnlock { seat: 2 }),
     (
         29,
-        b"regged 3 ok 141\n",
+        b"regged 3 3 ok 141\n",
         Event::RegEnd {
             seat: 3,
             answer: Answer::Ok(141),
@@ -82,7 +82,7 @@ pub const EVENTS: [(usize, &'static [u8], Event); 33] = [
     ),
     (
         30,
-        b"reg 3 141 add 141 7\n",
+        b"reg 3 4 141 add 141 7\n",
         Event::RegBegin {
             seat: 3,
             state: 141,
@@ -107,7 +107,7 @@ pub const EVENTS: [(usize, &'static [u8], Event); 33] = [
     ),
     (
         33,
-        b"enter 2 up 1\n",
+        b"enter 2 5 up 1\n",
         Event::Enter {
             seat: 2,
             op: Op::Up(1),
@@ -158,7 +158,7 @@ pub const EVENTS: [(usize, &'static [u8], Event); 33] = [
     ),
     (
         40,
-        b"done 2 ok 0\n",
+        b"done 2 5 ok 0\n",
         Event::OpEnd {
             seat: 2,
             answer: Answer::Ok(0),
@@ -166,7 +166,7 @@ pub const EVENTS: [(usize, &'static [u8], Event); 33] = [
     ),
     (
         41,
-        b"enter 3 down 1\n",
+        b"enter 3 5 down 1\n",
         Event::Enter {
             seat: 3,
             op: Op::Down(1),
@@ -199,7 +199,7 @@ pub const EVENTS: [(usize, &'static [u8], Event); 33] = [
     ),
     (
         49,
-        b"done 3 stuck 7 9 149\n",
+        b"done 3 5 stuck 7 9 149\n",
         Event::OpEnd {
             seat: 3,
             answer: Answer::Stuck {
@@ -211,7 +211,7 @@ pub const EVENTS: [(usize, &'static [u8], Event); 33] = [
     ),
     (
         50,
-        b"armed 2 1 150\n",
+        b"armed 2 6 1 150\n",
         Event::Armed {
             seat: 2,
             cpu: 1,
@@ -220,7 +220,7 @@ pub const EVENTS: [(usize, &'static [u8], Event); 33] = [
     ),
     (
         51,
-        b"shown 2 fail 1 150\n",
+        b"shown 2 7 fail 1 150\n",
         Event::Shown {
             seat: 2,
             file: File::Fail,
@@ -230,7 +230,7 @@ pub const EVENTS: [(usize, &'static [u8], Event); 33] = [
     ),
     (
         52,
-        b"shown 2 state 1 149\n",
+        b"shown 2 8 state 1 149\n",
         Event::Shown {
             seat: 2,
             file: File::State,
@@ -240,7 +240,7 @@ pub const EVENTS: [(usize, &'static [u8], Event); 33] = [
     ),
     (
         53,
-        b"shown 2 target 1 149\n",
+        b"shown 2 9 target 1 149\n",
         Event::Shown {
             seat: 2,
             file: File::Target,
@@ -250,7 +250,7 @@ pub const EVENTS: [(usize, &'static [u8], Event); 33] = [
     ),
     (
         54,
-        b"shown 2 states 13\n",
+        b"shown 2 10 states 13\n",
         Event::Shown {
             seat: 2,
             file: File::States,
@@ -272,7 +272,7 @@ pub const EVENTS: [(usize, &'static [u8], Event); 33] = [
     ),
     (
         59,
-        b"done 3 fault 11\n",
+        b"done 3 6 fault 11\n",
         Event::OpEnd {
             seat: 3,
             answer: Answer::Fault(11),
@@ -280,17 +280,17 @@ pub const EVENTS: [(usize, &'static [u8], Event); 33] = [
     ),
     (
         60,
-        b"armed 3 1 -1\n",
+        b"armed 3 7 1 -1\n",
         Event::Armed {
             seat: 3,
             cpu: 1,
             value: -1,
         },
     ),
-    (61, b"wakeup 3\n", Event::Wakeup { seat: 3 }),
+    (61, b"wakeup 3 8\n", Event::Wakeup { seat: 3 }),
     (
         62,
-        b"refused 2 22 target 1 -5\n",
+        b"refused 2 11 22 target 1 -5\n",
         Event::Refused {
             seat: 2,
             errno: 22,
@@ -299,7 +299,7 @@ pub const EVENTS: [(usize, &'static [u8], Event); 33] = [
     ),
     (
         63,
-        b"reg 3 141 del 141 7\n",
+        b"reg 3 9 141 del 141 7\n",
         Event::RegBegin {
             seat: 3,
             state: 141,
@@ -312,7 +312,7 @@ pub const EVENTS: [(usize, &'static [u8], Event); 33] = [
     ),
     (
         67,
-        b"reg 3 150 remove 150 nocalls\n",
+        b"reg 3 10 150 remove 150 nocalls\n",
         Event::RegBegin {
             seat: 3,
             state: 150,

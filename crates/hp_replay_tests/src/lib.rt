@@ -1,6 +1,6 @@
 //! The tests of hp_replay: journals' texts that are read, with what is said of them.
 //!
-//! They are texts of one form and another, and journals of each way in which a walk or a registration
+//! They are texts of one form and another, most of them in version 2, and journals of each way in which a walk or a registration
 //! can end, of clients that wait for one another and of seats that come and go, accepted as they stand,
 //! and refused with one line changed or left out, or with two lines swapped. What is said of them was
 //! written by hand, from the rules. Which event can stand next is decided by hp_law and hp_account, so
@@ -36,6 +36,8 @@ mod one_journal;
 #[cfg(test)]
 mod one_journal_changed;
 #[cfg(test)]
+mod operation_numbers;
+#[cfg(test)]
 mod refusals;
 #[cfg(test)]
 mod registrations;
@@ -47,6 +49,8 @@ mod summaries;
 mod suspends;
 #[cfg(test)]
 mod swaps;
+#[cfg(test)]
+mod version_one;
 #[cfg(test)]
 mod walks;
 #[cfg(test)]

@@ -1,7 +1,8 @@
 //! Words that are numbers, and words that are none, as the last of a journal's first line of an event
-//! or of its `end` line.
+//! or of its `end` line, in both versions of the text.
 
 use crate::changes::{Verdict, verdict_of};
+use hp_event::Version;
 use hp_replay::ReplayKind;
 use hp_replay::ReplayKind::{Count, Syntax, Unlawful};
 use std::alloc::Global;
@@ -11,7 +12,8 @@ use std::test::*;
 /// A word, and the kind of refusal of the line that ends in it.
 type Row = (&'static str, ReplayKind);
 
-/// Behind `leave`: the event of a number without a sign can't stand, and another word says none.
+/// Behind `leave`, and of an operation's number: the event of a number without a sign can't stand, and another
+/// word says none.
 const NUMBERS: [Row; 12] = [
     ("0", Unlawful),
     ("7", Unlawful),
@@ -27,7 +29,7 @@ const NUMBERS: [Row; 12] = [
     ("1a", Syntax),
 ];
 
-/// Behind `enter 2 target 1`: so with numbers that may have one.
+/// Behind `enter 2 1 target 1`: so with numbers that may have one.
 const INTEGERS: [Row; 12] = [
     ("0", Unlawful),
     ("2147483647", Unlawful),
@@ -43,7 +45,7 @@ const INTEGERS: [Row; 12] = [
     ("", Syntax),
 ];
 
-/// Behind `enter 2 upmany 7`: a processor above that one, and at most 255.
+/// Behind `enter 2 1 upmany 7`: a processor above that one, and at most 255.
 const CPUS: [Row; 11] = [
     ("8", Unlawful),
     ("64", Unlawful),
@@ -69,18 +71,33 @@ const COUNTS: [Row; 6] = [
 ];
 
 /// What is said of a text without events that goes on with a line of these words and this one.
-fn verdict_of_line(alloc: Global, words: &str, word: &str) -> Result<Verdict, Fail> {
-    let mut text = Vec::from_slice(alloc, b"cpuhp journal 1\ncpus 2\nabsent -\nevents\n")?;
+fn verdict_of_line(
+    alloc: Global,
+    version: Version,
+    words: &str,
+    word: &str,
+) -> Result<Verdict, Fail> {
+    let head = match version {
+        Version::One => "cpuhp journal 1\ncpus 2\nabsent -\nevents\n",
+        Version::Two => "cpuhp journal 2\ncpus 2\nabsent -\nevents\n",
+    };
+    let mut text = Vec::from_slice(alloc, head.as_bytes())?;
     text.extend_from_slice(words.as_bytes())?;
     text.extend_from_slice(word.as_bytes())?;
     text.extend_from_slice(b"\n")?;
-    verdict_of(alloc, text.as_slice())
+    verdict_of(alloc, version, text.as_slice())
 }
 
 /// Asserts what is said of such texts, with each of these words behind the same ones.
-fn assert_kinds(rt: &impl Abort, alloc: Global, words: &str, rows: &[Row]) -> Result<(), Fail> {
+fn assert_kinds(
+    rt: &impl Abort,
+    alloc: Global,
+    version: Version,
+    words: &str,
+    rows: &[Row],
+) -> Result<(), Fail> {
     for &(word, kind) in rows.iter() {
-        let found = verdict_of_line(alloc, words, word)?;
+        let found = verdict_of_line(alloc, version, words, word)?;
         assert!(rt; found == Some((5, kind)), "{words}{word}: {found:?}");
     }
     Ok(())
@@ -88,8 +105,26 @@ fn assert_kinds(rt: &impl Abort, alloc: Global, words: &str, rows: &[Row]) -> Re
 
 #[test]
 fn numbers_of_their_types(rt: HostRuntime) -> Result<(), Fail> {
-    assert_kinds(&rt, rt.alloc(), "leave ", &NUMBERS)?;
-    assert_kinds(&rt, rt.alloc(), "enter 2 target 1 ", &INTEGERS)?;
-    assert_kinds(&rt, rt.alloc(), "enter 2 upmany 7 ", &CPUS)?;
-    assert_kinds(&rt, rt.alloc(), "end ", &COUNTS)
+    let version = Version::Two;
+    assert_kinds(&rt, rt.alloc(), version, "leave ", &NUMBERS)?;
+    assert_kinds(&rt, rt.alloc(), version, "enter 2 1 target 1 ", &INTEGERS)?;
+    assert_kinds(&rt, rt.alloc(), version, "enter 2 1 upmany 7 ", &CPUS)?;
+    assert_kinds(&rt, rt.alloc(), version, "end ", &COUNTS)
+}
+
+#[test]
+fn numbers_of_operations(rt: HostRuntime) -> Result<(), Fail> {
+    let version = Version::Two;
+    assert_kinds(&rt, rt.alloc(), version, "lock 2 ", &NUMBERS)?;
+    assert_kinds(&rt, rt.alloc(), version, "unlock 2 ", &NUMBERS)?;
+    assert_kinds(&rt, rt.alloc(), version, "wakeup 2 ", &NUMBERS)
+}
+
+#[test]
+fn numbers_in_texts_of_version_1(rt: HostRuntime) -> Result<(), Fail> {
+    let version = Version::One;
+    assert_kinds(&rt, rt.alloc(), version, "lock ", &NUMBERS)?;
+    assert_kinds(&rt, rt.alloc(), version, "enter 2 target 1 ", &INTEGERS)?;
+    assert_kinds(&rt, rt.alloc(), version, "enter 2 upmany 7 ", &CPUS)?;
+    assert_kinds(&rt, rt.alloc(), version, "end ", &COUNTS)
 }

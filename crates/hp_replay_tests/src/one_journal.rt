@@ -3,6 +3,7 @@
 //! the text alone, and not from this reader.
 
 use crate::changes::{Verdict, line_at, verdict_of, with_line, with_swap};
+use hp_event::Version;
 use hp_replay::ReplayKind::{Count, Header, Missing, Syntax, Trailing, Unlawful};
 use std::alloc::Global;
 use std::ops::Range;
@@ -11,7 +12,7 @@ use std::test::*;
 /// A client reads, sets up a subsystem whose second startup on processor 1 would fail, brings that
 /// processor up, arms a fault of it, is refused a target, and takes the fault on the way down.
 pub const ONE_JOURNAL: &'static [u8] = b"\
-cpuhp journal 1
+cpuhp journal 2
 cpus 3
 absent 2
 sub net:a both single
@@ -20,24 +21,24 @@ events
 admit 0 ap 0
 admit 1 ap 1
 admit 2 client
-lock 2
-unlock 2
-reg 2 150 setup 150 1
+lock 2 1
+unlock 2 2
+reg 2 3 150 setup 150 1
 call 0 0 150 0 up ok
-regged 2 ok 0
-enter 2 up 1
+regged 2 3 ok 0
+enter 2 4 up 1
 walk 2 1 0 200
 call 1 1 150 0 up ok
 walked 2 1 ok
-done 2 ok 0
-armed 2 1 150
-shown 2 fail 1 150
-refused 2 22 target 0 101
-enter 2 down 1
+done 2 4 ok 0
+armed 2 5 1 150
+shown 2 6 fail 1 150
+refused 2 7 22 target 0 101
+enter 2 8 down 1
 walk 2 1 200 0
 call 1 1 150 0 down injected
 walked 2 1 fault 11
-done 2 fault 11
+done 2 8 fault 11
 end 21
 cpu 0 present state 200 keys 150.0
 cpu 1 present state 200 keys 150.0
@@ -70,60 +71,60 @@ const PREFIXES: [(usize, Verdict); 73] = [
     (104, Some((9, Missing))),
     (118, Some((9, Syntax))),
     (119, Some((10, Missing))),
-    (125, Some((10, Syntax))),
-    (126, Some((11, Missing))),
-    (134, Some((11, Syntax))),
-    (135, Some((12, Missing))),
-    (156, Some((12, Syntax))),
-    (157, Some((13, Missing))),
-    (177, Some((13, Syntax))),
-    (178, Some((14, Missing))),
-    (191, Some((14, Syntax))),
-    (192, Some((15, Missing))),
-    (204, Some((15, Syntax))),
-    (205, Some((16, Missing))),
-    (219, Some((16, Syntax))),
-    (220, Some((17, Missing))),
-    (240, Some((17, Syntax))),
-    (241, Some((18, Missing))),
-    (254, Some((18, Syntax))),
-    (255, Some((19, Missing))),
-    (266, Some((19, Syntax))),
-    (267, Some((20, Missing))),
-    (280, Some((20, Syntax))),
-    (281, Some((21, Missing))),
-    (299, Some((21, Syntax))),
-    (300, Some((22, Missing))),
-    (325, Some((22, Syntax))),
-    (326, Some((23, Missing))),
-    (340, Some((23, Syntax))),
-    (341, Some((24, Missing))),
-    (355, Some((24, Syntax))),
-    (356, Some((25, Missing))),
-    (384, Some((25, Syntax))),
-    (385, Some((26, Missing))),
-    (404, Some((26, Syntax))),
-    (405, Some((27, Missing))),
-    (420, Some((27, Syntax))),
-    (421, Some((28, Missing))),
-    (427, Some((28, Syntax))),
-    (428, None),
-    (462, Some((29, Trailing))),
-    (463, Some((30, Missing))),
-    (497, Some((30, Trailing))),
-    (498, Some((31, Missing))),
-    (525, Some((31, Trailing))),
-    (526, Some((32, Missing))),
-    (536, Some((32, Trailing))),
-    (537, Some((33, Missing))),
-    (545, Some((33, Trailing))),
-    (546, Some((34, Missing))),
-    (587, Some((34, Trailing))),
-    (588, Some((35, Missing))),
-    (629, Some((35, Trailing))),
-    (630, Some((36, Missing))),
-    (639, Some((36, Trailing))),
-    (640, None),
+    (127, Some((10, Syntax))),
+    (128, Some((11, Missing))),
+    (138, Some((11, Syntax))),
+    (139, Some((12, Missing))),
+    (162, Some((12, Syntax))),
+    (163, Some((13, Missing))),
+    (183, Some((13, Syntax))),
+    (184, Some((14, Missing))),
+    (199, Some((14, Syntax))),
+    (200, Some((15, Missing))),
+    (214, Some((15, Syntax))),
+    (215, Some((16, Missing))),
+    (229, Some((16, Syntax))),
+    (230, Some((17, Missing))),
+    (250, Some((17, Syntax))),
+    (251, Some((18, Missing))),
+    (264, Some((18, Syntax))),
+    (265, Some((19, Missing))),
+    (278, Some((19, Syntax))),
+    (279, Some((20, Missing))),
+    (294, Some((20, Syntax))),
+    (295, Some((21, Missing))),
+    (315, Some((21, Syntax))),
+    (316, Some((22, Missing))),
+    (343, Some((22, Syntax))),
+    (344, Some((23, Missing))),
+    (360, Some((23, Syntax))),
+    (361, Some((24, Missing))),
+    (375, Some((24, Syntax))),
+    (376, Some((25, Missing))),
+    (404, Some((25, Syntax))),
+    (405, Some((26, Missing))),
+    (424, Some((26, Syntax))),
+    (425, Some((27, Missing))),
+    (442, Some((27, Syntax))),
+    (443, Some((28, Missing))),
+    (449, Some((28, Syntax))),
+    (450, None),
+    (484, Some((29, Trailing))),
+    (485, Some((30, Missing))),
+    (519, Some((30, Trailing))),
+    (520, Some((31, Missing))),
+    (547, Some((31, Trailing))),
+    (548, Some((32, Missing))),
+    (558, Some((32, Trailing))),
+    (559, Some((33, Missing))),
+    (567, Some((33, Trailing))),
+    (568, Some((34, Missing))),
+    (609, Some((34, Trailing))),
+    (610, Some((35, Missing))),
+    (651, Some((35, Trailing))),
+    (652, Some((36, Missing))),
+    (661, Some((36, Trailing))),
+    (662, None),
 ];
 
 /// The least length of a range, from 0 on, of which something else is said of the text's front; none
@@ -135,7 +136,7 @@ fn first_other(
 ) -> Result<Option<usize>, Fail> {
     for length in lengths {
         let front = &ONE_JOURNAL[..length.min(ONE_JOURNAL.len())];
-        if verdict_of(alloc, front)? != wanted {
+        if verdict_of(alloc, Version::Two, front)? != wanted {
             return Ok(Some(length));
         }
     }
@@ -178,8 +179,8 @@ const LEFT_OUT: [Verdict; 36] = [
     Some((18, Unlawful)),
     Some((19, Unlawful)),
     Some((20, Unlawful)),
-    Some((27, Count)),
-    Some((27, Count)),
+    Some((21, Unlawful)),
+    Some((22, Unlawful)),
     Some((23, Unlawful)),
     Some((24, Unlawful)),
     Some((25, Unlawful)),
@@ -202,7 +203,7 @@ fn a_line_left_out(rt: HostRuntime) -> Result<(), Fail> {
     for (place, wanted) in LEFT_OUT.iter().enumerate() {
         let number = place.saturating_add(1);
         let text = with_line(rt.alloc(), ONE_JOURNAL, number, b"")?;
-        let found = verdict_of(rt.alloc(), text.as_slice())?;
+        let found = verdict_of(rt.alloc(), Version::Two, text.as_slice())?;
         assert!(rt; found == *wanted, "line {number}: {found:?}");
     }
     Ok(())
@@ -229,9 +230,9 @@ const TWICE: [Verdict; 36] = [
     Some((18, Unlawful)),
     Some((19, Unlawful)),
     Some((20, Unlawful)),
-    Some((29, Count)),
-    Some((29, Count)),
-    Some((29, Count)),
+    Some((21, Unlawful)),
+    Some((22, Unlawful)),
+    Some((23, Unlawful)),
     Some((24, Unlawful)),
     Some((25, Unlawful)),
     Some((26, Unlawful)),
@@ -257,7 +258,7 @@ fn a_line_that_stands_twice(rt: HostRuntime) -> Result<(), Fail> {
         let mut both = line_at(rt.alloc(), ONE_JOURNAL, number)?;
         both.extend_from_slice(line.as_slice())?;
         let text = with_line(rt.alloc(), ONE_JOURNAL, number, both.as_slice())?;
-        let found = verdict_of(rt.alloc(), text.as_slice())?;
+        let found = verdict_of(rt.alloc(), Version::Two, text.as_slice())?;
         assert!(rt; found == *wanted, "line {number}: {found:?}");
     }
     Ok(())
@@ -285,8 +286,8 @@ const SWAPPED: [Verdict; 35] = [
     Some((18, Unlawful)),
     Some((19, Unlawful)),
     Some((20, Unlawful)),
-    None,
-    Some((23, Unlawful)),
+    Some((21, Unlawful)),
+    Some((22, Unlawful)),
     Some((23, Unlawful)),
     Some((24, Unlawful)),
     Some((25, Unlawful)),
@@ -308,7 +309,7 @@ fn two_lines_swapped(rt: HostRuntime) -> Result<(), Fail> {
     for (place, wanted) in SWAPPED.iter().enumerate() {
         let number = place.saturating_add(1);
         let text = with_swap(rt.alloc(), ONE_JOURNAL, number)?;
-        let found = verdict_of(rt.alloc(), text.as_slice())?;
+        let found = verdict_of(rt.alloc(), Version::Two, text.as_slice())?;
         assert!(rt; found == *wanted, "line {number}: {found:?}");
     }
     Ok(())

@@ -4,6 +4,7 @@
 
 use crate::changes::{Verdict, verdict_of, with_line};
 use crate::one_journal::ONE_JOURNAL;
+use hp_event::Version;
 use hp_replay::ReplayKind::{Count, Header, Syntax, Trailing, Unlawful};
 use std::alloc::Global;
 use std::process::Abort;
@@ -16,16 +17,17 @@ type Row = (usize, &'static [u8], Verdict);
 fn assert_verdicts(rt: &impl Abort, alloc: Global, rows: &[Row]) -> Result<(), Fail> {
     for (row, &(number, line, wanted)) in rows.iter().enumerate() {
         let text = with_line(alloc, ONE_JOURNAL, number, line)?;
-        let found = verdict_of(alloc, text.as_slice())?;
+        let found = verdict_of(alloc, Version::Two, text.as_slice())?;
         assert!(rt; found == wanted, "row {row}, line {number}: {found:?}");
     }
     Ok(())
 }
 
 /// Changes of the lines up to that of the events.
-const HEADER: [Row; 15] = [
-    (1, b"cpuhp journal 2\n", Some((1, Header))),
-    (1, b"cpuhp  journal 1\n", Some((1, Header))),
+const HEADER: [Row; 16] = [
+    (1, b"cpuhp journal 1\n", Some((1, Header))),
+    (1, b"cpuhp journal 3\n", Some((1, Header))),
+    (1, b"cpuhp  journal 2\n", Some((1, Header))),
     (2, b"cpus 4\n", Some((32, Trailing))),
     (2, b"cpus  3\n", Some((2, Header))),
     (2, b"cpus 3 \n", Some((2, Header))),
@@ -58,27 +60,27 @@ const FIRST: [Row; 30] = [
     (8, b"admit  1 ap 1\n", Some((8, Syntax))),
     (9, b"admit 3 client\n", Some((9, Unlawful))),
     (9, b"admit  2 client\n", Some((9, Syntax))),
-    (10, b"lock 3\n", Some((10, Unlawful))),
-    (10, b"lock  2\n", Some((10, Syntax))),
-    (10, b"lock 2 \n", Some((10, Syntax))),
-    (11, b"unlock 3\n", Some((11, Unlawful))),
-    (11, b"unlock  2\n", Some((11, Syntax))),
-    (11, b" unlock 2\n", Some((11, Syntax))),
-    (12, b"reg 3 150 setup 150 1\n", Some((12, Unlawful))),
-    (12, b"reg 2 151 setup 150 1\n", Some((12, Unlawful))),
-    (12, b"reg 2 150 setup 151 1\n", Some((12, Unlawful))),
-    (12, b"reg 2 150 setup 150 2\n", Some((12, Unlawful))),
-    (12, b"reg  2 150 setup 150 1\n", Some((12, Syntax))),
+    (10, b"lock 3 1\n", Some((10, Unlawful))),
+    (10, b"lock  2 1\n", Some((10, Syntax))),
+    (10, b"lock 2 1 \n", Some((10, Syntax))),
+    (11, b"unlock 3 1\n", Some((11, Unlawful))),
+    (11, b"unlock  2 2\n", Some((11, Syntax))),
+    (11, b" unlock 2 2\n", Some((11, Syntax))),
+    (12, b"reg 3 1 150 setup 150 1\n", Some((12, Unlawful))),
+    (12, b"reg 2 3 151 setup 150 1\n", Some((12, Unlawful))),
+    (12, b"reg 2 3 150 setup 151 1\n", Some((12, Unlawful))),
+    (12, b"reg 2 3 150 setup 150 2\n", Some((12, Unlawful))),
+    (12, b"reg  2 3 150 setup 150 1\n", Some((12, Syntax))),
     (12, b"\n", Some((12, Syntax))),
     (13, b"call 1 0 150 0 up ok\n", Some((13, Unlawful))),
     (13, b"call 0 1 150 0 up ok\n", Some((13, Unlawful))),
     (13, b"call 0 0 151 0 up ok\n", Some((13, Unlawful))),
     (13, b"call 0 0 150 1 up ok\n", Some((13, Unlawful))),
     (13, b"call  0 0 150 0 up ok\n", Some((13, Syntax))),
-    (14, b"regged 3 ok 0\n", Some((14, Unlawful))),
-    (14, b"regged 2 ok 1\n", Some((14, Unlawful))),
-    (14, b"regged  2 ok 0\n", Some((14, Syntax))),
-    (14, b"regged 2 ok 0 \n", Some((14, Syntax))),
+    (14, b"regged 3 0 ok 0\n", Some((14, Unlawful))),
+    (14, b"regged 2 3 ok 1\n", Some((14, Unlawful))),
+    (14, b"regged  2 3 ok 0\n", Some((14, Syntax))),
+    (14, b"regged 2 3 ok 0 \n", Some((14, Syntax))),
 ];
 
 /// A change of the admissions, a read section and a registration.
@@ -89,10 +91,10 @@ fn first_changed(rt: HostRuntime) -> Result<(), Fail> {
 
 /// Changes of a way up, an arming, a file that is shown and a refusal.
 const UP: [Row; 37] = [
-    (15, b"enter 3 up 1\n", Some((15, Unlawful))),
-    (15, b"enter 2 up 2\n", Some((15, Unlawful))),
-    (15, b"enter  2 up 1\n", Some((15, Syntax))),
-    (15, b" enter 2 up 1\n", Some((15, Syntax))),
+    (15, b"enter 3 1 up 1\n", Some((15, Unlawful))),
+    (15, b"enter 2 4 up 2\n", Some((15, Unlawful))),
+    (15, b"enter  2 4 up 1\n", Some((15, Syntax))),
+    (15, b" enter 2 4 up 1\n", Some((15, Syntax))),
     (16, b"walk 3 1 0 200\n", Some((16, Unlawful))),
     (16, b"walk 2 2 0 200\n", Some((16, Unlawful))),
     (16, b"walk 2 1 1 200\n", Some((16, Unlawful))),
@@ -107,25 +109,25 @@ const UP: [Row; 37] = [
     (18, b"walked 2 2 ok\n", Some((18, Unlawful))),
     (18, b"walked  2 1 ok\n", Some((18, Syntax))),
     (18, b"walked 2 1 ok \n", Some((18, Syntax))),
-    (19, b"done 3 ok 0\n", Some((19, Unlawful))),
-    (19, b"done 2 ok 1\n", Some((19, Unlawful))),
-    (19, b"done  2 ok 0\n", Some((19, Syntax))),
-    (19, b" done 2 ok 0\n", Some((19, Syntax))),
-    (20, b"armed 3 1 150\n", Some((20, Unlawful))),
-    (20, b"armed 2 2 150\n", Some((21, Unlawful))),
-    (20, b"armed 2 1 151\n", Some((20, Unlawful))),
-    (20, b"armed  2 1 150\n", Some((20, Syntax))),
+    (19, b"done 3 0 ok 0\n", Some((19, Unlawful))),
+    (19, b"done 2 4 ok 1\n", Some((19, Unlawful))),
+    (19, b"done  2 4 ok 0\n", Some((19, Syntax))),
+    (19, b" done 2 4 ok 0\n", Some((19, Syntax))),
+    (20, b"armed 3 1 1 150\n", Some((20, Unlawful))),
+    (20, b"armed 2 5 2 150\n", Some((21, Unlawful))),
+    (20, b"armed 2 5 1 151\n", Some((20, Unlawful))),
+    (20, b"armed  2 5 1 150\n", Some((20, Syntax))),
     (20, b"\n", Some((20, Syntax))),
-    (21, b"shown 3 fail 1 150\n", Some((21, Unlawful))),
-    (21, b"shown 2 fail 2 150\n", Some((21, Unlawful))),
-    (21, b"shown 2 fail 1 151\n", Some((21, Unlawful))),
-    (21, b"shown  2 fail 1 150\n", Some((21, Syntax))),
-    (22, b"refused 3 22 target 0 101\n", Some((22, Unlawful))),
-    (22, b"refused 2 23 target 0 101\n", Some((22, Unlawful))),
-    (22, b"refused 2 22 target 1 101\n", None),
-    (22, b"refused 2 22 target 0 102\n", None),
-    (22, b"refused  2 22 target 0 101\n", Some((22, Syntax))),
-    (22, b"refused 2 22 target 0 101 \n", Some((22, Syntax))),
+    (21, b"shown 3 1 fail 1 150\n", Some((21, Unlawful))),
+    (21, b"shown 2 6 fail 2 150\n", Some((21, Unlawful))),
+    (21, b"shown 2 6 fail 1 151\n", Some((21, Unlawful))),
+    (21, b"shown  2 6 fail 1 150\n", Some((21, Syntax))),
+    (22, b"refused 3 1 22 target 0 101\n", Some((22, Unlawful))),
+    (22, b"refused 2 7 23 target 0 101\n", Some((22, Unlawful))),
+    (22, b"refused 2 7 22 target 1 101\n", None),
+    (22, b"refused 2 7 22 target 0 102\n", None),
+    (22, b"refused  2 7 22 target 0 101\n", Some((22, Syntax))),
+    (22, b"refused 2 7 22 target 0 101 \n", Some((22, Syntax))),
 ];
 
 /// A change of a way up, an arming, a file that is shown and a refusal.
@@ -136,10 +138,10 @@ fn up_changed(rt: HostRuntime) -> Result<(), Fail> {
 
 /// Changes of a way down that ends in a fault, and the `end` line.
 const DOWN: [Row; 26] = [
-    (23, b"enter 3 down 1\n", Some((23, Unlawful))),
-    (23, b"enter 2 down 2\n", Some((23, Unlawful))),
-    (23, b"enter  2 down 1\n", Some((23, Syntax))),
-    (23, b" enter 2 down 1\n", Some((23, Syntax))),
+    (23, b"enter 3 1 down 1\n", Some((23, Unlawful))),
+    (23, b"enter 2 8 down 2\n", Some((23, Unlawful))),
+    (23, b"enter  2 8 down 1\n", Some((23, Syntax))),
+    (23, b" enter 2 8 down 1\n", Some((23, Syntax))),
     (24, b"walk 3 1 200 0\n", Some((24, Unlawful))),
     (24, b"walk 2 2 200 0\n", Some((24, Unlawful))),
     (24, b"walk 2 1 201 0\n", Some((24, Unlawful))),
@@ -155,10 +157,10 @@ const DOWN: [Row; 26] = [
     (26, b"walked 2 1 fault 12\n", Some((26, Unlawful))),
     (26, b"walked  2 1 fault 11\n", Some((26, Syntax))),
     (26, b"walked 2 1 fault 11 \n", Some((26, Syntax))),
-    (27, b"done 3 fault 11\n", Some((27, Unlawful))),
-    (27, b"done 2 fault 12\n", Some((27, Unlawful))),
-    (27, b"done  2 fault 11\n", Some((27, Syntax))),
-    (27, b" done 2 fault 11\n", Some((27, Syntax))),
+    (27, b"done 3 0 fault 11\n", Some((27, Unlawful))),
+    (27, b"done 2 8 fault 12\n", Some((27, Unlawful))),
+    (27, b"done  2 8 fault 11\n", Some((27, Syntax))),
+    (27, b" done 2 8 fault 11\n", Some((27, Syntax))),
     (28, b"end 22\n", Some((28, Count))),
     (28, b"end  21\n", Some((28, Syntax))),
     (28, b"\n", Some((28, Syntax))),

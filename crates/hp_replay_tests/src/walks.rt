@@ -14,10 +14,10 @@ const TWO_STARTUPS_CHANGES: [Change; 10] = [
     (18, b"call 1 1 150 0 up ok\n"),
     (17, b"walk 2 1 0 199\n"),
     (9, b"admit 3 client\n"),
-    (13, b"reg 2 120 setup 120 2\n"),
-    (15, b"regged 2 ok 1\n"),
-    (16, b"enter 1 up 1\n"),
-    (21, b"done 2 fault 5\n"),
+    (13, b"reg 2 2 120 setup 120 2\n"),
+    (15, b"regged 2 2 ok 1\n"),
+    (16, b"enter 1 1 up 1\n"),
+    (21, b"done 2 3 fault 5\n"),
 ];
 
 /// Two setups and a way up.
@@ -39,7 +39,7 @@ const ROLLBACK_OF_UP_CHANGES: [Change; 7] = [
     (20, b"call 1 1 150 0 up fault 6\n"),
     (20, b"call 1 1 150 0 up ok\n"),
     (22, b"walked 2 1 fault 6\n"),
-    (23, b"done 2 ok 0\n"),
+    (23, b"done 2 3 ok 0\n"),
 ];
 
 /// A way up that a fault turns back.
@@ -99,7 +99,7 @@ const STUCK_CHANGES: [Change; 7] = [
     (35, b"walked 2 1 stuck 7 9 148\n"),
     (35, b"call 1 1 180 0 up ok\n"),
     (35, b"walked 2 1 fault 7\n"),
-    (36, b"done 2 stuck 7 9 150\n"),
+    (36, b"done 2 5 stuck 7 9 150\n"),
     (34, b"call 1 1 150 0 up ok\n"),
     (34, b""),
 ];
@@ -119,7 +119,7 @@ const INSTANCE_FAULT_CHANGES: [Change; 8] = [
     (28, b"call 1 1 150 1 down ok\n"),
     (23, b"call 1 1 150 1 up ok\n"),
     (11, b"call 0 0 150 0 up ok\n"),
-    (15, b"reg 2 150 add 150 1\n"),
+    (15, b"reg 2 3 150 add 150 1\n"),
 ];
 
 /// A way up that fails at the last instance of a state.

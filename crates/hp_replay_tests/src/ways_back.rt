@@ -7,7 +7,7 @@ use std::test::*;
 /// the other client sees it. That one brings the processor up again, with another thread, and both take
 /// it down in two steps.
 const WAY_BACK_AND_ON: &'static [u8] = b"\
-cpuhp journal 1
+cpuhp journal 2
 cpus 2
 absent -
 sub net:a both single
@@ -19,63 +19,63 @@ admit 0 ap 0
 admit 1 ap 1
 admit 2 client
 admit 3 client
-reg 2 120 setup 120 1
+reg 2 1 120 setup 120 1
 call 0 0 120 0 up ok
-regged 2 ok 0
-reg 3 150 setup 150 2
+regged 2 1 ok 0
+reg 3 1 150 setup 150 2
 call 0 0 150 0 up ok
-regged 3 ok 0
-enter 2 up 1
+regged 3 1 ok 0
+enter 2 2 up 1
 walk 2 1 0 200
 call 1 1 120 0 up ok
 call 1 1 150 0 up ok
 walked 2 1 ok
-done 2 ok 0
-enter 2 down 1
+done 2 2 ok 0
+enter 2 3 down 1
 walk 2 1 200 0
 call 1 1 150 0 down ok
 call 1 1 120 0 down fault 7
-shown 3 target 1 200
+shown 3 2 target 1 200
 call 1 1 150 0 up fault 9
-shown 3 state 1 149
+shown 3 3 state 1 149
 leave 1
 walked 2 1 stuck 7 9 149
-done 2 stuck 7 9 149
-shown 3 target 1 149
-refused 3 22 target 1 149
-enter 3 up 1
+done 2 3 stuck 7 9 149
+shown 3 4 target 1 149
+refused 3 5 22 target 1 149
+enter 3 6 up 1
 walk 3 1 149 200
 admit 4 ap 1
 call 4 1 150 0 up ok
 walked 3 1 ok
-done 3 ok 0
-enter 2 target 1 120
+done 3 6 ok 0
+enter 2 4 target 1 120
 walk 2 1 200 120
 call 4 1 150 0 down ok
 walked 2 1 ok
-done 2 ok 0
-enter 3 down 1
+done 2 4 ok 0
+enter 3 7 down 1
 walk 3 1 120 0
 call 4 1 120 0 down ok
 walked 3 1 ok
-done 3 ok 0
+done 3 7 ok 0
 end 44
 ";
 
 /// Lines that can't stand in it, with their numbers.
 const WAY_BACK_AND_ON_CHANGES: [Change; 21] = [
-    (29, b"lock 3\n"),
-    (29, b"reg 3 160 setup 160 1\n"),
-    (29, b"shown 3 target 1 0\n"),
+    (29, b"lock 3 2\n"),
+    (29, b"reg 3 2 160 setup 160 1\n"),
+    (29, b"shown 3 2 target 1 0\n"),
     (30, b"leave 1\n"),
     (30, b"call 1 1 150 0 up ok\n"),
-    (31, b"shown 3 state 1 150\n"),
+    (31, b"shown 3 3 state 1 150\n"),
     (31, b"call 1 1 120 0 up ok\n"),
     (33, b"call 1 1 150 0 up ok\n"),
     (33, b"walked 2 1 fault 7\n"),
-    (34, b"done 2 fault 7\n"),
-    (35, b"shown 3 target 1 200\n"),
-    (37, b"enter 3 target 1 149\n"),
+    (34, b"done 2 3 fault 7\n"),
+    (35, b"shown 3 4 target 1 200\n"),
+    (37, b"enter 3 6 target 1 149\n"),
     (38, b"walk 3 1 200 0\n"),
     (38, b"walk 3 1 0 200\n"),
     (40, b"call 1 1 150 0 up ok\n"),

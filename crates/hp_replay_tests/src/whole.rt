@@ -121,7 +121,7 @@ const AMONG: [(&'static str, u32, ReplayKind); 9] = [
 #[test]
 fn what_stands_among_the_events(rt: HostRuntime) -> Result<(), Fail> {
     for &(more, line, kind) in AMONG.iter() {
-        let mut all = Vec::from_slice(rt.alloc(), b"cpuhp journal 1\ncpus 2\nabsent -\nevents\n")?;
+        let mut all = Vec::from_slice(rt.alloc(), b"cpuhp journal 2\ncpus 2\nabsent -\nevents\n")?;
         all.extend_from_slice(more.as_bytes())?;
         let found = check(rt.alloc(), all.as_slice()).err();
         assert!(rt;
@@ -137,19 +137,19 @@ const UNLAWFUL: [Change; 16] = [
     (8, b"admit 1 ap 0\n"),
     (8, b"admit 2 ap 1\n"),
     (9, b"leave 2\n"),
-    (10, b"reg 2 151 setup 150 1\n"),
-    (10, b"reg 3 150 setup 150 1\n"),
-    (11, b"regged 2 fault 5\n"),
+    (10, b"reg 2 1 151 setup 150 1\n"),
+    (10, b"reg 3 1 150 setup 150 1\n"),
+    (11, b"regged 2 1 fault 5\n"),
     (13, b"call 1 0 150 1 up ok\n"),
     (13, b"call 0 0 150 1 up fault 5\n"),
     (13, b"call 0 0 150 1 up empty\n"),
-    (15, b"reg 2 150 add 150 1\n"),
+    (15, b"reg 2 3 150 add 150 1\n"),
     (21, b"walk 2 1 0 200\n"),
     (22, b"walk 2 1 0 199\n"),
     (23, b"call 1 1 150 1 up ok\n"),
     (26, b"walked 2 1 fault 5\n"),
     (28, b"walked 2 1 fault 6\n"),
-    (29, b"done 2 ok 0\n"),
+    (29, b"done 2 5 ok 0\n"),
 ];
 
 #[test]

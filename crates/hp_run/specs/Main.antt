@@ -5,6 +5,7 @@ use Rattle.hp_edge.specs.Scripts.{HasReadScript, IsBadScript}
 use Rattle.hp_event.specs.declared.event.Event.{Event}
 use Rattle.hp_event.specs.declared.head.Head.{Head}
 use Rattle.hp_model.specs.JournalText.{journal_text}
+use Rattle.hp_event.specs.declared.version.Version.TheVariants.{Two}
 use Rattle.hp_model.specs.Summary.{summary}
 use Rattle.hp_script.specs.Script.{Contents}
 use Rattle.hp_threads.specs.Journals.{IsJournalOf}
@@ -15,8 +16,8 @@ use Rattle.hp_run.specs.WorkLines.{work_lines}
 
 -- what is written under a command of a journal: its text and its summary, and of queues that went through it the lines of what they hold
 abbrev pub text_under : Command → Head → List Event → List ℕ
-text_under Run head events = journal_text head events ++ summary head events
-text_under (Work s) head events = (journal_text head events ++ summary head events) ++ work_lines s events
+text_under Run head events = journal_text Two head events ++ summary head events
+text_under (Work s) head events = (journal_text Two head events ++ summary head events) ++ work_lines s events
 
 -- what is written under a command of a script: there is one journal of a run of it, of which this is written
 pub record WasDone (command : Command) (script : Contents) (written : List ℕ) : Type 0 where

@@ -54,7 +54,7 @@ fn run_with_failing_write<R: Abort + Threads + Wait + Sync>(
 #[test]
 fn each_failing_write_is_told(rt: HostRuntime) -> Result<(), Fail> {
     let wanted = written_of_two_startups(rt.alloc())?;
-    // 603 bytes by hundreds
+    // 615 bytes by hundreds
     for call in 1..8 {
         let (status, faults, written) = run_with_failing_write(&rt, rt.alloc(), call)?;
         assert!(rt; (status, faults) == (4, 1), "write {call}");

@@ -14,17 +14,17 @@ target 0 200
 up 1
 ",
     journal: "\
-cpuhp journal 1
+cpuhp journal 2
 cpus 1
 absent -
 events
 admit 0 ap 0
 admit 1 client
-refused 1 16 down 0
-refused 1 22 target 0 101
-enter 1 target 0 200
-done 1 ok 0
-refused 1 22 up 1
+refused 1 1 16 down 0
+refused 1 2 22 target 0 101
+enter 1 3 target 0 200
+done 1 3 ok 0
+refused 1 4 22 up 1
 end 7
 ",
     summary: "\
@@ -50,7 +50,7 @@ target 1 120
 target 1 0
 ",
     journal: "\
-cpuhp journal 1
+cpuhp journal 2
 cpus 2
 absent -
 sub net:a both single
@@ -58,21 +58,21 @@ events
 admit 0 ap 0
 admit 1 ap 1
 admit 2 client
-reg 2 150 setup 150 1
+reg 2 1 150 setup 150 1
 call 0 0 150 0 up ok
-regged 2 ok 0
-enter 2 target 1 150
+regged 2 1 ok 0
+enter 2 2 target 1 150
 walk 2 1 0 150
 call 1 1 150 0 up ok
 walked 2 1 ok
-done 2 ok 0
-shown 2 state 1 150
-refused 2 22 target 1 120
-enter 2 target 1 0
+done 2 2 ok 0
+shown 2 3 state 1 150
+refused 2 4 22 target 1 120
+enter 2 5 target 1 0
 walk 2 1 150 0
 call 1 1 150 0 down ok
 walked 2 1 ok
-done 2 ok 0
+done 2 5 ok 0
 end 18
 ",
     summary: "\
@@ -103,7 +103,7 @@ actor b
 fail 1 150
 ",
     journal: "\
-cpuhp journal 1
+cpuhp journal 2
 cpus 2
 absent -
 sub net:q both multi
@@ -112,26 +112,26 @@ admit 0 ap 0
 admit 1 ap 1
 admit 2 client
 admit 3 client
-reg 2 150 setup 150 1
-regged 2 ok 0
-reg 2 150 add 150 1
+reg 2 1 150 setup 150 1
+regged 2 1 ok 0
+reg 2 2 150 add 150 1
 call 0 0 150 1 up ok
-regged 2 ok 0
-reg 2 150 add 150 2
+regged 2 2 ok 0
+reg 2 3 150 add 150 2
 call 0 0 150 2 up ok
-regged 2 ok 0
-enter 2 up 1
+regged 2 3 ok 0
+enter 2 4 up 1
 walk 2 1 0 200
 call 1 1 150 2 up ok
-armed 3 1 150
+armed 3 1 1 150
 call 1 1 150 1 up ok
 walked 2 1 ok
-done 2 ok 0
-enter 2 down 1
+done 2 4 ok 0
+enter 2 5 down 1
 walk 2 1 200 0
 call 1 1 150 2 down injected
 walked 2 1 fault 11
-done 2 fault 11
+done 2 5 fault 11
 end 24
 ",
     summary: "\
@@ -163,7 +163,7 @@ actor b
 fail 1 150
 ",
     journal: "\
-cpuhp journal 1
+cpuhp journal 2
 cpus 2
 absent -
 sub net:q both multi
@@ -172,27 +172,27 @@ admit 0 ap 0
 admit 1 ap 1
 admit 2 client
 admit 3 client
-reg 2 150 setup 150 1
-regged 2 ok 0
-reg 2 150 add 150 1
+reg 2 1 150 setup 150 1
+regged 2 1 ok 0
+reg 2 2 150 add 150 1
 call 0 0 150 1 up ok
-regged 2 ok 0
-reg 2 150 add 150 2
+regged 2 2 ok 0
+reg 2 3 150 add 150 2
 call 0 0 150 2 up ok
-regged 2 ok 0
-enter 2 up 1
+regged 2 3 ok 0
+enter 2 4 up 1
 walk 2 1 0 200
 call 1 1 150 2 up ok
-armed 3 1 150
+armed 3 1 1 150
 call 1 1 150 1 up ok
 walked 2 1 ok
-done 2 ok 0
-enter 2 down 1
+done 2 4 ok 0
+enter 2 5 down 1
 walk 2 1 200 0
 call 1 1 150 2 down injected
 walked 2 1 fault 11
-done 2 fault 11
-shown 2 fail 1 -1
+done 2 5 fault 11
+shown 2 6 fail 1 -1
 end 25
 ",
     summary: "\
@@ -220,20 +220,20 @@ fail 0 64
 show fail 0
 ",
     journal: "\
-cpuhp journal 1
+cpuhp journal 2
 cpus 1
 absent -
 sub net:a both single
 events
 admit 0 ap 0
 admit 1 client
-reg 1 50 setup 50 1
+reg 1 1 50 setup 50 1
 call 1 0 50 0 up ok
-regged 1 ok 0
-refused 1 22 fail 0 50
-armed 1 0 -1
-refused 1 22 fail 0 64
-shown 1 fail 0 -1
+regged 1 1 ok 0
+refused 1 2 22 fail 0 50
+armed 1 3 0 -1
+refused 1 4 22 fail 0 64
+shown 1 5 fail 0 -1
 end 9
 ",
     summary: "\

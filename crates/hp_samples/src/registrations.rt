@@ -16,7 +16,7 @@ setup 150 1
 show states
 ",
     journal: "\
-cpuhp journal 1
+cpuhp journal 2
 cpus 4
 absent -
 sub net:a both single
@@ -27,22 +27,22 @@ admit 1 ap 1
 admit 2 ap 2
 admit 3 ap 3
 admit 4 client
-enter 4 up 1
+enter 4 1 up 1
 walk 4 1 0 200
 walked 4 1 ok
-done 4 ok 0
-enter 4 up 3
+done 4 1 ok 0
+enter 4 2 up 3
 walk 4 3 0 200
 walked 4 3 ok
-done 4 ok 0
-reg 4 150 setup 150 1
+done 4 2 ok 0
+reg 4 3 150 setup 150 1
 call 0 0 150 0 up ok
 call 1 1 150 0 up ok
 call 3 3 150 0 up fault 5
 call 0 0 150 0 down ok
 call 1 1 150 0 down ok
-regged 4 fault 5
-shown 4 states 9
+regged 4 3 fault 5
+shown 4 4 states 9
 end 21
 ",
     summary: "\
@@ -69,7 +69,7 @@ setup 150 1 nocalls
 down 1
 ",
     journal: "\
-cpuhp journal 1
+cpuhp journal 2
 cpus 2
 absent -
 sub net:a both single
@@ -77,19 +77,19 @@ events
 admit 0 ap 0
 admit 1 ap 1
 admit 2 client
-enter 2 up 1
+enter 2 1 up 1
 walk 2 1 0 200
 walked 2 1 ok
-done 2 ok 0
-reg 2 150 setup 150 1 nocalls
+done 2 1 ok 0
+reg 2 2 150 setup 150 1 nocalls
 call 2 0 150 0 up presumed
 call 2 1 150 0 up presumed
-regged 2 ok 0
-enter 2 down 1
+regged 2 2 ok 0
+enter 2 3 down 1
 walk 2 1 200 0
 call 1 1 150 0 down ok
 walked 2 1 ok
-done 2 ok 0
+done 2 3 ok 0
 end 16
 ",
     summary: "\
@@ -118,7 +118,7 @@ add 150 3
 up 1
 ",
     journal: "\
-cpuhp journal 1
+cpuhp journal 2
 cpus 2
 absent -
 sub net:q both multi
@@ -127,18 +127,18 @@ events
 admit 0 ap 0
 admit 1 ap 1
 admit 2 client
-reg 2 150 setup 150 1
-regged 2 ok 0
-reg 2 150 add 150 1
+reg 2 1 150 setup 150 1
+regged 2 1 ok 0
+reg 2 2 150 add 150 1
 call 0 0 150 1 up ok
-regged 2 ok 0
-reg 2 150 add 150 2
+regged 2 2 ok 0
+reg 2 3 150 add 150 2
 call 0 0 150 2 up ok
-regged 2 ok 0
-reg 2 150 add 150 3
+regged 2 3 ok 0
+reg 2 4 150 add 150 3
 call 0 0 150 3 up ok
-regged 2 ok 0
-enter 2 up 1
+regged 2 4 ok 0
+enter 2 5 up 1
 walk 2 1 0 200
 call 1 1 150 3 up ok
 call 1 1 150 2 up ok
@@ -146,7 +146,7 @@ call 1 1 150 1 up fault 5
 call 1 1 150 3 down ok
 call 1 1 150 2 down ok
 walked 2 1 fault 5
-done 2 fault 5
+done 2 5 fault 5
 end 23
 ",
     summary: "\

@@ -12,7 +12,7 @@ boot 4
 up 1
 ",
     journal: "\
-cpuhp journal 1
+cpuhp journal 2
 cpus 4
 absent -
 events
@@ -22,30 +22,30 @@ admit 2 ap 2
 admit 3 ap 3
 admit 4 client
 admit 5 client
-enter 4 boot 4
+enter 4 1 boot 4
 walk 4 1 0 200
 walked 4 1 ok
 walk 4 2 0 200
 walked 4 2 ok
 walk 4 3 0 200
 walked 4 3 ok
-done 4 ok 0
-enter 5 down 1
+done 4 1 ok 0
+enter 5 1 down 1
 walk 5 1 200 0
 walked 5 1 ok
-done 5 ok 0
-enter 5 down 3
+done 5 1 ok 0
+enter 5 2 down 3
 walk 5 3 200 0
 walked 5 3 ok
-done 5 ok 0
-enter 5 up 1
+done 5 2 ok 0
+enter 5 3 up 1
 walk 5 1 0 200
 walked 5 1 ok
-done 5 ok 0
-enter 5 up 3
+done 5 3 ok 0
+enter 5 4 up 3
 walk 5 3 0 200
 walked 5 3 ok
-done 5 ok 0
+done 5 4 ok 0
 end 30
 ",
     summary: "\
@@ -70,7 +70,7 @@ boot 4
 up 1
 ",
     journal: "\
-cpuhp journal 1
+cpuhp journal 2
 cpus 4
 absent -
 events
@@ -80,22 +80,22 @@ admit 2 ap 2
 admit 3 ap 3
 admit 4 client
 admit 5 client
-enter 4 boot 4
+enter 4 1 boot 4
 walk 4 1 0 200
 walked 4 1 ok
 walk 4 2 0 200
 walked 4 2 ok
 walk 4 3 0 200
 walked 4 3 ok
-done 4 ok 0
-enter 5 down 1
+done 4 1 ok 0
+enter 5 1 down 1
 walk 5 1 200 0
 walked 5 1 ok
-done 5 ok 0
-enter 5 down 3
+done 5 1 ok 0
+enter 5 2 down 3
 walk 5 3 200 0
 walked 5 3 ok
-done 5 ok 0
+done 5 2 ok 0
 end 22
 ",
     summary: "\
@@ -122,7 +122,7 @@ boot 4
 setup 150 1
 ",
     journal: "\
-cpuhp journal 1
+cpuhp journal 2
 cpus 4
 absent -
 sub net:a both single
@@ -134,35 +134,35 @@ admit 2 ap 2
 admit 3 ap 3
 admit 4 client
 admit 5 client
-enter 4 boot 4
+enter 4 1 boot 4
 walk 4 1 0 200
 walked 4 1 ok
 walk 4 2 0 200
 walked 4 2 ok
 walk 4 3 0 200
 walked 4 3 ok
-done 4 ok 0
-enter 5 down 1
-reg 4 150 setup 150 1
+done 4 1 ok 0
+enter 5 1 down 1
+reg 4 2 150 setup 150 1
 call 0 0 150 0 up ok
 call 1 1 150 0 up ok
 call 2 2 150 0 up ok
 call 3 3 150 0 up ok
-regged 4 ok 0
+regged 4 2 ok 0
 walk 5 1 200 0
 call 1 1 150 0 down ok
 walked 5 1 ok
-done 5 ok 0
-enter 5 down 3
+done 5 1 ok 0
+enter 5 2 down 3
 walk 5 3 200 0
 call 3 3 150 0 down fault 6
 walked 5 3 fault 6
-done 5 fault 6
-enter 5 up 1
+done 5 2 fault 6
+enter 5 3 up 1
 walk 5 1 0 200
 call 1 1 150 0 up ok
 walked 5 1 ok
-done 5 ok 0
+done 5 3 ok 0
 end 35
 ",
     summary: "\

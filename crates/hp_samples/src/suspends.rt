@@ -21,7 +21,7 @@ actor b
 setup 160 2
 ",
     journal: "\
-cpuhp journal 1
+cpuhp journal 2
 cpus 4
 absent -
 sub net:a both single
@@ -34,10 +34,10 @@ admit 2 ap 2
 admit 3 ap 3
 admit 4 client
 admit 5 client
-reg 4 150 setup 150 1
+reg 4 1 150 setup 150 1
 call 0 0 150 0 up ok
-regged 4 ok 0
-enter 4 boot 4
+regged 4 1 ok 0
+enter 4 2 boot 4
 walk 4 1 0 200
 call 1 1 150 0 up ok
 walked 4 1 ok
@@ -47,29 +47,29 @@ walked 4 2 ok
 walk 4 3 0 200
 call 3 3 150 0 up ok
 walked 4 3 ok
-done 4 ok 0
-enter 4 freeze 0
+done 4 2 ok 0
+enter 4 3 freeze 0
 walk 4 1 200 0
 call 1 1 150 0 down ok
 walked 4 1 ok
-reg 5 160 setup 160 2
+reg 5 1 160 setup 160 2
 call 0 0 160 0 up ok
 call 2 2 160 0 up ok
 call 3 3 160 0 up ok
-regged 5 ok 0
+regged 5 1 ok 0
 walk 4 2 200 0
 call 2 2 160 0 down ok
 call 2 2 150 0 down fault 6
 call 2 2 160 0 up ok
 walked 4 2 fault 6
-done 4 fault 6
-refused 4 16 up 1
-enter 4 thaw
+done 4 3 fault 6
+refused 4 4 16 up 1
+enter 4 5 thaw
 walk 4 1 0 200
 call 1 1 150 0 up ok
 call 1 1 160 0 up ok
 walked 4 1 ok
-done 4 ok 0
+done 4 5 ok 0
 end 42
 ",
     summary: "\
@@ -99,23 +99,23 @@ down 1
 thaw
 ",
     journal: "\
-cpuhp journal 1
+cpuhp journal 2
 cpus 2
 absent -
 events
 admit 0 ap 0
 admit 1 ap 1
 admit 2 client
-enter 2 up 1
+enter 2 1 up 1
 walk 2 1 0 200
 walked 2 1 ok
-done 2 ok 0
-wakeup 2
-enter 2 freeze 0
-done 2 refused 16
-refused 2 16 down 1
-enter 2 thaw
-done 2 ok 0
+done 2 1 ok 0
+wakeup 2 2
+enter 2 3 freeze 0
+done 2 3 refused 16
+refused 2 4 16 down 1
+enter 2 5 thaw
+done 2 5 ok 0
 end 13
 ",
     summary: "\

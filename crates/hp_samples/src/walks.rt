@@ -15,7 +15,7 @@ setup 150 2
 up 1
 ",
     journal: "\
-cpuhp journal 1
+cpuhp journal 2
 cpus 2
 absent -
 sub net:a both single
@@ -24,18 +24,18 @@ events
 admit 0 ap 0
 admit 1 ap 1
 admit 2 client
-reg 2 120 setup 120 1
+reg 2 1 120 setup 120 1
 call 0 0 120 0 up ok
-regged 2 ok 0
-reg 2 150 setup 150 2
+regged 2 1 ok 0
+reg 2 2 150 setup 150 2
 call 0 0 150 0 up ok
-regged 2 ok 0
-enter 2 up 1
+regged 2 2 ok 0
+enter 2 3 up 1
 walk 2 1 0 200
 call 1 1 120 0 up ok
 call 1 1 150 0 up ok
 walked 2 1 ok
-done 2 ok 0
+done 2 3 ok 0
 end 15
 ",
     summary: "\
@@ -64,7 +64,7 @@ setup 150 2
 up 1
 ",
     journal: "\
-cpuhp journal 1
+cpuhp journal 2
 cpus 2
 absent -
 sub net:a both single
@@ -74,19 +74,19 @@ events
 admit 0 ap 0
 admit 1 ap 1
 admit 2 client
-reg 2 120 setup 120 1
+reg 2 1 120 setup 120 1
 call 0 0 120 0 up ok
-regged 2 ok 0
-reg 2 150 setup 150 2
+regged 2 1 ok 0
+reg 2 2 150 setup 150 2
 call 0 0 150 0 up ok
-regged 2 ok 0
-enter 2 up 1
+regged 2 2 ok 0
+enter 2 3 up 1
 walk 2 1 0 200
 call 1 1 120 0 up ok
 call 1 1 150 0 up fault 5
 call 1 1 120 0 down ok
 walked 2 1 fault 5
-done 2 fault 5
+done 2 3 fault 5
 end 16
 ",
     summary: "\
@@ -115,7 +115,7 @@ setup 131 2
 up 1
 ",
     journal: "\
-cpuhp journal 1
+cpuhp journal 2
 cpus 2
 absent -
 sub net:a down single
@@ -125,19 +125,19 @@ events
 admit 0 ap 0
 admit 1 ap 1
 admit 2 client
-reg 2 130 setup 130 1
+reg 2 1 130 setup 130 1
 call 0 0 130 0 up empty
-regged 2 ok 0
-reg 2 131 setup 131 2
+regged 2 1 ok 0
+reg 2 2 131 setup 131 2
 call 0 0 131 0 up ok
-regged 2 ok 0
-enter 2 up 1
+regged 2 2 ok 0
+enter 2 3 up 1
 walk 2 1 0 200
 call 1 1 130 0 up empty
 call 1 1 131 0 up fault 5
 call 1 1 130 0 down ok
 walked 2 1 fault 5
-done 2 fault 5
+done 2 3 fault 5
 end 16
 ",
     summary: "\
@@ -167,7 +167,7 @@ up 1
 down 1
 ",
     journal: "\
-cpuhp journal 1
+cpuhp journal 2
 cpus 2
 absent -
 sub net:a both single
@@ -177,25 +177,25 @@ events
 admit 0 ap 0
 admit 1 ap 1
 admit 2 client
-reg 2 120 setup 120 1
+reg 2 1 120 setup 120 1
 call 0 0 120 0 up ok
-regged 2 ok 0
-reg 2 150 setup 150 2
+regged 2 1 ok 0
+reg 2 2 150 setup 150 2
 call 0 0 150 0 up ok
-regged 2 ok 0
-enter 2 up 1
+regged 2 2 ok 0
+enter 2 3 up 1
 walk 2 1 0 200
 call 1 1 120 0 up ok
 call 1 1 150 0 up ok
 walked 2 1 ok
-done 2 ok 0
-enter 2 down 1
+done 2 3 ok 0
+enter 2 4 down 1
 walk 2 1 200 0
 call 1 1 150 0 down ok
 call 1 1 120 0 down fault 7
 call 1 1 150 0 up ok
 walked 2 1 fault 7
-done 2 fault 7
+done 2 4 fault 7
 end 22
 ",
     summary: "\
@@ -228,7 +228,7 @@ up 1
 down 1
 ",
     journal: "\
-cpuhp journal 1
+cpuhp journal 2
 cpus 2
 absent -
 sub net:a both single
@@ -240,30 +240,30 @@ events
 admit 0 ap 0
 admit 1 ap 1
 admit 2 client
-reg 2 120 setup 120 1
+reg 2 1 120 setup 120 1
 call 0 0 120 0 up ok
-regged 2 ok 0
-reg 2 150 setup 150 2
+regged 2 1 ok 0
+reg 2 2 150 setup 150 2
 call 0 0 150 0 up ok
-regged 2 ok 0
-reg 2 180 setup 180 3
+regged 2 2 ok 0
+reg 2 3 180 setup 180 3
 call 0 0 180 0 up ok
-regged 2 ok 0
-enter 2 up 1
+regged 2 3 ok 0
+enter 2 4 up 1
 walk 2 1 0 200
 call 1 1 120 0 up ok
 call 1 1 150 0 up ok
 call 1 1 180 0 up ok
 walked 2 1 ok
-done 2 ok 0
-enter 2 down 1
+done 2 4 ok 0
+enter 2 5 down 1
 walk 2 1 200 0
 call 1 1 180 0 down ok
 call 1 1 150 0 down ok
 call 1 1 120 0 down fault 7
 call 1 1 150 0 up fault 9
 walked 2 1 stuck 7 9 149
-done 2 stuck 7 9 149
+done 2 5 stuck 7 9 149
 end 27
 ",
     summary: "\
@@ -291,7 +291,7 @@ setup 70 1
 up 1
 ",
     journal: "\
-cpuhp journal 1
+cpuhp journal 2
 cpus 2
 absent -
 sub net:s both single
@@ -300,14 +300,14 @@ events
 admit 0 ap 0
 admit 1 ap 1
 admit 2 client
-reg 2 70 setup 70 1
+reg 2 1 70 setup 70 1
 call 0 0 70 0 up ok
-regged 2 ok 0
-enter 2 up 1
+regged 2 1 ok 0
+enter 2 2 up 1
 walk 2 1 0 200
 call 1 1 70 0 up overruled 5
 walked 2 1 ok
-done 2 ok 0
+done 2 2 ok 0
 end 11
 ",
     summary: "\

@@ -99,7 +99,7 @@ cases =
     (script (codes "cpus" ∷ []), Some (1, BadForm)) ∷
     (script (codes "cpus 1 2" ∷ []), Some (1, BadForm)) ∷
     (script (codes "cpus 0" ∷ []), Some (1, BadNumber)) ∷
-    (script (codes "cpus 65" ∷ []), Some (1, BadNumber)) ∷
+    (script (codes "cpus 257" ∷ []), Some (1, BadNumber)) ∷
     (script (codes "cpus 99999999999999999999999999" ∷ []), Some (1, BadNumber)) ∷
     (script (codes "cpus 2" ∷ codes "absent" ∷ []), Some (2, BadForm)) ∷
     (of_one (codes "absent 1" ∷ []), Some (2, BadNumber)) ∷
@@ -121,7 +121,7 @@ cases =
     -- schedules
     (of_one (codes "schedule" ∷ []), Some (2, BadForm)) ∷
     (of_one (codes "schedule turns" ∷ []), Some (2, BadForm)) ∷
-    (of_one (codes "schedule turns 95 96" ∷ []), Some (2, BadNumber)) ∷
+    (of_one (codes "schedule turns 319 320" ∷ []), Some (2, BadNumber)) ∷
     (of_one (codes "schedule mix 18446744073709551616 0" ∷ []), Some (2, BadNumber)) ∷
     (of_one (codes "schedule mix 0 1000001" ∷ []), Some (2, BadNumber)) ∷
     (of_one (codes "schedule mix 18446744073709551615 1000000" ∷ codes "actor a" ∷ []), None) ∷

@@ -1,7 +1,8 @@
 -- The record of siblings: what it is with one processor more, or one fewer.
-use Rattle.std.proofs.Common.{◌≡◌, ℕ, ◌<◌, Bool, true, false, cond, not, ◌&&◌, ◌||◌, eqb, ltb, is_some, Option, Some, None, List, [], ◌∷◌, ◌++◌, refl, sym, ap, ◌∙◌, arith}
+use Rattle.std.proofs.Common.{◌≡◌, ℕ, ◌+◌, ◌<◌, ◌≤◌, Bool, true, false, cond, not, ◌&&◌, ◌||◌, eqb, ltb, is_some, Option, Some, None, List, [], ◌∷◌, ◌++◌, refl, sym, ap, ◌∙◌, arith}
 use Rattle.std.specs.Prelude.{IfSome, IfNone}
-use Rattle.std.proofs.lemmas.Bool.{true≢false, and_parts, ltb-true, ltb-false}
+use Rattle.std.proofs.lemmas.Bool.{true≢false, and_parts, ltb-true, ltb-false, eqb-true, eqb-false}
+use Rattle.hp_states.proofs.Basics.{and_false}
 use Rattle.hp_states.specs.declared.cpu_set.CpuSet.{CpuSet}
 use Rattle.hp_states.specs.CpuSets.{has, IsLowestFrom, HasNoneFrom}
 use Rattle.hp_event.specs.declared.event.Event.{Event}
@@ -86,6 +87,27 @@ sibling_found n set c is within none = sym (find_least (λ d. has set d && is_si
 pub sibling_lacking : (n : ℕ) (set : CpuSet) → ((d : ℕ) → d < 256 → (has set d && is_sibling n d) ≡ false) → None ≡ sibling_in n set
 unfolding sibling_in
 sibling_lacking n set none = sym (find_no (λ d. has set d && is_sibling n d) 256 none)
+
+-- none below a number is one, nor is one from there on that isn't in the set
+pub sibling_past : (n : ℕ) (set : CpuSet) (from c : ℕ) → ((d : ℕ) → d < from → (has set d && is_sibling n d) ≡ false) →
+    ((d : ℕ) → from ≤ d → d < c → has set d ≡ false) → (d : ℕ) → d < c → (has set d && is_sibling n d) ≡ false
+sibling_past n set from c before none d below = go (ltb d from) refl
+  where
+    go : (b : Bool) → ltb d from ≡ b → (has set d && is_sibling n d) ≡ false
+    go true e = before d (ltb-true d from e)
+    go false e = ap (λ b. b && is_sibling n d) (none d (ltb-false d from e) below)
+
+-- nor the lowest from there on, where that is a primary
+pub sibling_next : (n : ℕ) (set : CpuSet) (from c : ℕ) → ((d : ℕ) → d < from → (has set d && is_sibling n d) ≡ false) →
+    IsLowestFrom set from c → is_sibling n c ≡ false → (d : ℕ) → d < c + 1 → (has set d && is_sibling n d) ≡ false
+sibling_next n set from c before least primary d below = go (eqb d c) refl
+  where
+    go : (b : Bool) → eqb d c ≡ b → (has set d && is_sibling n d) ≡ false
+    go true e =
+        ap (λ k. has set k && is_sibling n k) (eqb-true d c e) ∙ (ap (λ b. has set c && b) primary ∙ and_false (has set c))
+    go false e =
+        let apart = eqb-false d c e in
+        sibling_past n set from c before least.none_below d (omega (arith, below, apart))
 
 -- so it is of the lowest that is online
 pub online_found : (n : ℕ) (head : Head) (xs : List Event) (c : ℕ) → (is_online c xs && is_sibling n c) ≡ true → c < head.possible →

@@ -1,12 +1,10 @@
 //! Which processors are siblings, and which operations bring one up.
 
-ghost use Rattle.std.specs.Prelude.{◌≡◌, ◌<◌, ◌&&◌};
-ghost use Rattle.hp_states.specs.CpuSets.{has};
-ghost use Rattle.hp_states.specs.declared.limits.TheConstants.{MAX_CPU_SET as MAX_CPU_SET_OF};
+ghost use Rattle.std.specs.Prelude.{◌≡◌, ◌<◌};
 ghost use Rattle.hp_smt.specs.Siblings.{is_sibling as is_sibling_of, sibling_in as sibling_in_of, is_up_of_sibling as is_up_of_sibling_of};
 
 use hp_event::Op;
-use hp_states::{AP_ONLINE, CpuSet, MAX_CPU_SET};
+use hp_states::{AP_ONLINE, CpuSet};
 
 /// Whether a processor is a sibling: not the first of the threads of its core, which is the primary.
 ///
@@ -21,26 +19,19 @@ pub fn is_sibling(threads: u32, cpu: u32) -> bool
 
 /// The lowest sibling of a set, if it has one.
 ///
-/// A core has at least one thread. Takes no memory, and a step for each number of the set.
+/// A core has at least one thread. Takes no memory, and a step for each primary of the set below it.
 pub(crate) fn sibling_in(threads: u32, set: &CpuSet) -> Option<u32>
     requires { 0 < threads }
     ensures { result ≡ sibling_in_of threads set.now }
 {
-    for cpu in 0..MAX_CPU_SET {
-        if has_sibling(threads, set, cpu) {
+    let mut from = 0;
+    while let Some(cpu) = set.first_from(from) {
+        if is_sibling(threads, cpu) {
             return Some(cpu);
         }
+        from = cpu + 1;
     }
     None
-}
-
-/// Whether a number below 256 is a sibling of a set. Takes no memory.
-fn has_sibling(threads: u32, set: &CpuSet, cpu: u32) -> bool
-    requires some_threads { 0 < threads }
-    requires within { cpu < MAX_CPU_SET_OF }
-    ensures { result ≡ (has set.now cpu && is_sibling_of threads cpu) }
-{
-    set.has(cpu) && is_sibling(threads, cpu)
 }
 
 /// Whether an operation asks for a sibling to be brought up, or may come to bring one up, as every boot may: an `up` of

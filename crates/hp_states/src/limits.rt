@@ -34,7 +34,7 @@ pub const ENOSPC: u32 = 28;
 pub const EDEADLK: u32 = 35;
 
 /// The most processors of a machine.
-pub const MAX_CPUS: u32 = 64;
+pub const MAX_CPUS: u32 = 256;
 /// The numbers that a set of processors may have are below this.
 pub const MAX_CPU_SET: u32 = 256;
 /// The most subsystems of a script.
@@ -48,7 +48,7 @@ pub const MAX_NAME_LEN: u32 = 32;
 /// The highest code that a callback answers.
 pub const MAX_CODE: u32 = 4095;
 /// The most seats that are ever admitted to a machine.
-pub const MAX_SEATS: u32 = 96;
+pub const MAX_SEATS: u32 = 320;
 /// The most actors of a script.
 pub const MAX_ACTORS: u32 = 32;
 /// The most operations of an actor.

@@ -2,6 +2,7 @@
 use Rattle.std.proofs.Common.{◌≡◌, ℕ, zero, suc, ◌+◌, ◌<◌, ◌≤◌, Some, None, List, [], ◌∷◌, ◌++◌, length, get_or, take, drop, refl, sym, ap, subst, ◌∙◌, arith}
 use Rattle.std.specs.Prelude.{slice_get}
 use Rattle.std.proofs.lemmas.List.{take_more}
+use Rattle.hp_states.proofs.Basics.{none_some}
 use Rattle.hp_event.specs.declared.head.Head.{Head}
 use Rattle.hp_event.specs.declared.event.Event.{Event}
 use Rattle.hp_event.specs.declared.event.Event.TheVariants.{Admit}
@@ -41,6 +42,12 @@ pub got : (xs : List Event) (k : ℕ) → k < length xs → slice_get xs k ≡ S
 got [] k h = absurd (omega arith)
 got (x ∷ xs) zero h = refl
 got (x ∷ xs) (suc k) h = got xs k (omega arith)
+
+-- a place that has an event is below their number
+pub there : (xs : List Event) (k : ℕ) (e : Event) → slice_get xs k ≡ Some e → k < length xs
+there [] k e h = absurd (none_some e h)
+there (x ∷ xs) zero e h = omega arith
+there (x ∷ xs) (suc k) e h = let rest = there xs k e h in omega arith
 
 pub past : (xs : List Event) (k : ℕ) → length xs ≤ k → slice_get xs k ≡ None
 past [] k h = refl

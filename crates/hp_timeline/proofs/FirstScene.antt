@@ -1,6 +1,6 @@
 -- What is kept of no events.
-use Rattle.std.proofs.Common.{◌≡◌, ℕ, ◌<◌, Option, None, [], replicate, refl, sym, ap, ◌∙◌}
-use Rattle.std.proofs.lemmas.List.{length-map, length-replicate, get_or-replicate, get_or-map}
+use Rattle.std.proofs.Common.{◌≡◌, ℕ, ◌<◌, None, [], refl, sym, ap, ◌∙◌}
+use Rattle.std.proofs.lemmas.List.{length-map, get_or-map}
 use Rattle.hp_states.specs.Sections.{first_state}
 use Rattle.hp_event.specs.declared.head.Head.{Head}
 use Rattle.hp_model.specs.Lists.{numbers}
@@ -30,7 +30,7 @@ unfolding reading_since
 nobody_reads k = refl
 
 pub first_scene : (head : Head) (s : Scene) → s.lanes.items ≡ first_lanes head.possible → IsStateTally head 201 [] s.states →
-    s.operation ≡ None → s.registration ≡ None → s.sections.items ≡ replicate 96 None → IsScene head [] s
+    s.operation ≡ None → s.registration ≡ None → s.sections.items ≡ [] → IsScene head [] s
 unfolding operation registration
 first_scene head s lanes states o r sections = record {
   lanes_many = rw lanes (length-map (numbers head.possible) (λ k. stood (first_state k)) ∙ length-numbers head.possible);
@@ -38,6 +38,5 @@ first_scene head s lanes states o r sections = record {
   states_are = knows_of head [] s.states states;
   operation_is = o;
   registration_is = r;
-  sections_many = rw sections (length-replicate {A = Option ℕ} 96 None);
-  sections_are = λ k b. rw sections (get_or-replicate {A = Option ℕ} 96 k None None b ∙ sym (nobody_reads k));
+  sections_are = λ k. rw sections (sym (nobody_reads k));
 }

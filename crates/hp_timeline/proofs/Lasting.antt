@@ -5,7 +5,6 @@ use Rattle.std.proofs.lemmas.List.{append-nil}
 use Rattle.std.proofs.lemmas.Grind.{flat_map-append}
 use Rattle.hp_event.specs.declared.head.Head.{Head}
 use Rattle.hp_event.specs.declared.event.Event.{Event}
-use Rattle.hp_model.specs.Lawful.{IsLawful}
 use Rattle.hp_model.specs.Lists.{numbers}
 use Rattle.hp_timeline.specs.declared.scene.Scene.{Scene}
 use Rattle.hp_timeline.specs.declared.sheet.Sheet.{Sheet}
@@ -17,7 +16,6 @@ use Rattle.hp_timeline.specs.Spans.{ended_at, going, spans, span_text}
 use Rattle.hp_timeline.specs.Tracks.{stop_text, track_text}
 use Rattle.hp_timeline.specs.Scenes.{IsScene, AreTracks, going_in}
 use Rattle.hp_timeline.specs.Picture.{spans_text, tracks_text}
-use Rattle.hp_timeline.proofs.Events.{lawful_take}
 use Rattle.hp_timeline.proofs.FirstTracks.{whole_tracks}
 use Rattle.hp_timeline.proofs.Places.{places_none, places_more}
 use Rattle.hp_timeline.proofs.SpansMade.{going_as}
@@ -50,16 +48,16 @@ drawn_more text f a k old mid new b h e =
     ∙ append_assoc old (flat_map text (flat_map f (places_between a k))) (flat_map text (f k))
     ∙ ap (λ xs. old ++ xs) (sym more)
 
-all_spans : (head : Head) (events : List Event) (w : Window) (sheet : Sheet) (s : Scene) → IsLawful head events →
+all_spans : (head : Head) (events : List Event) (w : Window) (sheet : Sheet) (s : Scene) →
     sheet ≡ sheet_of head events w → IsScene head (take w.until events) s →
     flat_map (span_text sheet events) (flat_map (ended_at events) (places w))
     ++ flat_map (span_text sheet events) (going_in s (w.until - 1) sheet)
     ≡ spans_text head events w
 unfolding spans_text
-all_spans head events w sheet s lawful is h =
+all_spans head events w sheet s is h =
     rw is
     (ap (λ xs. flat_map (span_text (sheet_of head events w) events) (flat_map (ended_at events) (places w)) ++ flat_map (span_text (sheet_of head events w) events) xs)
-    (going_as head (take w.until events) s (w.until - 1) (sheet_of head events w) (lawful_take head events w.until lawful) h refl refl)
+    (going_as head (take w.until events) s (w.until - 1) (sheet_of head events w) h refl refl)
     ∙ sym (flat_map-append (span_text (sheet_of head events w) events) (flat_map (ended_at events) (places w)) (going head (take w.until events) (w.until - 1))))
 
 all_tracks : (head : Head) (events : List Event) (w : Window) (tracks : List (List ℕ)) → AreTracks head events w w.until tracks →
@@ -68,18 +66,18 @@ unfolding tracks_text
 all_tracks head events w tracks h = whole_tracks head events w tracks h
 
 pub lasting : (head : Head) (events : List Event) (w : Window) (sheet : Sheet) (s : Scene) (tracks : List (List ℕ)) (old mid next new : List ℕ) →
-    IsLawful head events → sheet ≡ sheet_of head events w → IsScene head (take w.until events) s →
+    sheet ≡ sheet_of head events w → IsScene head (take w.until events) s →
     AreTracks head events w w.until tracks →
     mid ≡ old ++ flat_map (span_text sheet events) (flat_map (ended_at events) (places w)) →
     next ≡ mid ++ flat_map (span_text sheet events) (going_in s (w.until - 1) sheet) →
     new ≡ next ++ flat_map (λ t. t ++ stop_text w) tracks →
     new ≡ old ++ (spans_text head events w ++ tracks_text head events w)
-lasting head events w sheet s tracks old mid next new lawful is scene lines first then last =
+lasting head events w sheet s tracks old mid next new is scene lines first then last =
     last
     ∙ ap₂ (λ (x y : List ℕ). x ++ y)
     (then
     ∙ ap (λ xs. xs ++ flat_map (span_text sheet events) (going_in s (w.until - 1) sheet)) first
     ∙ append_assoc old _ _
-    ∙ ap (λ xs. old ++ xs) (all_spans head events w sheet s lawful is scene))
+    ∙ ap (λ xs. old ++ xs) (all_spans head events w sheet s is scene))
     (all_tracks head events w tracks lines)
     ∙ append_assoc old (spans_text head events w) (tracks_text head events w)

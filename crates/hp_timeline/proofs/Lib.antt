@@ -1,13 +1,15 @@
 pub mod Numbers
 pub mod Pieces
 pub mod Pairs
+pub mod OperationNumbers
 pub mod RanMarks
 pub mod LastKey
 pub mod Places
 pub mod Events
 pub mod StatesKept
 pub mod StateSteps
-pub mod SeatsKept
+pub mod Sections
+pub mod Clients
 pub mod LaneSteps
 pub mod SceneSteps
 pub mod FirstScene

@@ -7,6 +7,7 @@ use Rattle.hp_event.specs.declared.how.How.TheVariants.{RanOk}
 use Rattle.hp_event.specs.declared.event.Event.{Event}
 use Rattle.hp_event.specs.declared.event.Event.TheVariants.{Call}
 use Rattle.hp_model.specs.Words.{dir_word}
+use Rattle.hp_event.specs.declared.version.Version.TheVariants.{Two}
 use Rattle.hp_model.specs.EventLine.{event_line}
 use Rattle.hp_timeline.specs.declared.mark.Mark.{Mark}
 use Rattle.hp_timeline.specs.declared.mark.Ran.{Ran}
@@ -46,10 +47,10 @@ spot l t s h n r =
 
 -- its line, with the number before it and the end of the mark behind it
 line : (n seat cpu state inst : ℕ) (d : Dir) →
-    (decimal n ++ (codes ": " ++ event_line (Call seat cpu state inst d RanOk))) ++ codes "</title></path>\n"
+    (decimal n ++ (codes ": " ++ event_line Two 0 (Call seat cpu state inst d RanOk))) ++ codes "</title></path>\n"
     ≡ decimal n ++ ran_line (record { left = 0; top = 0; number = n; seat = seat; cpu = cpu; state = state; inst = inst; dir = d })
 line n seat cpu state inst d =
-    append_assoc (decimal n) (codes ": " ++ event_line (Call seat cpu state inst d RanOk)) (codes "</title></path>\n")
+    append_assoc (decimal n) (codes ": " ++ event_line Two 0 (Call seat cpu state inst d RanOk)) (codes "</title></path>\n")
     ∙ ap (λ u. decimal n ++ (codes ": call " ++ u))
     (four (decimal seat) (decimal cpu) (decimal state) (decimal inst) (dir_word d ++ (32 ∷ (codes "ok" ++ []))) (10 ∷ []) (codes "</title></path>\n")
     ∙ ap (λ u. decimal seat ++ (32 ∷ (decimal cpu ++ (32 ∷ (decimal state ++ (32 ∷ (decimal inst ++ (32 ∷ u)))))))) (line_end d))

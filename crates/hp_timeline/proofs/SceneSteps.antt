@@ -20,10 +20,10 @@ use Rattle.hp_model.proofs.Laws.{operation_push, registration_push, reading_sinc
 use Rattle.hp_print.specs.declared.state_tally.StateTally.{StateTally}
 use Rattle.hp_print.specs.Steps.{asked_after, subs_after, all_insts_after}
 use Rattle.hp_print.specs.Tallies.{sub_of}
-use Rattle.hp_print.proofs.ProcessorTallyStep.{get_or-set}
 use Rattle.hp_timeline.specs.declared.scene.Lane.{Lane}
 use Rattle.hp_timeline.specs.declared.scene.Scene.{Scene}
-use Rattle.hp_timeline.specs.Scenes.{operation_begun, registration_begun, section_begun, lane_at, KnowsStates, IsScene, crosses, crossed, set_out, arrived, is_last_of, is_last_key, lanes_after, operation_after, registration_after, sections_after}
+use Rattle.hp_timeline.specs.Scenes.{operation_begun, registration_begun, section_begun, section_at, lane_at, KnowsStates, IsScene, crosses, crossed, set_out, arrived, is_last_of, is_last_key, lanes_after, operation_after, registration_after, section_after}
+use Rattle.hp_timeline.proofs.Sections.{past_end}
 use Rattle.hp_timeline.proofs.StateSteps.{states_go}
 use Rattle.hp_timeline.proofs.StatesKept.{none_above, has_list, stays_in_walk}
 use Rattle.hp_timeline.proofs.LaneSteps.{KnowsLast, lane_as}
@@ -39,11 +39,6 @@ last_as head (Some r) insts i m e = rw (m r refl, e) (go r.multi)
     go : (b : Bool) → (if b then is_last r.insts i else 0 == i) ≡ is_last (if b then r.insts else 0 ∷ []) i
     go true = refl
     go false = refl
-
-past_end : {X : Type 0} (xs : List X) (n : ℕ) (d : X) → length xs ≤ n → get_or xs n d ≡ d
-past_end [] n d h = refl
-past_end (x ∷ xs) zero d h = absurd (omega arith)
-past_end (x ∷ xs) (suc n) d h = past_end xs n d (omega arith)
 
 last_key_as : (head : Head) (xs : List Event) (t : StateTally) (s i : ℕ) → IsLawful head xs → KnowsStates head xs t →
     is_last_key head t s i ≡ is_last (keys head xs s) i
@@ -78,25 +73,20 @@ registration_as r xs (RegBegin seat state op) = refl
 registration_as r xs (RegEnd seat answer) = refl
 registration_as r xs e = refl
 
-sections_as : (k : ℕ) (sections : List (Option ℕ)) (xs : List Event) (e : Event) → k < length sections →
-    get_or sections k None ≡ section_begun (reading_since k xs) →
-    get_or (sections_after (length xs) sections e) k None ≡ section_begun (reading_since_step k (reading_since k xs) xs e)
-sections_as k sections xs (ReadLock seat) h p = rw (get_or-set sections seat k (Some (length xs)) None h) (go (seat == k))
+sections_as : (k : ℕ) (sections : List (Option ℕ)) (xs : List Event) (e : Event) →
+    section_at sections k ≡ section_begun (reading_since k xs) →
+    section_after (length xs) sections e k ≡ section_begun (reading_since_step k (reading_since k xs) xs e)
+sections_as k sections xs (ReadLock seat) p = go (seat == k)
   where
-    go : (b : Bool) → (if b then Some (length xs) else get_or sections k None) ≡ section_begun (if b then Some xs else reading_since k xs)
+    go : (b : Bool) → (if b then Some (length xs) else section_at sections k) ≡ section_begun (if b then Some xs else reading_since k xs)
     go true = refl
     go false = p
-sections_as k sections xs (ReadUnlock seat) h p = rw (get_or-set sections seat k None None h) (go (seat == k))
+sections_as k sections xs (ReadUnlock seat) p = go (seat == k)
   where
-    go : (b : Bool) → (if b then None else get_or sections k None) ≡ section_begun (if b then None else reading_since k xs)
+    go : (b : Bool) → (if b then None else section_at sections k) ≡ section_begun (if b then None else reading_since k xs)
     go true = refl
     go false = p
-sections_as k sections xs e h p = p
-
-sections_same : (k : ℕ) (sections : List (Option ℕ)) (e : Event) → length (sections_after k sections e) ≡ length sections
-sections_same k sections (ReadLock seat) = length-set sections seat (Some k)
-sections_same k sections (ReadUnlock seat) = length-set sections seat None
-sections_same k sections e = refl
+sections_as k sections xs e p = p
 
 crossed_same : (b : Bool) (c s : ℕ) (dir : Dir) (how : How) (lanes : List Lane) → length (crossed b c s dir how lanes) ≡ length lanes
 crossed_same b c s dir how lanes = go (crosses b how (lane_at lanes c))
@@ -119,7 +109,7 @@ pub scene_step : (head : Head) (xs : List Event) (e : Event) (s u : Scene) → I
     u.lanes.items ≡ lanes_after head (length xs) s e →
     u.operation ≡ operation_after (length xs) s.operation e →
     u.registration ≡ registration_after (length xs) s.registration e →
-    u.sections.items ≡ sections_after (length xs) s.sections.items e →
+    ((k : ℕ) → section_at u.sections.items k ≡ section_after (length xs) s.sections.items e k) →
     u.states.asked ≡ asked_after s.states.asked e →
     u.states.subs.items ≡ subs_after s.states.asked s.states.subs.items e →
     u.states.insts.items ≡ all_insts_after s.states.asked s.states.subs.items s.states.insts.items e → IsScene head (xs ++ e ∷ []) u
@@ -132,8 +122,5 @@ scene_step head xs e s u lawful few h lanes operation registration sections aske
   operation_is = rw operation_push (operation ∙ ap (λ o. operation_after (length xs) o e) h.operation_is ∙ operation_as _ xs e);
   registration_is =
       rw registration_push (registration ∙ ap (λ r. registration_after (length xs) r e) h.registration_is ∙ registration_as _ xs e);
-  sections_many = rw sections (sections_same (length xs) s.sections.items e ∙ h.sections_many);
-  sections_are = λ k b.
-      rw (sections, reading_since_push)
-      (sections_as k s.sections.items xs e (rw h.sections_many b) (h.sections_are k b));
+  sections_are = λ k. rw reading_since_push (sections k ∙ sections_as k s.sections.items xs e (h.sections_are k));
 }

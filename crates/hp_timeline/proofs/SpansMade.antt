@@ -1,10 +1,8 @@
 -- What is drawn by what is kept is what lasts, by the events.
-use Rattle.std.specs.List.{AllByRecursion as Each}
 use Rattle.std.proofs.Common.{◌≡◌, ℕ, ◌<◌, Bool, true, false, ◌&&◌, not, Option, Some, None, List, [], ◌∷◌, ◌++◌, length, get_or, take, refl, sym, ap, ap₂, ◌∙◌, subst, arith}
 use Rattle.std.specs.Prelude.{option_to_list, slice_get}
 use Rattle.std.specs.List.{flat_map}
 use Rattle.std.proofs.lemmas.Bool.Decides.{nat_tests}
-use Rattle.hp_states.specs.declared.limits.TheConstants.{MAX_SEATS}
 use Rattle.hp_event.specs.declared.answer.Answer.{Answer}
 use Rattle.hp_event.specs.declared.event.Role.TheVariants.{Client}
 use Rattle.hp_event.specs.declared.head.Head.{Head}
@@ -29,7 +27,6 @@ use Rattle.hp_timeline.specs.Spans.{class_of, walk_span, operation_span, registr
 use Rattle.hp_timeline.specs.Scenes.{walking_of, operation_begun, registration_begun, section_begun, lane_at, IsScene, walking_span, begun_span, reading_span, ended_in, walks_in, sections_in, going_in}
 use Rattle.hp_timeline.proofs.Events.{got, length_take, lawful_take, stands_at}
 use Rattle.hp_timeline.proofs.Numbers.{each_below}
-use Rattle.hp_timeline.proofs.SeatsKept.{seat_low, clients_low}
 
 walk_as : (c : Class) (over : Bool) (last cpu : ℕ) (w : Option Walk) →
     option_to_list (walking_span c over last cpu (walking_of w)) ≡ walk_span c over last cpu w
@@ -72,8 +69,7 @@ ended_as head xs (RegEnd seat answer) s lawful stands h =
     ap (λ o. option_to_list (begun_span (class_of answer) true (length xs) o)) h.registration_is
     ∙ registration_as (class_of answer) true (length xs) (registration xs)
 ended_as head xs (ReadUnlock seat) s lawful stands h =
-    let b : seat < MAX_SEATS = seat_low head xs seat Client lawful stands.0.free.client in
-    ap (λ f. option_to_list (reading_span class.Done true (length xs) seat f)) (h.sections_are seat b)
+    ap (λ f. option_to_list (reading_span class.Done true (length xs) seat f)) (h.sections_are seat)
     ∙ section_as class.Done true (length xs) seat (reading_since seat xs)
 ended_as head xs e s lawful stands h = refl
 
@@ -84,18 +80,18 @@ walks_as head xs s last h =
     ap (λ l. option_to_list (walking_span class.Going false last c l.walk)) (h.lanes_are c b)
     ∙ walk_as class.Going false last c (walk c xs))
 
-sections_as : (head : Head) (xs : List Event) (s : Scene) (last : ℕ) (seats : List ℕ) → IsScene head xs s → Each (λ k. k < MAX_SEATS) seats →
+sections_as : (head : Head) (xs : List Event) (s : Scene) (last : ℕ) (seats : List ℕ) → IsScene head xs s →
     sections_in s last seats ≡ flat_map (λ k. section_span class.Going false last k (reading_since k xs)) seats
-sections_as head xs s last [] h few = refl
-sections_as head xs s last (k ∷ ks) h few =
+sections_as head xs s last [] h = refl
+sections_as head xs s last (k ∷ ks) h =
     ap₂ (λ (x y : List Span). x ++ y)
-    (ap (λ f. option_to_list (reading_span class.Going false last k f)) (h.sections_are k few.0)
+    (ap (λ f. option_to_list (reading_span class.Going false last k f)) (h.sections_are k)
     ∙ section_as class.Going false last k (reading_since k xs))
-    (sections_as head xs s last ks h few.1)
+    (sections_as head xs s last ks h)
 
-pub going_as : (head : Head) (xs : List Event) (s : Scene) (last : ℕ) (sheet : Sheet) → IsLawful head xs → IsScene head xs s →
+pub going_as : (head : Head) (xs : List Event) (s : Scene) (last : ℕ) (sheet : Sheet) → IsScene head xs s →
     sheet.possible ≡ head.possible → sheet.clients ≡ clients xs → going_in s last sheet ≡ going head xs last
-going_as head xs s last sheet lawful h possible seats =
+going_as head xs s last sheet h possible seats =
     rw (possible, seats)
     (ap₂ (λ (x y : List Span). x ++ y) (walks_as head xs s last h)
     (ap₂ (λ (x y : List Span). x ++ y)
@@ -103,7 +99,7 @@ going_as head xs s last sheet lawful h possible seats =
     (ap₂ (λ (x y : List Span). x ++ y)
     (ap (λ o. option_to_list (begun_span class.Going false last o)) h.registration_is
     ∙ registration_as class.Going false last (registration xs))
-    (sections_as head xs s last (clients xs) h (clients_low head xs lawful)))))
+    (sections_as head xs s last (clients xs) h))))
 
 -- the event of a place
 pub ended_here : (head : Head) (events : List Event) (k : ℕ) (s : Scene) → IsLawful head events → k < length events →

@@ -1,5 +1,6 @@
 pub mod Windows
 pub mod Sheet
+pub mod Numbers
 pub mod Spans
 pub mod Tracks
 pub mod Marks

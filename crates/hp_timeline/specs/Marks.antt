@@ -1,5 +1,5 @@
 -- The mark of an entry: a triangle at its event, on its processor's lane and at its state. This project's own.
-use Rattle.std.specs.Prelude.{ℕ, Option, Some, None, List, [], ◌∷◌, ◌++◌, slice_get, codes, decimal}
+use Rattle.std.specs.Prelude.{◌≡◌, ℕ, Option, Some, None, List, [], ◌∷◌, ◌++◌, slice_get, codes, decimal}
 use Rattle.std.specs.List.{flat_map}
 use Rattle.hp_states.specs.declared.dir.Dir.{Dir}
 use Rattle.hp_states.specs.declared.dir.Dir.TheVariants.{Up, Down}
@@ -11,7 +11,7 @@ use Rattle.hp_timeline.specs.declared.mark.Mark.{Mark}
 use Rattle.hp_timeline.specs.declared.window.Window.{Window}
 use Rattle.hp_timeline.specs.Windows.{places}
 use Rattle.hp_timeline.specs.Sheet.{middle, height}
-use Rattle.hp_timeline.specs.Spans.{numbered}
+use Rattle.hp_timeline.specs.Spans.{numbered_at}
 
 abbrev pub mark_of : (place : ℕ) → Event → List Mark
 mark_of k (Call seat cpu state inst dir how) =
@@ -24,6 +24,12 @@ marked k (Some e) = mark_of k e
 
 abbrev pub marks : List Event → Window → List Mark
 marks events w = flat_map (λ k. marked k (slice_get events k)) (places w)
+
+-- the event is the mark's entry
+pub record IsEntry (m : Mark) (e : Option Event) : Type 0 where
+  pub seat : ℕ
+  pub inst : ℕ
+  pub event : e ≡ Some (Call seat m.cpu m.state inst m.dir m.how)
 
 -- a triangle that points up for a startup, down for a teardown
 abbrev pub shape : Dir → List ℕ
@@ -45,4 +51,4 @@ mark_text w events m =
     ++ (decimal (middle w m.place)
     ++ (codes " "
     ++ (decimal (height m.cpu m.state)
-    ++ (shape m.dir ++ (how_word m.how ++ (numbered m.place (slice_get events m.place) ++ codes "</title></path>\n"))))))
+    ++ (shape m.dir ++ (how_word m.how ++ (numbered_at events m.place ++ codes "</title></path>\n"))))))

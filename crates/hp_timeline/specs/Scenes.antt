@@ -1,7 +1,7 @@
 -- What is kept of the events so far, and what one event more makes of it. This project's own.
 use Rattle.std.specs.Prelude.{◌≡◌, ℕ, ◌<◌, ◌+◌, ◌&&◌, ◌==◌, Bool, true, false, if◌then◌else◌, is_some, option_to_list, Option, Some, None, List, [], ◌++◌, length, map, slice_set, slice_index_or}
 use Rattle.std.specs.List.{flat_map}
-use Rattle.hp_states.specs.declared.limits.TheConstants.{ONLINE, MAX_SEATS}
+use Rattle.hp_states.specs.declared.limits.TheConstants.{ONLINE}
 use Rattle.hp_states.specs.declared.dir.Dir.{Dir}
 use Rattle.hp_states.specs.Sections.{first_state}
 use Rattle.hp_event.specs.declared.how.How.{How}
@@ -58,6 +58,10 @@ abbrev pub section_begun : Option (List Event) → Option ℕ
 section_begun None = None
 section_begun (Some before) = Some (length before)
 
+-- where the section of a seat begins; a seat past the list has none
+abbrev pub section_at : List (Option ℕ) → (seat : ℕ) → Option ℕ
+section_at sections k = slice_index_or sections k None
+
 -- the lane of a processor that isn't possible
 abbrev pub no_lane : Lane
 no_lane = record { settled = 0; shown = 0; walk = None }
@@ -79,8 +83,7 @@ pub record IsScene (head : Head) (events : List Event) (s : Scene) : Type 0 wher
   pub states_are : KnowsStates head events s.states
   pub operation_is : s.operation ≡ operation_begun (operation events)
   pub registration_is : s.registration ≡ registration_begun (registration events)
-  pub sections_many : length s.sections.items ≡ MAX_SEATS
-  pub sections_are : (k : ℕ) → k < MAX_SEATS → slice_index_or s.sections.items k None ≡ section_begun (reading_since k events)
+  pub sections_are : (k : ℕ) → section_at s.sections.items k ≡ section_begun (reading_since k events)
 
 -- ---- one event more
 
@@ -140,10 +143,14 @@ registration_after k held (RegBegin seat state op) = Some (record { seat = seat;
 registration_after k held (RegEnd seat answer) = None
 registration_after k held _ = held
 
-abbrev pub sections_after : (place : ℕ) → List (Option ℕ) → Event → List (Option ℕ)
-sections_after k sections (ReadLock seat) = slice_set sections seat (Some k)
-sections_after k sections (ReadUnlock seat) = slice_set sections seat None
-sections_after k sections _ = sections
+-- a section of a seat begins, or ends
+abbrev pub section_with : (seat : ℕ) → Option ℕ → (sections : List (Option ℕ)) → (of : ℕ) → Option ℕ
+section_with seat first sections k = if seat == k then first else section_at sections k
+
+abbrev pub section_after : (place : ℕ) → List (Option ℕ) → Event → (of : ℕ) → Option ℕ
+section_after place sections (ReadLock seat) k = section_with seat (Some place) sections k
+section_after place sections (ReadUnlock seat) k = section_with seat None sections k
+section_after place sections _ k = section_at sections k
 
 -- ---- what there is to draw by it
 
@@ -170,7 +177,7 @@ abbrev pub ended_in : Scene → (place : ℕ) → Event → Option Span
 ended_in s k (WalkEnd seat cpu answer) = walking_span (class_of answer) true k cpu (lane_at s.lanes.items cpu).walk
 ended_in s k (OpEnd seat answer) = begun_span (class_of answer) true k s.operation
 ended_in s k (RegEnd seat answer) = begun_span (class_of answer) true k s.registration
-ended_in s k (ReadUnlock seat) = reading_span class.Done true k seat (slice_index_or s.sections.items seat None)
+ended_in s k (ReadUnlock seat) = reading_span class.Done true k seat (section_at s.sections.items seat)
 ended_in s k (Refused seat errno op) = one_event class.Refused k seat
 ended_in s k (Armed seat cpu value) = one_event class.Done k seat
 ended_in s k (Shown seat file cpu value) = one_event class.Done k seat
@@ -184,7 +191,7 @@ walks_in s last n =
 
 abbrev pub sections_in : Scene → (last : ℕ) → (seats : List ℕ) → List Span
 sections_in s last seats =
-    flat_map (λ k. option_to_list (reading_span class.Going false last k (slice_index_or s.sections.items k None))) seats
+    flat_map (λ k. option_to_list (reading_span class.Going false last k (section_at s.sections.items k))) seats
 
 abbrev pub going_in : Scene → (last : ℕ) → Sheet → List Span
 going_in s last sheet =

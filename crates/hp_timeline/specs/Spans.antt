@@ -15,7 +15,9 @@ use Rattle.hp_model.specs.MapLock.{Operation, operation}
 use Rattle.hp_model.specs.Registrations.{Registration, registration}
 use Rattle.hp_model.specs.Readers.{reading_since}
 use Rattle.hp_model.specs.Words.{spaced}
-use Rattle.hp_model.specs.EventLine.{event_line, op_words}
+use Rattle.hp_model.specs.EventLine.{op_words, event_line}
+use Rattle.hp_model.specs.OperationNumber.{operation_number}
+use Rattle.hp_event.specs.declared.version.Version.TheVariants.{Two}
 use Rattle.hp_timeline.specs.declared.window.Window.{Window}
 use Rattle.hp_timeline.specs.declared.sheet.Sheet.{Sheet}
 use Rattle.hp_timeline.specs.declared.span.Row.{Row}
@@ -121,15 +123,18 @@ class_word class.Full = codes "full"
 class_word class.Going = codes "going"
 
 -- a line of the journal, with its number
-abbrev pub numbered : (place : ℕ) → Option Event → List ℕ
-numbered k None = []
-numbered k (Some e) = decimal (k + 1) ++ (codes ": " ++ event_line e)
+abbrev pub numbered : (before : List Event) → (place : ℕ) → Option Event → List ℕ
+numbered before k None = []
+numbered before k (Some e) = decimal (k + 1) ++ (codes ": " ++ event_line Two (operation_number before e) e)
+
+-- that of the event of a place
+abbrev pub numbered_at : List Event → (place : ℕ) → List ℕ
+numbered_at events k = numbered (take k events) k (slice_get events k)
 
 -- the lines of the first event and of the last, where it is over
 unfoldable pub title_text : List Event → Span → List ℕ
 title_text events s =
-    numbered s.first (slice_get events s.first)
-    ++ (if s.is_over && not (s.first == s.last) then numbered s.last (slice_get events s.last) else [])
+    numbered_at events s.first ++ (if s.is_over && not (s.first == s.last) then numbered_at events s.last else [])
 
 abbrev pub words_text : Op → List ℕ
 words_text op = codes "<text x='9' y='51'>" ++ (spaced (op_words op) ++ codes "</text>")

@@ -4,6 +4,8 @@ ghost use Rattle.std.specs.Prelude.{◌≡◌, ◌≤◌, ◌<◌, ◌+◌, ◌+
 ghost use Rattle.std.specs.List.{flat_map};
 ghost use Rattle.hp_model.specs.Lawful.{IsLawful};
 ghost use Rattle.hp_text.specs.Appends.{Appends};
+ghost use Rattle.hp_states.specs.declared.limits.TheConstants.{MAX_EVENTS};
+ghost use Rattle.hp_timeline.specs.Numbers.{AreNumbers};
 ghost use Rattle.hp_timeline.specs.Windows.{IsWindow};
 ghost use Rattle.hp_timeline.specs.Sheet.{HasFewClients, sheet_of};
 ghost use Rattle.hp_timeline.specs.Spans.{ended_at, span_text};
@@ -13,6 +15,7 @@ ghost use Rattle.hp_timeline.specs.Picture.{spans_text, tracks_text, marks_text,
 
 use crate::frame::append_frame;
 use crate::mark::append_mark;
+use crate::numbering::numbers_of;
 use crate::scene::{Scene, span_of_begun};
 use crate::sheet::Sheet;
 use crate::span::{Class, Span};
@@ -124,14 +127,16 @@ fn append_some(
     out: &mut Vec<u8>,
     sheet: &Sheet,
     events: &[Event],
+    numbers: &[u32],
     span: Option<Span>,
 ) -> Result<(), AllocError>
-    requires { HasFewClients sheet.now }
+    requires few { HasFewClients sheet.now }
+    requires numbers { AreNumbers events.now numbers.now }
     ensures { OnOk result (Appends out.old out.new
         (flat_map (span_text sheet.now events.now) (option_to_list span))) }
 {
     match span {
-        Some(span) => append_span(out, sheet, events, span),
+        Some(span) => append_span(out, sheet, events, numbers, span),
         None => Ok(()),
     }
 }
@@ -142,10 +147,12 @@ fn append_ended(
     sheet: &Sheet,
     head: &Head,
     events: &[Event],
+    numbers: &[u32],
     scene: &Scene,
     place: u32,
 ) -> Result<(), AllocError>
     requires few { HasFewClients sheet.now }
+    requires numbers { AreNumbers events.now numbers.now }
     requires lawful { IsLawful head.now events.now }
     requires place { place < length events.now }
     requires scene { IsScene head.now (take place events.now) scene.now }
@@ -156,7 +163,7 @@ fn append_ended(
     if let Event::Call { .. } = *event {
         return Ok(());
     }
-    append_some(out, sheet, events, scene.ended(place, event))
+    append_some(out, sheet, events, numbers, scene.ended(place, event))
 }
 
 /// Appends the walks in flight after some events.
@@ -164,15 +171,17 @@ fn append_walks(
     out: &mut Vec<u8>,
     sheet: &Sheet,
     events: &[Event],
+    numbers: &[u32],
     scene: &Scene,
     last: u32,
 ) -> Result<(), AllocError>
-    requires { HasFewClients sheet.now }
+    requires few { HasFewClients sheet.now }
+    requires numbers { AreNumbers events.now numbers.now }
     ensures { OnOk result (Appends out.old out.new
         (flat_map (span_text sheet.now events.now) (walks_in scene.now last sheet.now.possible))) }
 {
     for cpu in 0..sheet.possible {
-        append_some(out, sheet, events, scene.going_walk(cpu, last))?;
+        append_some(out, sheet, events, numbers, scene.going_walk(cpu, last))?;
     }
     Ok(())
 }
@@ -182,16 +191,24 @@ fn append_sections(
     out: &mut Vec<u8>,
     sheet: &Sheet,
     events: &[Event],
+    numbers: &[u32],
     scene: &Scene,
     last: u32,
 ) -> Result<(), AllocError>
-    requires { HasFewClients sheet.now }
+    requires few { HasFewClients sheet.now }
+    requires numbers { AreNumbers events.now numbers.now }
     ensures { OnOk result (Appends out.old out.new
         (flat_map (span_text sheet.now events.now) (sections_in scene.now last sheet.now.clients))) }
 {
     let seats = sheet.clients.as_slice();
     for seat in seats {
-        append_some(out, sheet, events, scene.going_section(*seat, last))?;
+        append_some(
+            out,
+            sheet,
+            events,
+            numbers,
+            scene.going_section(*seat, last),
+        )?;
     }
     Ok(())
 }
@@ -201,27 +218,31 @@ fn append_going(
     out: &mut Vec<u8>,
     sheet: &Sheet,
     events: &[Event],
+    numbers: &[u32],
     scene: &Scene,
     last: u32,
 ) -> Result<(), AllocError>
-    requires { HasFewClients sheet.now }
+    requires few { HasFewClients sheet.now }
+    requires numbers { AreNumbers events.now numbers.now }
     ensures { OnOk result (Appends out.old out.new
         (flat_map (span_text sheet.now events.now) (going_in scene.now last sheet.now))) }
 {
-    append_walks(out, sheet, events, scene, last)?;
+    append_walks(out, sheet, events, numbers, scene, last)?;
     append_some(
         out,
         sheet,
         events,
+        numbers,
         span_of_begun(Class::Going, false, last, scene.operation),
     )?;
     append_some(
         out,
         sheet,
         events,
+        numbers,
         span_of_begun(Class::Going, false, last, scene.registration),
     )?;
-    append_sections(out, sheet, events, scene, last)
+    append_sections(out, sheet, events, numbers, scene, last)
 }
 
 /// Appends the end of a line.
@@ -256,17 +277,21 @@ fn append_lasting(
     requires window { IsWindow sheet.now.window (length events.now) }
     requires sheet { sheet.now ≡ sheet_of head.now events.now sheet.now.window }
     requires few { HasFewClients sheet.now }
+    requires many { length events.now ≤ MAX_EVENTS }
     ensures { OnOk result (Appends out.old out.new
         (spans_text head.now events.now sheet.now.window ++ tracks_text head.now events.now sheet.now.window)) }
 {
     let window = sheet.window;
+    let counted = numbers_of(alloc, events)?;
+    let numbers = counted.as_slice();
     let mut scene = scene_before(alloc, head, events, window.before)?;
     let mut tracks = first_tracks(alloc, head, events, window, &scene)?;
     for place in window.before..window.until {
-        append_ended(out, sheet, head, events, &scene, place)?;
+        append_ended(out, sheet, head, events, numbers, &scene, place)?;
         advance(&mut scene, &mut tracks, head, events, window, place)?;
     }
-    append_going(out, sheet, events, &scene, window.until.saturating_sub(1))?;
+    let last = window.until.saturating_sub(1);
+    append_going(out, sheet, events, numbers, &scene, last)?;
     append_tracks(out, window, &tracks)
 }
 
@@ -285,8 +310,8 @@ fn append_marks(out: &mut Vec<u8>, events: &[Event], window: Window) -> Result<(
 /// The picture of a window of a lawful journal: the bytes of an SVG file.
 ///
 /// The window lies within the journal's events. What the picture shows, `specs/Picture.antt` says. Takes a time linear
-/// in the events up to the window's end, but for what the processors and the seats take, and memory for the bytes and
-/// for what is kept of the events; where it is wanting: `NoMemory`. The picture is this project's own.
+/// in the events, but for what the processors and the seats take, and memory for the bytes, for the numbers of the
+/// events' operations, and for what is kept of the events; where it is wanting: `NoMemory`. The picture is this project's own.
 #[tactic(auto, unfolding(crate::specs::Picture::picture))]
 pub fn picture(alloc: Global, journal: &Journal, window: Window) -> Result<Vec<u8>, NoMemory>
     requires lawful { IsLawful journal.now.head journal.now.events }

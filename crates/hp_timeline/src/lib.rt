@@ -15,6 +15,7 @@ mod drawing;
 mod frame;
 mod laws;
 mod mark;
+mod numbering;
 mod scene;
 mod sheet;
 mod span;

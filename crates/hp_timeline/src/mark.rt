@@ -4,17 +4,18 @@ ghost use Rattle.std.specs.Prelude.{◌≡◌, ◌+◌, ◌<◌, ◌≤◌, ◌+
 ghost use Rattle.std.specs.List.{flat_map};
 ghost use Rattle.hp_event.specs.declared.event.Event.TheVariants.{Call};
 ghost use Rattle.hp_text.specs.Appends.{Appends};
-ghost use Rattle.hp_timeline.specs.Spans.{numbered};
-ghost use Rattle.hp_timeline.specs.Marks.{marked, shape, how_word, mark_text};
+ghost use Rattle.hp_timeline.specs.Spans.{numbered_at};
+ghost use Rattle.hp_timeline.specs.Marks.{IsEntry, marked, shape, how_word, mark_text};
 ghost use Rattle.hp_timeline.specs.Ran.{IsShort, spot_text, ran_line};
 
 use crate::sheet::height;
-use crate::span_text::append_numbered;
 use crate::text::{
-    FEW, LONG, append, append_two, push, push_with, push_with_few, put_back, take_out,
+    FEW, LONG, append, append_before, append_two, push, push_with, push_with_few, put_back,
+    take_out,
 };
 use crate::window::Window;
 use hp_event::{Event, How};
+use hp_print::append_event;
 use hp_states::Dir;
 use std::alloc::AllocError;
 
@@ -58,6 +59,16 @@ fn append_how(out: &mut Vec<u8>, how: How) -> Result<(), AllocError>
     }
 }
 
+/// Appends the line of an entry, with its event's number. The line of an entry has no number of an operation.
+fn append_line(out: &mut Vec<u8>, events: &[Event], mark: Mark) -> Result<(), AllocError>
+    requires { IsEntry mark (slice_get events.now mark.place) }
+    ensures { OnOk result (Appends out.old out.new (numbered_at events.now mark.place)) }
+{
+    let at = mark.place as usize;
+    append_before(out, at + 1, b": ")?;
+    append_event(out, &events[at], 0)
+}
+
 /// Appends the mark of any entry, which is the event of a place.
 #[tactic(auto, unfolding(crate::specs::Marks::mark_text))]
 fn append_entry(
@@ -66,6 +77,7 @@ fn append_entry(
     events: &[Event],
     mark: Mark,
 ) -> Result<(), AllocError>
+    requires { IsEntry mark (slice_get events.now mark.place) }
     ensures { OnOk result (Appends out.old out.new (mark_text window events.now mark)) }
 {
     append_two(
@@ -77,7 +89,7 @@ fn append_entry(
     )?;
     append_shape(out, mark.dir)?;
     append_how(out, mark.how)?;
-    append_numbered(out, events, mark.place)?;
+    append_line(out, events, mark)?;
     append(out, b"</title></path>\n")
 }
 

@@ -1,16 +1,16 @@
 //! What is kept of the events so far, step by step.
 
-ghost use Rattle.std.specs.Prelude.{◌≡◌, [], false, IfOk, OnOk, Some, None, replicate, slice_set, slice_index_or};
+ghost use Rattle.std.specs.Prelude.{◌≡◌, ◌<◌, ℕ, [], false, IfOk, OnOk, Some, None, length, slice_set};
 ghost use Rattle.hp_model.specs.Shown.{is_last as is_last_in};
 ghost use Rattle.hp_print.specs.Steps.{asked_after, subs_after, all_insts_after};
 ghost use Rattle.hp_timeline.specs.Spans.{class_of as class_of_answer};
-ghost use Rattle.hp_timeline.specs.Scenes.{IsScene, first_lanes as first_lanes_of, set_out, arrived, lane_at, crossed, is_last_of, is_last_key as is_last_key_of, lanes_after, operation_after, registration_after, sections_after, walking_span, begun_span, reading_span, one_event as one_event_of, ended_in};
+ghost use Rattle.hp_timeline.specs.Scenes.{IsScene, first_lanes as first_lanes_of, set_out, arrived, lane_at, crossed, is_last_of, is_last_key as is_last_key_of, lanes_after, operation_after, registration_after, section_at, section_with, section_after, walking_span, begun_span, reading_span, one_event as one_event_of, ended_in};
 
 use crate::span::{Class, Row, Span};
 use hp_event::{Answer, Event, Head, How};
 use hp_model::is_multi;
 use hp_print::StateTally;
-use hp_states::{Dir, MAX_SEATS, OFFLINE, first_state};
+use hp_states::{Dir, OFFLINE, first_state};
 use std::alloc::{AllocError, Global};
 
 /// A walk in flight: the place of its first event, and where it goes.
@@ -46,7 +46,7 @@ pub struct Scene {
     pub operation: Option<Begun>,
     /// The registration in flight.
     pub registration: Option<Begun>,
-    /// The places where the read sections of the seats begin, each at its number.
+    /// The places where the read sections of the seats begin, each at its number, up to the highest seat that has read.
     pub sections: Vec<Option<u32>>,
 }
 
@@ -64,17 +64,6 @@ fn first_lanes(alloc: Global, possible: u32) -> Result<Vec<Lane>, AllocError>
         })?;
     }
     Ok(lanes)
-}
-
-/// No read section of any seat.
-fn no_sections(alloc: Global) -> Result<Vec<Option<u32>>, AllocError>
-    ensures { IfOk result (λ sections. sections.items ≡ replicate MAX_SEATS None) }
-{
-    let mut sections = Vec::new(alloc);
-    for _ in 0..MAX_SEATS {
-        sections.push(None)?;
-    }
-    Ok(sections)
 }
 
 /// A walk of a processor begins at a place.
@@ -134,13 +123,35 @@ fn is_last_key(states: &StateTally, head: &Head, state: u32, inst: u32) -> bool
     }
 }
 
-/// A section begins at a place, or ends.
-fn put(sections: &mut Vec<Option<u32>>, seat: u32, first: Option<u32>)
-    ensures { sections.new.items ≡ slice_set sections.old.items seat first }
+/// Makes a place for a seat.
+fn reach(sections: &mut Vec<Option<u32>>, seat: u32) -> Result<(), AllocError>
+    ensures same { OnOk result ((k : ℕ) → section_at sections.new.items k ≡ section_at sections.old.items k) }
+    ensures reached { OnOk result (seat < length sections.new.items) }
+{
+    let missing = (seat as usize + 1).saturating_sub(sections.len());
+    for _ in 0..missing {
+        sections.push(None)?;
+    }
+    Ok(())
+}
+
+/// A section begins at a place.
+fn begin_section(sections: &mut Vec<Option<u32>>, seat: u32, place: u32) -> Result<(), AllocError>
+    ensures { OnOk result ((k : ℕ) → section_at sections.new.items k
+        ≡ section_with seat (Some place) sections.old.items k) }
+{
+    reach(sections, seat)?;
+    sections[seat as usize] = Some(place);
+    Ok(())
+}
+
+/// A section ends.
+fn end_section(sections: &mut Vec<Option<u32>>, seat: u32)
+    ensures { (k : ℕ) → section_at sections.new.items k ≡ section_with seat None sections.old.items k }
 {
     let at = seat as usize;
     if at < sections.len() {
-        sections[at] = first;
+        sections[at] = None;
     }
 }
 
@@ -154,7 +165,7 @@ impl Scene {
             states: StateTally::new(alloc)?,
             operation: None,
             registration: None,
-            sections: no_sections(alloc)?,
+            sections: Vec::new(alloc),
         })
     }
 
@@ -184,8 +195,8 @@ impl Scene {
         ensures operation { OnOk result (self.new.operation ≡ operation_after place self.old.operation event.now) }
         ensures registration { OnOk result (self.new.registration
             ≡ registration_after place self.old.registration event.now) }
-        ensures sections { OnOk result (self.new.sections.items
-            ≡ sections_after place self.old.sections.items event.now) }
+        ensures sections { OnOk result ((k : ℕ) → section_at self.new.sections.items k
+            ≡ section_after place self.old.sections.items event.now k) }
         ensures asked { OnOk result (self.new.states.asked ≡ asked_after self.old.states.asked event.now) }
         ensures subs { OnOk result (self.new.states.subs.items
             ≡ subs_after self.old.states.asked self.old.states.subs.items event.now) }
@@ -215,8 +226,8 @@ impl Scene {
                 self.registration = None;
                 self.states.end(answer)?;
             }
-            Event::ReadLock { seat } => put(&mut self.sections, seat, Some(place)),
-            Event::ReadUnlock { seat } => put(&mut self.sections, seat, None),
+            Event::ReadLock { seat } => begin_section(&mut self.sections, seat, place)?,
+            Event::ReadUnlock { seat } => end_section(&mut self.sections, seat),
             _ => {}
         }
         Ok(())
@@ -244,7 +255,7 @@ impl Scene {
 
     /// Where the read section of a seat begins.
     fn section(&self, seat: u32) -> Option<u32>
-        ensures { result ≡ slice_index_or self.now.sections.items seat None }
+        ensures { result ≡ section_at self.now.sections.items seat }
     {
         self.sections.get(seat as usize).copied().unwrap_or(None)
     }
@@ -259,7 +270,7 @@ impl Scene {
     /// The read section of a seat that is in flight, up to a place.
     pub fn going_section(&self, seat: u32, last: u32) -> Option<Span>
         ensures { result
-            ≡ reading_span Class.Going false last seat (slice_index_or self.now.sections.items seat None) }
+            ≡ reading_span Class.Going false last seat (section_at self.now.sections.items seat) }
     {
         span_of_section(Class::Going, false, last, seat, self.section(seat))
     }

@@ -1,9 +1,10 @@
 //! How what lasts is drawn.
 
 ghost use Rattle.std.specs.Prelude.{◌≡◌, ◌+◌, ◌≤◌, ◌++◌, OnOk, slice_get, codes, decimal, vec_len, vec_capacity};
+ghost use Rattle.hp_timeline.specs.Numbers.{AreNumbers};
 ghost use Rattle.hp_text.specs.Appends.{Appends};
 ghost use Rattle.hp_timeline.specs.Sheet.{HasFewClients};
-ghost use Rattle.hp_timeline.specs.Spans.{row_top as row_top_of, row_height, row_word, class_word, numbered, title_text, words_text, label_by, span_from, span_width, box_text, fill_text, span_text};
+ghost use Rattle.hp_timeline.specs.Spans.{row_top as row_top_of, row_height, row_word, class_word, numbered_at, title_text, words_text, label_by, span_from, span_width, box_text, fill_text, span_text};
 
 use crate::sheet::{Sheet, lane_top};
 use crate::span::{Class, Row, Span};
@@ -80,25 +81,37 @@ fn push_class(out: &mut Vec<u8>, class: Class)
 }
 
 /// Appends the line of the event at a place, with its number, where there is one.
-pub fn append_numbered(out: &mut Vec<u8>, events: &[Event], place: u32) -> Result<(), AllocError>
-    ensures { OnOk result (Appends out.old out.new (numbered place (slice_get events.now place))) }
+fn append_numbered(
+    out: &mut Vec<u8>,
+    events: &[Event],
+    numbers: &[u32],
+    place: u32,
+) -> Result<(), AllocError>
+    requires { AreNumbers events.now numbers.now }
+    ensures { OnOk result (Appends out.old out.new (numbered_at events.now place)) }
 {
     let at = place as usize;
     if at < events.len() {
         append_before(out, at + 1, b": ")?;
-        append_event(out, &events[at])?;
+        append_event(out, &events[at], numbers[at])?;
     }
     Ok(())
 }
 
 /// Appends the lines of the first event and, where it is over, of the last.
 #[tactic(auto, unfolding(crate::specs::Spans::title_text))]
-fn append_title(out: &mut Vec<u8>, events: &[Event], span: Span) -> Result<(), AllocError>
+fn append_title(
+    out: &mut Vec<u8>,
+    events: &[Event],
+    numbers: &[u32],
+    span: Span,
+) -> Result<(), AllocError>
+    requires { AreNumbers events.now numbers.now }
     ensures { OnOk result (Appends out.old out.new (title_text events.now span)) }
 {
-    append_numbered(out, events, span.first)?;
+    append_numbered(out, events, numbers, span.first)?;
     if span.is_over && span.first != span.last {
-        append_numbered(out, events, span.last)?;
+        append_numbered(out, events, numbers, span.last)?;
     }
     Ok(())
 }
@@ -172,13 +185,15 @@ pub fn append_span(
     out: &mut Vec<u8>,
     sheet: &Sheet,
     events: &[Event],
+    numbers: &[u32],
     span: Span,
 ) -> Result<(), AllocError>
-    requires { HasFewClients sheet.now }
+    requires few { HasFewClients sheet.now }
+    requires numbers { AreNumbers events.now numbers.now }
     ensures { OnOk result (Appends out.old out.new (span_text sheet.now events.now span)) }
 {
     append_box(out, sheet, span)?;
-    append_title(out, events, span)?;
+    append_title(out, events, numbers, span)?;
     append_fill(out, span)?;
     append_label(out, events, span.first)
 }

@@ -5,6 +5,7 @@ use Rattle.hp_states.specs.declared.limits.TheConstants.{MAX_JOURNAL_BYTES}
 use Rattle.hp_event.specs.declared.head.Head.{Head}
 use Rattle.hp_event.specs.declared.event.Event.{Event}
 use Rattle.hp_edge.specs.Reading.{WasRead}
+use Rattle.hp_event.specs.declared.version.Version.TheVariants.{Two}
 use Rattle.hp_replay.specs.declared.error.ReplayKind.{ReplayKind}
 use Rattle.hp_replay.specs.Judged.{Outcome, accepted, refused}
 use Rattle.hp_replay.specs.Verdict.{IsReplay}
@@ -34,7 +35,7 @@ all_read limit left (Some rest) bytes all held few read = go read.whole
         let whole : length (bytes ++ rest) ≤ limit = rw parts few in
         absurd (omega (arith, more, many, whole))
 
-text_is_short : (bytes : List ℕ) (head : Head) (events : List Event) → IsReplay bytes (accepted head events) → length bytes ≤ MAX_JOURNAL_BYTES
+text_is_short : (bytes : List ℕ) (head : Head) (events : List Event) → IsReplay Two bytes (accepted head events) → length bytes ≤ MAX_JOURNAL_BYTES
 text_is_short bytes head events (inl h) = let e = h.1 in absurd (cc)
 text_is_short bytes head events (inr h) = h.0
 
@@ -46,11 +47,11 @@ same_events one other events others h = cc
 
 -- the outcome of what was read is that of what the source holds
 outcome_is : (asked : Asked) (left now : Option (List ℕ)) (bytes : List ℕ) (o : Outcome) (j : HoldsWindow asked left) →
-    WasRead MAX_JOURNAL_BYTES left now bytes → IsReplay bytes o → accepted j.head j.events ≡ o
+    WasRead MAX_JOURNAL_BYTES left now bytes → IsReplay Two bytes o → accepted j.head j.events ≡ o
 outcome_is asked left now bytes o j read is =
     let few = text_is_short j.bytes j.head j.events j.is_text in
     let same = all_read MAX_JOURNAL_BYTES left now bytes j.bytes j.held few read in
-    one_outcome j.bytes (accepted j.head j.events) o j.is_text (subst (λ (b : List ℕ). IsReplay b o) same is)
+    one_outcome Two j.bytes (accepted j.head j.events) o j.is_text (subst (λ (b : List ℕ). IsReplay Two b o) same is)
 
 pub no_bad_journal : (words : List (List ℕ)) (left now : Option (List ℕ)) (written : List ℕ) → Asks words (λ asked. HoldsWindow asked left) →
     IsBadJournal left now written → ⊥

@@ -5,6 +5,7 @@ use Rattle.hp_states.specs.declared.limits.TheConstants.{MAX_JOURNAL_BYTES}
 use Rattle.hp_event.specs.declared.event.Event.{Event}
 use Rattle.hp_event.specs.declared.head.Head.{Head}
 use Rattle.hp_edge.specs.Reading.{WasRead}
+use Rattle.hp_event.specs.declared.version.Version.TheVariants.{Two}
 use Rattle.hp_replay.specs.Judged.{accepted}
 use Rattle.hp_replay.specs.Verdict.{IsReplay}
 use Rattle.hp_view.specs.declared.asked.Asked.{Asked}
@@ -35,7 +36,7 @@ nothing_asked words words_now left same none = record {
 
 -- a journal that has no such window
 pub no_window : (asked : Asked) (left now : Option (List ℕ)) (bytes : List ℕ) (head : Head) (events : List Event) (n m : ℕ)
-    (written : List ℕ) → WasRead MAX_JOURNAL_BYTES left now bytes → IsReplay bytes (accepted head events) → HasNone asked n →
+    (written : List ℕ) → WasRead MAX_JOURNAL_BYTES left now bytes → IsReplay Two bytes (accepted head events) → HasNone asked n →
     n ≡ length events → written ≡ window_error_line m → m ≡ length events → IsBadWindow asked left now written
 no_window asked left now bytes head events n m written read is none same line many = record {
   bytes = bytes;

@@ -6,6 +6,7 @@ use Rattle.hp_event.specs.declared.event.Event.{Event}
 use Rattle.hp_event.specs.declared.head.Head.{Head}
 use Rattle.hp_edge.specs.Reading.{WasRead}
 use Rattle.hp_edge.specs.Refusals.{journal_error_line}
+use Rattle.hp_event.specs.declared.version.Version.TheVariants.{Two}
 use Rattle.hp_replay.specs.declared.error.ReplayError.TheVariants.{Bad}
 use Rattle.hp_replay.specs.declared.error.ReplayKind.{ReplayKind}
 use Rattle.hp_replay.specs.Judged.{accepted, refused}
@@ -25,7 +26,7 @@ pub record IsShown (asked : Asked) (left now : Option (List ℕ)) (written : Lis
   pub read : WasRead MAX_JOURNAL_BYTES left now bytes
   pub head : Head
   pub events : List Event
-  pub is_text : IsReplay bytes (accepted head events)
+  pub is_text : IsReplay Two bytes (accepted head events)
   pub window : Window
   pub chosen : IsChosen asked (length events) window
   pub written_is : written ≡ picture head events window
@@ -36,7 +37,7 @@ pub record IsBadWindow (asked : Asked) (left now : Option (List ℕ)) (written :
   pub read : WasRead MAX_JOURNAL_BYTES left now bytes
   pub head : Head
   pub events : List Event
-  pub is_text : IsReplay bytes (accepted head events)
+  pub is_text : IsReplay Two bytes (accepted head events)
   pub none : HasNone asked (length events)
   pub written_is : written ≡ window_error_line (length events)
 
@@ -46,7 +47,7 @@ pub record IsBadJournal (left now : Option (List ℕ)) (written : List ℕ) : Ty
   pub read : WasRead MAX_JOURNAL_BYTES left now bytes
   pub line : ℕ
   pub kind : ReplayKind
-  pub refused_is : IsReplay bytes (refused line kind)
+  pub refused_is : IsReplay Two bytes (refused line kind)
   pub written_is : written ≡ journal_error_line (Bad line kind)
 
 -- the source holds a journal that has the window
@@ -55,7 +56,7 @@ pub record HoldsWindow (asked : Asked) (left : Option (List ℕ)) : Type 0 where
   pub head : Head
   pub events : List Event
   pub held : left ≡ Some bytes
-  pub is_text : IsReplay bytes (accepted head events)
+  pub is_text : IsReplay Two bytes (accepted head events)
   pub window : Window
   pub chosen : IsChosen asked (length events) window
 

@@ -3,7 +3,7 @@
 use crate::caller::{ample_sink, run_with, source_of};
 use std::test::*;
 
-const NO_EVENTS: &[u8] = b"cpuhp journal 1\ncpus 1\nabsent -\nevents\nend 0\n";
+const NO_EVENTS: &[u8] = b"cpuhp journal 2\ncpus 1\nabsent -\nevents\nend 0\n";
 
 #[test]
 fn a_failing_read_is_told(rt: HostRuntime) -> Result<(), Fail> {

@@ -32,14 +32,14 @@ fn one_operation(rt: HostRuntime) -> Result<(), Fail> {
         &rt,
         alloc,
         &[],
-        "cpuhp journal 1\ncpus 1\nabsent -\nevents\nadmit 0 ap 0\nadmit 1 client\nshown 1 state 0 200\nend 3\n",
+        "cpuhp journal 2\ncpus 1\nabsent -\nevents\nadmit 0 ap 0\nadmit 1 client\nshown 1 1 state 0 200\nend 3\n",
         "<svg xmlns='http://www.w3.org/2000/svg' width='900' height='210' viewBox='0 0 2700 630' ",
         "<g transform='translate(0 180)'><path class='box' d='M450 0h108v220H450z'/>\
 <path class='half' d='M450 109h108'/><text class='end' x='348' y='120'>cpu 0</text>\
 <text class='small' x='372' y='21'>200</text><text class='small' x='372' y='119'>101</text>\
 <text class='small' x='402' y='217'>0</text></g>
 <text class='end' x='348' y='483'>seat 1</text>
-<svg x='525' y='432' width='30' height='78'><title>3: shown 1 state 0 200
+<svg x='525' y='432' width='30' height='78'><title>3: shown 1 1 state 0 200
 </title><rect class='bar ok' width='100%' height='100%'/></svg>
 <path class='track' d='M450 190H558'/>
 </svg>
@@ -48,7 +48,7 @@ fn one_operation(rt: HostRuntime) -> Result<(), Fail> {
 }
 
 /// A walk that is turned back at 160, and one that ends well.
-const ROLLBACK: &str = "cpuhp journal 1\n\
+const ROLLBACK: &str = "cpuhp journal 2\n\
     cpus 2\n\
     absent -\n\
     sub mm:pages both single\n\
@@ -59,16 +59,16 @@ const ROLLBACK: &str = "cpuhp journal 1\n\
     admit 0 ap 0\n\
     admit 1 ap 1\n\
     admit 2 client\n\
-    reg 2 20 setup 20 1\n\
+    reg 2 1 20 setup 20 1\n\
     call 2 0 20 0 up ok\n\
-    regged 2 ok 0\n\
-    reg 2 130 setup 130 2\n\
+    regged 2 1 ok 0\n\
+    reg 2 2 130 setup 130 2\n\
     call 0 0 130 0 up ok\n\
-    regged 2 ok 0\n\
-    reg 2 160 setup 160 3\n\
+    regged 2 2 ok 0\n\
+    reg 2 3 160 setup 160 3\n\
     call 0 0 160 0 up ok\n\
-    regged 2 ok 0\n\
-    enter 2 up 1\n\
+    regged 2 3 ok 0\n\
+    enter 2 4 up 1\n\
     walk 2 1 0 200\n\
     call 2 1 20 0 up ok\n\
     call 1 1 130 0 up ok\n\
@@ -76,14 +76,14 @@ const ROLLBACK: &str = "cpuhp journal 1\n\
     call 1 1 130 0 down ok\n\
     call 2 1 20 0 down ok\n\
     walked 2 1 fault 12\n\
-    done 2 fault 12\n\
-    enter 2 up 1\n\
+    done 2 4 fault 12\n\
+    enter 2 5 up 1\n\
     walk 2 1 0 200\n\
     call 2 1 20 0 up ok\n\
     call 1 1 130 0 up ok\n\
     call 1 1 160 0 up ok\n\
     walked 2 1 ok\n\
-    done 2 ok 0\n\
+    done 2 5 ok 0\n\
     end 28\n";
 
 #[test]
@@ -98,7 +98,7 @@ fn two_events_of_a_rollback(rt: HostRuntime) -> Result<(), Fail> {
         "<text class='end' x='348' y='723'>seat 2</text>
 <svg x='453' y='420' width='66' height='220'><title>14: walk 2 1 0 200
 </title><rect class='walk going' width='100%' height='100%'/></svg>
-<svg x='453' y='672' width='66' height='78'><title>13: enter 2 up 1
+<svg x='453' y='672' width='66' height='78'><title>13: enter 2 4 up 1
 </title><rect class='bar going' width='100%' height='100%'/><text x='9' y='51'> up 1</text></svg>
 <path class='track' d='M450 190H522'/>
 <path class='track' d='M450 500H504V501H522'/>

@@ -7,8 +7,8 @@ use std::process::Abort;
 use std::test::*;
 
 /// A journal of three events.
-const THREE: &str = "cpuhp journal 1\ncpus 1\nabsent -\nevents\nadmit 0 ap 0\nadmit 1 client\n\
-    shown 1 state 0 200\nend 3\n";
+const THREE: &str = "cpuhp journal 2\ncpus 1\nabsent -\nevents\nadmit 0 ap 0\nadmit 1 client\n\
+    shown 1 1 state 0 200\nend 3\n";
 
 /// The words, what is read, and what is to come of it.
 #[derive(Clone, Copy)]
@@ -109,9 +109,9 @@ fn other_journals(rt: HostRuntime) -> Result<(), Fail> {
         alloc,
         &[
             bad_journal("", "error: line 1: missing\n"),
-            bad_journal("cpuhp journal 2\n", "error: line 1: header\n"),
+            bad_journal("cpuhp journal 1\n", "error: line 1: header\n"),
             bad_journal(
-                "cpuhp journal 1\ncpus 1\nabsent -\nevents\nadmit 1 client\n",
+                "cpuhp journal 2\ncpus 1\nabsent -\nevents\nadmit 1 client\n",
                 "error: line 5: unlawful\n",
             ),
         ],

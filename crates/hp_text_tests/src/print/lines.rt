@@ -1,5 +1,5 @@
 //! A line of each kind of event, each operation, each way an entry is made, each answer and each file
-//! shown.
+//! shown, with the number of an operation where the event is one's.
 
 use hp_event::{Answer, Event, File, Form, How, Op, Role};
 use hp_print::{event_line, has_line};
@@ -8,12 +8,26 @@ use std::alloc::Global;
 use std::process::Abort;
 use std::test::Fail;
 
-/// Compares the line of an event.
-fn check(rt: &impl Abort, alloc: Global, event: Event, wanted: &str) -> Result<(), Fail> {
+/// The number of an operation, which lines of events of none don't have.
+const NUMBER: u32 = 8;
+
+/// Compares the line of an event, with the number of its operation where it is one's.
+fn check_numbered(
+    rt: &impl Abort,
+    alloc: Global,
+    event: Event,
+    number: u32,
+    wanted: &str,
+) -> Result<(), Fail> {
     assert!(rt; has_line(&event), "{wanted:?}");
-    let line = event_line(alloc, &event)?;
+    let line = event_line(alloc, &event, number)?;
     assert!(rt; line.as_slice() == wanted.as_bytes(), "{wanted:?}");
     Ok(())
+}
+
+/// Compares the line of an event, with that number.
+fn check(rt: &impl Abort, alloc: Global, event: Event, wanted: &str) -> Result<(), Fail> {
+    check_numbered(rt, alloc, event, NUMBER, wanted)
 }
 
 /// The words of a refused operation, as a script has it.
@@ -45,16 +59,16 @@ const OF_SEATS: [(Event, &'static str); 9] = [
         },
         "admit 4 client\n",
     ),
-    (Event::Leave { seat: 95 }, "leave 95\n"),
-    (Event::ReadLock { seat: 0 }, "lock 0\n"),
-    (Event::ReadUnlock { seat: 10 }, "unlock 10\n"),
-    (Event::Wakeup { seat: 6 }, "wakeup 6\n"),
+    (Event::Leave { seat: 319 }, "leave 319\n"),
+    (Event::ReadLock { seat: 0 }, "lock 0 8\n"),
+    (Event::ReadUnlock { seat: 10 }, "unlock 10 8\n"),
+    (Event::Wakeup { seat: 6 }, "wakeup 6 8\n"),
     (
         Event::Enter {
             seat: 3,
             op: Op::Thaw,
         },
-        "enter 3 thaw\n",
+        "enter 3 8 thaw\n",
     ),
     (
         Event::Armed {
@@ -62,15 +76,15 @@ const OF_SEATS: [(Event, &'static str); 9] = [
             cpu: 2,
             value: -1,
         },
-        "armed 5 2 -1\n",
+        "armed 5 8 2 -1\n",
     ),
     (
         Event::Armed {
             seat: 5,
-            cpu: 63,
+            cpu: 255,
             value: 141,
         },
-        "armed 5 63 141\n",
+        "armed 5 8 255 141\n",
     ),
 ];
 
@@ -82,13 +96,32 @@ fn a_line_of_each_seat_event(rt: HostRuntime) -> Result<(), Fail> {
     Ok(())
 }
 
+/// Numbers of operations, and lines that have them.
+const NUMBERS: [(u32, &'static str); 4] = [
+    (0, "unlock 10 0\n"),
+    (1, "unlock 10 1\n"),
+    (1048576, "unlock 10 1048576\n"),
+    (4294967295, "unlock 10 4294967295\n"),
+];
+
+#[test]
+fn a_line_with_any_number_of_an_operation(rt: HostRuntime) -> Result<(), Fail> {
+    for &(number, wanted) in NUMBERS.iter() {
+        let unlock = Event::ReadUnlock { seat: 10 };
+        check_numbered(&rt, rt.alloc(), unlock, number, wanted)?;
+        let leave = Event::Leave { seat: 10 };
+        check_numbered(&rt, rt.alloc(), leave, number, "leave 10\n")?;
+    }
+    Ok(())
+}
+
 #[test]
 fn a_line_of_each_file_shown(rt: HostRuntime) -> Result<(), Fail> {
     for &(file, cpu, value, wanted) in [
-        (File::State, 1, 200, "shown 5 state 1 200\n"),
-        (File::Target, 10, 0, "shown 5 target 10 0\n"),
-        (File::Fail, 2, -1, "shown 5 fail 2 -1\n"),
-        (File::States, 0, 12, "shown 5 states 12\n"),
+        (File::State, 1, 200, "shown 5 8 state 1 200\n"),
+        (File::Target, 10, 0, "shown 5 8 target 10 0\n"),
+        (File::Fail, 2, -1, "shown 5 8 fail 2 -1\n"),
+        (File::States, 0, 12, "shown 5 8 states 12\n"),
     ]
     .iter()
     {
@@ -125,23 +158,23 @@ const BOTH: Form = Form {
 
 /// Operations that are refused, and the lines of that.
 const OF_OPERATIONS: [(Op, &'static str); 25] = [
-    (Op::Up(0), "refused 3 22 up 0\n"),
-    (Op::Down(4095), "refused 3 22 down 4095\n"),
-    (Op::Target(1, 140), "refused 3 22 target 1 140\n"),
-    (Op::Target(4095, -7), "refused 3 22 target 4095 -7\n"),
-    (Op::Arm(2, 120), "refused 3 22 fail 2 120\n"),
-    (Op::Arm(2, -1), "refused 3 22 fail 2 -1\n"),
-    (Op::ShowState(9), "refused 3 22 show state 9\n"),
-    (Op::ShowTarget(10), "refused 3 22 show target 10\n"),
-    (Op::ShowFail(99), "refused 3 22 show fail 99\n"),
-    (Op::ShowStates, "refused 3 22 show states\n"),
+    (Op::Up(0), "refused 3 8 22 up 0\n"),
+    (Op::Down(4095), "refused 3 8 22 down 4095\n"),
+    (Op::Target(1, 140), "refused 3 8 22 target 1 140\n"),
+    (Op::Target(4095, -7), "refused 3 8 22 target 4095 -7\n"),
+    (Op::Arm(2, 120), "refused 3 8 22 fail 2 120\n"),
+    (Op::Arm(2, -1), "refused 3 8 22 fail 2 -1\n"),
+    (Op::ShowState(9), "refused 3 8 22 show state 9\n"),
+    (Op::ShowTarget(10), "refused 3 8 22 show target 10\n"),
+    (Op::ShowFail(99), "refused 3 8 22 show fail 99\n"),
+    (Op::ShowStates, "refused 3 8 22 show states\n"),
     (
         Op::Setup {
             state: 141,
             sub: 128,
             form: PLAIN,
         },
-        "refused 3 22 setup 141 128\n",
+        "refused 3 8 22 setup 141 128\n",
     ),
     (
         Op::Setup {
@@ -149,21 +182,21 @@ const OF_OPERATIONS: [(Op, &'static str); 25] = [
             sub: 1,
             form: NOCALLS,
         },
-        "refused 3 22 setup 65535 1 nocalls\n",
+        "refused 3 8 22 setup 65535 1 nocalls\n",
     ),
     (
         Op::Remove {
             state: 100,
             form: PLAIN,
         },
-        "refused 3 22 remove 100\n",
+        "refused 3 8 22 remove 100\n",
     ),
     (
         Op::Remove {
             state: 100,
             form: LOCKED,
         },
-        "refused 3 22 remove 100 locked\n",
+        "refused 3 8 22 remove 100 locked\n",
     ),
     (
         Op::Add {
@@ -171,7 +204,7 @@ const OF_OPERATIONS: [(Op, &'static str); 25] = [
             inst: 65535,
             form: BOTH,
         },
-        "refused 3 22 add 41 65535 nocalls locked\n",
+        "refused 3 8 22 add 41 65535 nocalls locked\n",
     ),
     (
         Op::Del {
@@ -179,17 +212,17 @@ const OF_OPERATIONS: [(Op, &'static str); 25] = [
             inst: 1,
             form: PLAIN,
         },
-        "refused 3 22 del 41 1\n",
+        "refused 3 8 22 del 41 1\n",
     ),
-    (Op::Lock, "refused 3 22 lock\n"),
-    (Op::Unlock, "refused 3 22 unlock\n"),
-    (Op::Boot(4), "refused 3 22 boot 4\n"),
-    (Op::Disable, "refused 3 22 disable\n"),
-    (Op::Enable, "refused 3 22 enable\n"),
-    (Op::Freeze(-1), "refused 3 22 freeze -1\n"),
-    (Op::Freeze(63), "refused 3 22 freeze 63\n"),
-    (Op::Thaw, "refused 3 22 thaw\n"),
-    (Op::Wakeup, "refused 3 22 wakeup\n"),
+    (Op::Lock, "refused 3 8 22 lock\n"),
+    (Op::Unlock, "refused 3 8 22 unlock\n"),
+    (Op::Boot(4), "refused 3 8 22 boot 4\n"),
+    (Op::Disable, "refused 3 8 22 disable\n"),
+    (Op::Enable, "refused 3 8 22 enable\n"),
+    (Op::Freeze(-1), "refused 3 8 22 freeze -1\n"),
+    (Op::Freeze(255), "refused 3 8 22 freeze 255\n"),
+    (Op::Thaw, "refused 3 8 22 thaw\n"),
+    (Op::Wakeup, "refused 3 8 22 wakeup\n"),
 ];
 
 #[test]
@@ -203,13 +236,13 @@ fn a_line_of_each_operation(rt: HostRuntime) -> Result<(), Fail> {
 #[test]
 fn a_line_of_an_upmany_lists_its_processors(rt: HostRuntime) -> Result<(), Fail> {
     for &(words, wanted) in [
-        ([1, 0, 0, 0], "refused 3 22 upmany 0\n"),
-        ([0b1010_0110, 0, 0, 0], "refused 3 22 upmany 1 2 5 7\n"),
-        ([1 << 63, 1, 0, 0], "refused 3 22 upmany 63 64\n"),
-        ([0, 0, 0, 1 << 63], "refused 3 22 upmany 255\n"),
+        ([1, 0, 0, 0], "refused 3 8 22 upmany 0\n"),
+        ([0b1010_0110, 0, 0, 0], "refused 3 8 22 upmany 1 2 5 7\n"),
+        ([1 << 63, 1, 0, 0], "refused 3 8 22 upmany 63 64\n"),
+        ([0, 0, 0, 1 << 63], "refused 3 8 22 upmany 255\n"),
         (
             [1 << 9, 1 << 36, 3, 1 << 8],
-            "refused 3 22 upmany 9 100 128 129 200\n",
+            "refused 3 8 22 upmany 9 100 128 129 200\n",
         ),
     ]
     .iter()
@@ -231,7 +264,7 @@ fn a_line_of_an_upmany_lists_its_processors(rt: HostRuntime) -> Result<(), Fail>
         seat: 3,
         op: Op::UpMany(set),
     };
-    check(&rt, rt.alloc(), enter, "enter 3 upmany 3 12\n")
+    check(&rt, rt.alloc(), enter, "enter 3 8 upmany 3 12\n")
 }
 
 #[test]
@@ -242,12 +275,12 @@ fn a_line_of_each_answer(rt: HostRuntime) -> Result<(), Fail> {
         at: 120,
     };
     for &(answer, wanted) in [
-        (Answer::Ok(0), "done 3 ok 0\n"),
-        (Answer::Ok(-1), "done 3 ok -1\n"),
-        (Answer::Refused(16), "done 3 refused 16\n"),
-        (Answer::Fault(4095), "done 3 fault 4095\n"),
-        (stuck, "done 3 stuck 5 11 120\n"),
-        (Answer::LogFull, "done 3 full\n"),
+        (Answer::Ok(0), "done 3 8 ok 0\n"),
+        (Answer::Ok(-1), "done 3 8 ok -1\n"),
+        (Answer::Refused(16), "done 3 8 refused 16\n"),
+        (Answer::Fault(4095), "done 3 8 fault 4095\n"),
+        (stuck, "done 3 8 stuck 5 11 120\n"),
+        (Answer::LogFull, "done 3 8 full\n"),
     ]
     .iter()
     {
@@ -281,10 +314,10 @@ fn a_line_of_each_registration_event(rt: HostRuntime) -> Result<(), Fail> {
             form: LOCKED,
         },
     };
-    check(&rt, rt.alloc(), begin, "reg 3 142 setup 141 2 locked\n")?;
+    check(&rt, rt.alloc(), begin, "reg 3 8 142 setup 141 2 locked\n")?;
     for &(answer, wanted) in [
-        (Answer::Ok(142), "regged 3 ok 142\n"),
-        (Answer::Fault(4095), "regged 3 fault 4095\n"),
+        (Answer::Ok(142), "regged 3 8 ok 142\n"),
+        (Answer::Fault(4095), "regged 3 8 fault 4095\n"),
     ]
     .iter()
     {

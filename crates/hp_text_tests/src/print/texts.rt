@@ -198,7 +198,7 @@ fn reports_of_what_is_in_flight(rt: HostRuntime) -> Result<(), Fail> {
 
 /// A journal without events, of which two processors are absent, and its summary.
 const EMPTY: &str = "\
-cpuhp journal 1
+cpuhp journal 2
 cpus 4
 absent 1 3
 sub - both multi

@@ -96,7 +96,7 @@ const REFUSED: [Row; 76] = [
     ("cpus\n", 2, 1, ScriptKind::BadForm),
     ("cpus 1 2\n", 2, 1, ScriptKind::BadForm),
     ("cpus 0\n", 2, 1, ScriptKind::BadNumber),
-    ("cpus 65\n", 2, 1, ScriptKind::BadNumber),
+    ("cpus 257\n", 2, 1, ScriptKind::BadNumber),
     (
         "cpus 99999999999999999999999999\n",
         2,
@@ -143,7 +143,7 @@ const REFUSED: [Row; 76] = [
     ("cpus 1\nschedule\n", 2, 2, ScriptKind::BadForm),
     ("cpus 1\nschedule turns\n", 2, 2, ScriptKind::BadForm),
     (
-        "cpus 1\nschedule turns 95 96\n",
+        "cpus 1\nschedule turns 319 320\n",
         2,
         2,
         ScriptKind::BadNumber,

@@ -197,6 +197,14 @@ const RULES: [Rule; 2] = [
 const ACTORS: [&'static [Op]; 3] = [&[Op::Lock, Op::Lock, Op::Unlock], &[], &[Op::Up(1)]];
 
 #[test]
+fn as_many_processors_as_there_may_be(rt: HostRuntime) -> Result<(), Fail> {
+    let script = parse(rt.alloc(), b"cpus 256\nabsent 255\nactor a", 0)?;
+    assert!(rt; script.head().possible == 256);
+    assert!(rt; script.head().absent.as_slice() == [255].as_slice());
+    Ok(())
+}
+
+#[test]
 fn whole(rt: HostRuntime) -> Result<(), Fail> {
     let script = parse(rt.alloc(), WHOLE, 0)?;
     assert!(rt; script.head().possible == 8);
@@ -274,8 +282,8 @@ fn numbers(script: &Script) -> Option<(&[u32], Option<(u64, u32)>)> {
 fn schedules(rt: HostRuntime) -> Result<(), Fail> {
     let script = parse(rt.alloc(), WHOLE, 0)?;
     assert!(rt; numbers(&script) == Some((&[], Some((u64::MAX, 1_000_000)))));
-    let script = parse(rt.alloc(), b"cpus 1\nschedule turns 95 0 95\nactor a", 0)?;
-    assert!(rt; numbers(&script) == Some((&[95, 0, 95], None)));
+    let script = parse(rt.alloc(), b"cpus 1\nschedule turns 319 0 319\nactor a", 0)?;
+    assert!(rt; numbers(&script) == Some((&[319, 0, 319], None)));
     let script = parse(rt.alloc(), b"cpus 1\nactor a", 0)?;
     assert!(rt; numbers(&script).is_none());
     Ok(())

@@ -66,7 +66,7 @@ returns-in-Err-BadJournal-clause-write_fault g c = λ e.
             record {
               command = c.in-Ok-Some.command;
               asked = subst (λ z. IsCommand z c.in-Ok-Some.command) (ap (map string_bytes) c.deref.ensures.value) asked;
-              is = (stop.0, stop.1);
+              is = stop.0;
             },
             kept,
           ) c.deref-in-Err-BadJournal.ensures.value f.0 f.1 f.2,
@@ -95,4 +95,4 @@ returns-in-Err-BadJournal-clause-accepted g c = λ has source_faults sink_faults
     absurd
     (no_journal_refusal (map string_bytes c.args.words.now.items) c.in-Ok-Some.command (length c.args.rack.now.hooks.items)
     (g.S.Source.left c.args.source.now) (g.S.Source.left c.output_of.new.source) c.in-Err-BadJournal.line.items has
-    (subst (λ z. IsCommand z c.in-Ok-Some.command) (ap (map string_bytes) c.deref.ensures.value) asked) stop.0 stop.1)
+    (subst (λ z. IsCommand z c.in-Ok-Some.command) (ap (map string_bytes) c.deref.ensures.value) asked) stop.0)

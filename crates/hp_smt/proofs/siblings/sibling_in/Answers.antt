@@ -1,11 +1,19 @@
-use Rattle.std.proofs.Common.{sym, ◌∙◌, arith}
-use Rattle.hp_smt.proofs.Sets.{sibling_found, sibling_lacking}
+use Rattle.std.proofs.Common.{sym, ◌∙◌}
+use Rattle.hp_states.specs.declared.limits.TheConstants.{MAX_CPU_SET}
+use Rattle.hp_smt.proofs.Sets.{sibling_found, sibling_lacking, sibling_past}
 use Rattle.hp_smt.proofs.siblings.sibling_in.Goals as goal
 
-pub returns-then-has_sibling : goal.returns-then-has_sibling
-returns-then-has_sibling c =
-    sibling_found c.args.threads c.args.set.now c.loop-cpu.cpu (sym c.has_sibling.ensures ∙ c.if-has_sibling.true) (omega arith)
-    c.loop-cpu.invariant
+pub returns-then-is_sibling : goal.returns-then-is_sibling
+returns-then-is_sibling c =
+    let n = c.args.threads in
+    let set = c.args.set.now in
+    let least = c.in-Some.ensures.some in
+    sibling_found n set c.in-Some.cpu (rw (least.is_in) (sym c.is_sibling.ensures ∙ c.if-is_sibling.true)) least.within
+    (sibling_past n set c.loop-cpu.from c.in-Some.cpu c.loop-cpu.invariant least.none_below)
 
 pub returns : goal.returns
-returns c = sibling_lacking c.args.threads c.args.set.now (λ d below. c.loop-cpu.invariant d (omega (arith, below)))
+returns c =
+    let n = c.args.threads in
+    let set = c.args.set.now in
+    sibling_lacking n set
+    (sibling_past n set c.loop-cpu.from MAX_CPU_SET c.loop-cpu.invariant (λ d at below. c.in_default.ensures.none d at))

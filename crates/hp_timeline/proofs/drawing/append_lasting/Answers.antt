@@ -28,8 +28,8 @@ returns c =
     on_ok_so c.append_tracks.result _ _
     (λ made.
     lasting c.args.head.now c.args.events.now c.args.sheet.now.window c.args.sheet.now c.loop-place.scene c.deref.result.now
-    c.args.out.now.items c.loop-place.out.items c.append_going.new.out.items c.append_tracks.new.out.items c.requires.lawful
+    c.args.out.now.items c.loop-place.out.items c.append_going.new.out.items c.append_tracks.new.out.items
     c.requires.sheet (rw all at c.loop-place.invariant.scene)
     (rw c.deref.ensures.value (rw all at c.loop-place.invariant.tracks)) (rw all at c.loop-place.invariant.drawn)
-    (rw c.saturating_sub.ensures at c.in_ok-append_going.ensures) made)
+    (rw c.saturating_sub-last.ensures at c.in_ok-append_going.ensures) made)
     c.append_tracks.ensures

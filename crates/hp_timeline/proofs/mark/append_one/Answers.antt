@@ -12,3 +12,6 @@ returns-then-is_short c =
     (ran_is c.args.window c.args.events.now c.args.mark c.args.seat c.args.inst _ _ c.middle.ensures.value c.height.ensures.value c.in-RanOk.is
     c.requires))
     c.append_ran.ensures
+
+pub append_entry-requires : goal.append_entry-requires
+append_entry-requires c = record { seat = c.args.seat; inst = c.args.inst; event = c.requires }

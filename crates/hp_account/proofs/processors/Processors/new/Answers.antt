@@ -7,7 +7,7 @@ use Rattle.hp_account.proofs.processors.Processors.new.Goals as goal
 pub invariant_of-result : goal.invariant_of-result
 invariant_of-result c =
     let h = c.requires in
-    rw (c.in_ok-settled.ensures, c.in_ok-online.ensures) (sound_none c.args.head.now.possible h.some_possible h.few_possible)
+    rw (c.in_ok-settled.ensures, c.in_ok-online.ensures) (sound_none c.args.head.now.possible c.first_alone.result h.some_possible h.few_possible c.first_alone.ensures)
 
 pub returns : goal.returns
 returns c =

@@ -1,7 +1,7 @@
 use Rattle.std.proofs.Common.{◌≡◌, ◌≤◌, List, ap, length, take, length-take-le, arith}
 use Rattle.hp_event.specs.declared.event.Event.{Event}
 use Rattle.hp_timeline.specs.Sheet.{clients}
-use Rattle.hp_timeline.proofs.SeatsKept.{clients_many}
+use Rattle.hp_timeline.proofs.Clients.{clients_many}
 use Rattle.hp_timeline.proofs.Events.{length_take}
 use Rattle.hp_timeline.proofs.sheet.Sheet.new.Goals as goal
 
