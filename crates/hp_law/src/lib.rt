@@ -9,7 +9,7 @@
 //! grow with the journal. No hook of anybody else's is called.
 //!
 //! Journals that are lawful, and refused with one line changed, are texts in `hp_replay_tests`; heads, full
-//! journals, and what no text can say are tested in `hp_machine_tests`.
+//! journals, and what no text can say are tested in `hp_law_tests`.
 #![tactic(auto)]
 
 mod asked;

@@ -6,7 +6,7 @@ ghost use Rattle.hp_live.specs.Known.{IsOf};
 
 use crate::asking::{Asking, begins};
 use crate::client::{Client, admitted};
-use crate::heads::{head, started};
+use crate::heads::{closed, head, started};
 use crate::jobs::serves;
 use hp_board::Turn;
 use hp_event::{Form, Head, Op};
@@ -190,9 +190,8 @@ fn a_batch_waits_for_a_hook_that_is_lent(rt: HostRuntime) -> Result<(), Fail> {
     let head = head(rt.alloc(), 3, 2)?;
     let (machine, mut root) = started::<ScriptHook>(rt.alloc(), &head)?;
     goes(&rt, &machine, &head, &mut root);
-    let board = machine.close(&rt, root);
-    assert!(rt; board.clients() == 0 && board.is_home());
+    let journal = closed(&rt, rt.alloc(), machine, root);
     // up to the batch's end 21 events, then 2 of the other client, and five seats leave
-    assert!(rt; board.journal().len() == 28);
+    assert!(rt; journal.len() == 28);
     Ok(())
 }

@@ -2,8 +2,8 @@
 
 use crate::asking::begins;
 use crate::client::Client;
-use crate::heads::{head, started};
-use crate::jobs::{Part, all_done, of_client, of_threads};
+use crate::heads::{closed, head, started};
+use crate::jobs::{Part, add, all_done, of_client, of_threads};
 use hp_event::{Answer, Op};
 use hp_hook::{Hook, ScriptHook};
 use hp_live::{FreeGate, Gate};
@@ -36,11 +36,11 @@ fn calls_are_answered_over_threads(rt: HostRuntime) -> Result<(), Fail> {
     let (machine, mut root) = started::<ScriptHook>(rt.alloc(), &head)?;
     let mut jobs = of_threads(&rt, rt.alloc(), &machine, &mut root, 2);
     let hook = Some(ScriptHook::new());
-    jobs.push(of_client(&rt, &machine, &head, &mut root, Part::Calls, hook))?;
+    let calls = of_client(&rt, &machine, &head, &mut root, Part::Calls, hook);
+    add(&rt, &mut jobs, calls);
     assert!(rt; all_done(&rt, &FreeGate, jobs));
-    let board = machine.close(&rt, root);
-    assert!(rt; board.clients() == 0 && board.is_home());
+    let journal = closed(&rt, rt.alloc(), machine, root);
     // three seats come in and leave; an up has 4 events, the section 6, the refusal and the file one each
-    assert!(rt; board.journal().len() == 18);
+    assert!(rt; journal.len() == 18);
     Ok(())
 }

@@ -1,7 +1,7 @@
 //! Each operation by its name, of one client alone.
 
 use crate::client::{Client, admitted};
-use crate::heads::{head, started, sub};
+use crate::heads::{closed, head, started, sub};
 use hp_event::{Answer, File};
 use hp_hook::{Hook, ScriptHook};
 use hp_live::{Done, FreeGate, HookBack};
@@ -125,7 +125,6 @@ fn each_form_is_answered(rt: HostRuntime) -> Result<(), Fail> {
     assert!(rt; has_instance(&rt, &mut client));
     assert!(rt; removes(&rt, &mut client));
     client.leaves(&rt, &FreeGate);
-    let board = machine.close(&rt, root);
-    assert!(rt; board.clients() == 0 && board.is_home());
+    closed(&rt, rt.alloc(), machine, root);
     Ok(())
 }

@@ -4,12 +4,14 @@ ghost use Rattle.std.specs.Prelude.{◌≡◌, IfOk};
 ghost use Rattle.hp_live.specs.Known.{IsOf};
 
 use hp_board::CpuPlan;
-use hp_event::{Head, Name, Numbers, Sub, Subs};
-use hp_hook::Hook;
+use hp_event::{Head, Journal, Name, Numbers, Sub, Subs};
+use hp_hook::{Hook, Rack};
 use hp_law::is_head;
 use hp_live::{Hotplug, Root};
 use hp_states::HookPlan;
 use std::alloc::Global;
+use std::process::Abort;
+use std::sync::Wait;
 use std::test::Fail;
 
 /// So many processors, and this many subsystems with both callbacks and single states.
@@ -54,4 +56,27 @@ pub(crate) fn started<H: Hook + Send>(
     } = head.copy()?;
     let plan = CpuPlan { possible, absent };
     Ok(Hotplug::start(alloc, plan, subs)?)
+}
+
+/// The journal of a machine that ends: all clients have left, and nothing is lent.
+pub(crate) fn closed<H: Hook + Send>(
+    rt: &(impl Wait + Abort),
+    alloc: Global,
+    machine: Hotplug<H>,
+    root: Root<H>,
+) -> Journal
+    requires { IsOf machine root.lock }
+{
+    let board = machine.close(rt, root);
+    assert!(rt; board.clients() == 0);
+    if !board.is_home() {
+        panic!(rt; "nothing is lent");
+    }
+    let mut rack = Rack {
+        hooks: Vec::new(alloc),
+    };
+    match board.retire(&mut rack) {
+        Ok(journal) => journal,
+        Err(_) => panic!(rt; "memory for the hooks"),
+    }
 }

@@ -1,9 +1,9 @@
 //! A hook is called outside the lock: while it waits in its call another client is answered.
 
 use crate::client::Client;
-use crate::heads::{head, started};
+use crate::heads::{closed, head, started};
 use crate::hooks::{Marks, Waiting, Watch};
-use crate::jobs::{Part, all_done, of_client, of_threads};
+use crate::jobs::{Part, add, all_done, of_client, of_threads};
 use hp_event::{Answer, Form, Op};
 use hp_hook::{Hook, ScriptHook};
 use hp_live::Gate;
@@ -54,15 +54,16 @@ fn a_file_is_shown_while_a_hook_is_called(rt: HostRuntime) -> Result<(), Fail> {
     let head = head(rt.alloc(), 2, 1)?;
     let (machine, mut root) = started::<Waiting>(rt.alloc(), &head)?;
     let mut jobs = of_threads(&rt, rt.alloc(), &machine, &mut root, 2);
-    jobs.push(of_client(&rt, &machine, &head, &mut root, Part::SetsUp, Some(hook)))?;
-    jobs.push(of_client(&rt, &machine, &head, &mut root, Part::Shows, None))?;
+    let sets_up = of_client(&rt, &machine, &head, &mut root, Part::SetsUp, Some(hook));
+    add(&rt, &mut jobs, sets_up);
+    let shows = of_client(&rt, &machine, &head, &mut root, Part::Shows, None);
+    add(&rt, &mut jobs, shows);
     assert!(rt; all_done(&rt, &gate, jobs));
     assert!(rt; marks.begun.load(Ordering::SeqCst) == 1);
     assert!(rt;
         marks.gave_up.load(Ordering::SeqCst) == 0,
         "one of them gave up"
     );
-    let board = machine.close(&rt, root);
-    assert!(rt; board.clients() == 0 && board.is_home());
+    closed(&rt, rt.alloc(), machine, root);
     Ok(())
 }

@@ -121,11 +121,18 @@ pub(crate) fn of_threads<'m, H: Hook + Send>(
     let mut jobs = Vec::new(alloc);
     for cpu in 0..cpus {
         let job = of_thread(rt, machine, root, cpu);
-        if jobs.push(job).is_err() {
-            panic!(rt; "memory for the job of processor {cpu}")
-        }
+        add(rt, &mut jobs, job);
     }
     jobs
+}
+
+/// One job more.
+pub(crate) fn add<'m, H: Hook + Send>(
+    rt: &impl Abort,
+    jobs: &mut Vec<Job<'m, H>>,
+    job: Job<'m, H>,
+) {
+    assert!(rt; jobs.push(job).is_ok(), "memory for a job");
 }
 
 /// The entries of a processor's thread, and its leave.

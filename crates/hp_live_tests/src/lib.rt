@@ -29,6 +29,4 @@ mod jobs;
 #[cfg(test)]
 mod many;
 #[cfg(test)]
-mod one;
-#[cfg(test)]
 mod two;

@@ -4,8 +4,8 @@ ghost use Rattle.std.specs.Prelude.{◌≡◌};
 ghost use Rattle.hp_live.specs.Known.{IsOf};
 
 use crate::client::Client;
-use crate::heads::{head, started};
-use crate::jobs::{Job, Part, all_done, of_client, of_threads};
+use crate::heads::{closed, head, started};
+use crate::jobs::{Job, Part, add, all_done, of_client, of_threads};
 use hp_event::{Answer, Event, File, Form, Head, Op};
 use hp_hook::{Hook, ScriptHook};
 use hp_law::{Law, is_head};
@@ -146,9 +146,7 @@ fn come_in<'m>(
     for number in 0..CLIENTS {
         let hook = (number == 0).then_some(ScriptHook::new());
         let job = of_client(rt, machine, head, root, Part::Many(number), hook);
-        if jobs.push(job).is_err() {
-            panic!(rt; "memory for the job of client {number}")
-        }
+        add(rt, jobs, job);
     }
 }
 
@@ -159,9 +157,8 @@ fn twelve_threads_make_a_lawful_journal(rt: HostRuntime) -> Result<(), Fail> {
     let mut jobs = of_threads(&rt, rt.alloc(), &machine, &mut root, CPUS);
     come_in(&rt, &machine, &head, &mut root, &mut jobs);
     assert!(rt; all_done(&rt, &FreeGate, jobs));
-    let board = machine.close(&rt, root);
-    assert!(rt; board.clients() == 0 && board.is_home());
-    let events = board.journal().events();
+    let journal = closed(&rt, rt.alloc(), machine, root);
+    let events = journal.events();
     let refused = first_refused(rt.alloc(), &head, events)?;
     assert!(rt; refused.is_none(), "event {refused:?} can't stand");
     for number in 0..CLIENTS {

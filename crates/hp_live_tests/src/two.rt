@@ -2,8 +2,8 @@
 
 use crate::asking::begins;
 use crate::client::Client;
-use crate::heads::{head, started};
-use crate::jobs::{Part, all_done, of_client};
+use crate::heads::{closed, head, started};
+use crate::jobs::{Part, add, all_done, of_client};
 use hp_event::{Answer, Op};
 use hp_hook::{Hook, ScriptHook};
 use hp_live::{FreeGate, Gate};
@@ -105,13 +105,12 @@ fn a_reader_and_a_writer_are_answered(rt: HostRuntime) -> Result<(), Fail> {
     let (machine, mut root) = started::<ScriptHook>(rt.alloc(), &head)?;
     let mut jobs = Vec::new(rt.alloc());
     let reads = of_client(&rt, &machine, &head, &mut root, Part::Reads, None);
-    jobs.push(reads)?;
+    add(&rt, &mut jobs, reads);
     let writes = of_client(&rt, &machine, &head, &mut root, Part::Writes, None);
-    jobs.push(writes)?;
+    add(&rt, &mut jobs, writes);
     assert!(rt; all_done(&rt, &FreeGate, jobs));
-    let board = machine.close(&rt, root);
-    assert!(rt; board.clients() == 0 && board.is_home());
+    let journal = closed(&rt, rt.alloc(), machine, root);
     // each time 6 events of a section, and of the other client 8 of two walks, 2 files and 3 refusals
-    assert!(rt; board.journal().len() == 4 + TIMES * (6 + 13));
+    assert!(rt; journal.len() == 4 + TIMES * (6 + 13));
     Ok(())
 }

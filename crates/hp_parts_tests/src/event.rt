@@ -1,11 +1,8 @@
-//! What no clause says of hp_event: that memory suffices where it is ample, how a journal grows, what a head and an
-//! operation answer, and the texts of the errors.
+//! What no clause says of hp_event: that memory suffices where it is ample, how a journal grows, and the texts of
+//! the errors.
 
-use hp_event::{
-    Answer, Event, Form, Head, How, Journal, JournalError, Key, Keys, Name, Numbers, Op, Role, Sub,
-    Subs,
-};
-use hp_states::{CpuSet, Dir, HookPlan, MAX_EVENTS, NoMemory, Place, Rule};
+use hp_event::{Event, Head, Journal, JournalError, Key, Keys, Name, Numbers, Role, Sub, Subs};
+use hp_states::{Dir, HookPlan, MAX_EVENTS, NoMemory, Rule};
 use std::alloc::Global;
 use std::mem::size_of;
 use std::test::Fail;
@@ -118,106 +115,6 @@ fn a_copied_head_is_equal(rt: HostRuntime) -> Result<(), Fail> {
 }
 
 #[test]
-fn a_head_knows_its_processors_and_subsystems(rt: HostRuntime) -> Result<(), Fail> {
-    let mut subs = Subs::new(rt.alloc());
-    subs.push(sub_of(rt.alloc(), b"net:a", false)?)?;
-    let head = Head {
-        possible: 4,
-        absent: Numbers::from_vec(Vec::from_slice(rt.alloc(), &[1, 3])?),
-        subs,
-    };
-    for &(cpu, present) in [(0, true), (1, false), (2, true), (3, false), (4, false)].iter() {
-        assert!(rt; head.is_present(cpu) == present, "at {cpu}");
-    }
-    for &(number, there) in [(0, false), (1, true), (2, false), (u32::MAX, false)].iter() {
-        assert!(rt; head.sub(number).is_some() == there, "at {number}");
-    }
-    Ok(())
-}
-
-#[test]
-fn entries_are_done_or_faults(rt: HostRuntime) {
-    for &(how, done, called, fault) in [
-        (How::RanOk, true, true, None),
-        (How::RanFault(5), false, true, Some(5)),
-        (How::Injected, false, false, Some(11)),
-        (How::Empty, true, false, None),
-        (How::Presumed, true, false, None),
-        (How::Overruled(5), true, true, None),
-    ]
-    .iter()
-    {
-        assert!(rt;
-            (how.is_done(), how.is_called(), how.fault()) == (done, called, fault),
-            "{how:?}"
-        );
-    }
-    let forward = Place::Forward;
-    for &(code, dir, state, how) in [
-        (0, Dir::Up, 150, How::RanOk),
-        (5, Dir::Up, 150, How::RanFault(5)),
-        (5, Dir::Up, 80, How::Overruled(5)),
-        (5, Dir::Down, 30, How::Overruled(5)),
-    ]
-    .iter()
-    {
-        assert!(rt;
-            How::of_answer(code, dir, state, forward) == how,
-            "at {state}"
-        );
-    }
-}
-
-#[test]
-fn operations_say_what_they_take(rt: HostRuntime) {
-    let form = Form {
-        nocalls: true,
-        locked: false,
-    };
-    let setup = Op::Setup {
-        state: 41,
-        sub: 1,
-        form,
-    };
-    let remove = Op::Remove { state: 41, form };
-    assert!(rt; (setup.form(), remove.form(), Op::Thaw.form()) == (Some(form), Some(form), None));
-    assert!(rt; (setup.is_adding(), remove.is_adding()) == (true, false));
-    assert!(rt;
-        (
-            setup.takes_map(),
-            Op::Thaw.takes_map(),
-            Op::Lock.takes_map()
-        ) == (false, true, false)
-    );
-    let mut set = CpuSet::none();
-    set.put(255);
-    let upmany = Op::UpMany(set);
-    assert!(rt; (upmany.form(), upmany.is_setup(), upmany.is_adding()) == (None, false, false));
-    assert!(rt; upmany.takes_map());
-    assert!(rt; upmany != Op::UpMany(CpuSet::none()));
-}
-
-#[test]
-fn answers_leave_processors_where_they_say(rt: HostRuntime) {
-    let stuck = Answer::Stuck {
-        first: 5,
-        second: 9,
-        at: 119,
-    };
-    for &(answer, at) in [
-        (Answer::Ok(0), 200),
-        (Answer::Refused(16), 7),
-        (Answer::Fault(5), 7),
-        (stuck, 119),
-        (Answer::LogFull, 7),
-    ]
-    .iter()
-    {
-        assert!(rt; answer.leaves_at(200, 7) == at, "{answer:?}");
-    }
-}
-
-#[test]
 fn keys_are_ordered_by_state_and_then_instance(rt: HostRuntime) {
     let key = |state, inst| Key { state, inst };
     assert!(rt; key(119, 9) < key(120, 1));
@@ -264,24 +161,6 @@ fn the_last_places_are_promised_and_no_more(rt: HostRuntime) -> Result<(), Fail>
     assert!(rt; journal.reserve(1) == Err(JournalError::Full));
     assert!(rt; journal.reserve(0) == Ok(()));
     assert!(rt; (journal.promised(), journal.spare()) == (3, 3));
-    Ok(())
-}
-
-#[test]
-fn a_million_single_promises_are_cheap(rt: HostRuntime) -> Result<(), Fail> {
-    let mut journal = Journal::new(rt.alloc(), empty_head(rt.alloc()));
-    let mut growths = 0u32;
-    let mut spare = journal.spare();
-    for _ in 0..1_000_000u32 {
-        journal.reserve(1)?;
-        if journal.spare() > spare {
-            growths = growths.wrapping_add(1);
-        }
-        spare = journal.spare();
-    }
-    assert!(rt; growths == 21);
-    push_all(&mut journal);
-    assert!(rt; journal.len() == 1_000_000);
     Ok(())
 }
 

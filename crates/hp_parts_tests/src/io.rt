@@ -29,17 +29,6 @@ fn one_byte_past_the_limit_is_read_and_no_more(rt: HostRuntime) -> Result<(), Fa
     Ok(())
 }
 
-/// A text of more than one chunk.
-#[test]
-fn a_long_source_is_read_in_chunks(rt: HostRuntime) -> Result<(), Fail> {
-    let alloc = rt.alloc();
-    let mut source = MemSource::new(alloc, vec![in alloc; 120u8; 100_000]?);
-    let bytes = read_up_to(alloc, &mut source, 1_000_000)?;
-    assert!(rt; bytes.len() == 100_000);
-    assert!(rt; source.calls == 3);
-    Ok(())
-}
-
 #[test]
 fn a_read_fails_in_mid_stream(rt: HostRuntime) -> Result<(), Fail> {
     let alloc = rt.alloc();

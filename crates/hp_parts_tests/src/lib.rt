@@ -15,8 +15,6 @@ mod event;
 #[cfg(test)]
 mod file_values;
 #[cfg(test)]
-mod files;
-#[cfg(test)]
 mod io;
 #[cfg(test)]
 mod locks;

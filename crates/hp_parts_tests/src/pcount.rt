@@ -1,5 +1,5 @@
 //! What no clause says of hp_pcount: the numbers of some counters, as worked out by hand, with each way in which a
-//! processor isn't open, the smallest and the largest batch, and the ends of what can be added at once.
+//! processor isn't open, the largest batch, and the ends of what can be added at once.
 
 ghost use Rattle.std.specs.Prelude.{◌<◌};
 ghost use Rattle.hp_pcount.specs.Places.{HasPart};
@@ -95,18 +95,6 @@ fn a_rollback_closes_again(rt: HostRuntime) -> Result<(), Fail> {
 }
 
 #[test]
-fn a_batch_of_one(rt: HostRuntime) -> Result<(), Fail> {
-    let mut counters = Counters::new(1, 1);
-    counters.follow(&entry(255, 1, 0, Dir::Up, How::RanOk));
-    assert!(&rt; adds(&mut counters, 255, 1));
-    assert!(&rt; counters.base() == 1 && counters.part(255) == 0);
-    assert!(&rt; adds(&mut counters, 255, -2));
-    assert!(&rt; counters.base() == -1 && counters.part(255) == 0);
-    assert!(&rt; adds(&mut counters, 255, 0) && counters.adds() == 3);
-    Ok(())
-}
-
-#[test]
 fn the_largest_batch(rt: HostRuntime) -> Result<(), Fail> {
     let mut counters = Counters::new(LAST_FOLLOWED, MAX_BATCH);
     counters.follow(&entry(64, 198, 0, Dir::Up, How::RanOk));
@@ -121,17 +109,5 @@ fn the_largest_batch(rt: HostRuntime) -> Result<(), Fail> {
     assert!(&rt; adds(&mut counters, 64, i32::MIN) && adds(&mut counters, 64, i32::MIN));
     assert!(&rt; counters.base() == -4_294_967_296 && counters.total() == -4_294_967_296);
     assert!(&rt; adds(&mut counters, 64, i32::MAX) && counters.total() == -2_147_483_649);
-    Ok(())
-}
-
-#[test]
-fn open_processors_in_rising_number(rt: HostRuntime) -> Result<(), Fail> {
-    let mut counters = Counters::new(7, 10);
-    assert!(&rt; counters.first_open(0) == None);
-    counters.follow(&entry(200, 7, 0, Dir::Up, How::RanOk));
-    counters.follow(&entry(3, 7, 0, Dir::Up, How::RanOk));
-    assert!(&rt; counters.first_open(0) == Some(3) && counters.first_open(3) == Some(3));
-    assert!(&rt; counters.first_open(4) == Some(200) && counters.first_open(201) == None);
-    assert!(&rt; counters.first_open(4_000_000_000) == None);
     Ok(())
 }

@@ -136,20 +136,6 @@ fn a_fault_undoes_those_before_it_in_rising_number(rt: HostRuntime) -> Result<()
 }
 
 #[test]
-fn a_fault_of_the_first_has_nothing_to_undo(rt: HostRuntime) -> Result<(), Fail> {
-    let reg = Reg::begin(setup(120), 120);
-    let wanted = [up(0, How::RanFault(5))];
-    check(
-        &rt,
-        rt.alloc(),
-        reg,
-        &scene_at(120, 0),
-        &wanted,
-        Answer::Fault(5),
-    )
-}
-
-#[test]
 fn an_overruled_undo_keeps_the_first_code(rt: HostRuntime) -> Result<(), Fail> {
     let reg = Reg::begin(setup(141), 143);
     let wanted = [
@@ -239,33 +225,6 @@ fn a_remove_goes_on_whatever_is_overruled(rt: HostRuntime) -> Result<(), Fail> {
 }
 
 #[test]
-fn a_state_with_instances_is_set_up_and_removed_without_entries(
-    rt: HostRuntime,
-) -> Result<(), Fail> {
-    let remove = Op::Remove {
-        state: 30,
-        form: PLAIN,
-    };
-    let scene = scene_at(30, 0);
-    check(
-        &rt,
-        rt.alloc(),
-        Reg::begin(setup(30), 30),
-        &scene,
-        &[],
-        Answer::Ok(0),
-    )?;
-    check(
-        &rt,
-        rt.alloc(),
-        Reg::begin(remove, 30),
-        &scene,
-        &[],
-        Answer::Ok(0),
-    )
-}
-
-#[test]
 fn a_dynamic_setup_answers_its_state(rt: HostRuntime) -> Result<(), Fail> {
     let wanted = [up(0, How::RanOk), up(4, How::RanOk)];
     check(
@@ -290,25 +249,4 @@ fn a_dynamic_setup_answers_its_state(rt: HostRuntime) -> Result<(), Fail> {
         &wanted,
         Answer::Ok(45),
     )
-}
-
-/// A setup that ends at once, with the first processor absent.
-fn ends_at_once(rt: &impl Abort, alloc: Global, settled: &[u32]) -> Result<(), Fail> {
-    let scene = Scene {
-        settled,
-        absent: &[0],
-        key: Key {
-            state: 120,
-            inst: 0,
-        },
-    };
-    let reg = Reg::begin(setup(120), 120);
-    check(rt, alloc, reg, &scene, &[], Answer::Ok(0))
-}
-
-#[test]
-fn no_processor_at_the_state_ends_at_once(rt: HostRuntime) -> Result<(), Fail> {
-    ends_at_once(&rt, rt.alloc(), &[])?;
-    ends_at_once(&rt, rt.alloc(), &[200])?;
-    ends_at_once(&rt, rt.alloc(), &[200, 119, 0])
 }

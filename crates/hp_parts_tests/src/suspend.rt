@@ -36,25 +36,6 @@ fn a_freeze_that_fails(rt: HostRuntime) -> Result<(), Fail> {
 }
 
 #[test]
-fn a_primary_that_is_offline(rt: HostRuntime) -> Result<(), Fail> {
-    let mut freeze = Freeze::begin(2, &[false, true, false, true, true]);
-    assert!(&rt; freeze.next(&[false, true, false, true, true], false) == down(3));
-    freeze.took(Answer::Ok(0));
-    assert!(&rt; freeze.next(&[false, true, false, false, true], false) == down(4));
-    freeze.took(Answer::Ok(0));
-    assert!(&rt;
-        freeze.next(&[false, true, false, false, false], false) == Asked::Ended(Answer::Ok(0))
-    );
-    let lowest = Freeze::begin(-1, &[true, true]);
-    assert!(&rt; lowest.next(&[true, true], false) == down(1));
-    let impossible = Freeze::begin(2, &[true, true]);
-    assert!(&rt; impossible.next(&[true, true], false) == down(1));
-    let highest = Freeze::begin(1, &[true, true]);
-    assert!(&rt; highest.next(&[true, true], false) == down(0));
-    Ok(())
-}
-
-#[test]
 fn a_freeze_that_a_wakeup_stops(rt: HostRuntime) -> Result<(), Fail> {
     let mut freeze = Freeze::begin(0, &[true, true, true]);
     assert!(&rt; freeze.next(&[true, true, true], true) == Asked::Ended(Answer::Refused(16)));
@@ -84,26 +65,6 @@ fn a_boot_that_stops_at_its_number(rt: HostRuntime) -> Result<(), Fail> {
     assert!(&rt; boot.next(&present, &[true, true, false, false]) == Asked::Ended(Answer::Ok(0)));
     let none = Boot::begin(0);
     assert!(&rt; none.next(&present, &[true, false, false, false]) == Asked::Ended(Answer::Ok(0)));
-    Ok(())
-}
-
-#[test]
-fn a_thaw_after_a_fault(rt: HostRuntime) -> Result<(), Fail> {
-    let record = [false, true, true, true, true];
-    let mut thaw = Thaw::begin();
-    assert!(&rt; thaw.next(&record, &[200, 0, 0, 0, 0]) == up(1));
-    thaw.took(Answer::Fault(7));
-    assert!(&rt; thaw.next(&record, &[200, 0, 0, 0, 0]) == up(2));
-    thaw.took(Answer::Ok(0));
-    assert!(&rt; thaw.next(&record, &[200, 0, 200, 0, 0]) == up(3));
-    thaw.took(Answer::Stuck {
-        first: 7,
-        second: 8,
-        at: 150,
-    });
-    assert!(&rt; thaw.next(&record, &[200, 0, 200, 150, 0]) == up(4));
-    thaw.took(Answer::Fault(9));
-    assert!(&rt; thaw.next(&record, &[200, 0, 200, 150, 0]) == Asked::Ended(Answer::Ok(3)));
     Ok(())
 }
 

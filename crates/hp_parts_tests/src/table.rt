@@ -4,7 +4,7 @@
 ghost use Rattle.std.specs.Prelude.{◌≡◌, true, IfOk};
 
 use hp_hook::{Hook, ScriptHook};
-use hp_states::{Dir, HookPlan, MAX_EVENTS, Range, Rule};
+use hp_states::{Dir, HookPlan, MAX_EVENTS, MAX_INSTANCES, MAX_TABLE_INSTANCES, Range, Rule};
 use hp_table::{Record, Table, TableError};
 use std::alloc::Global;
 use std::process::Abort;
@@ -190,76 +190,12 @@ fn a_lent_hook_comes_back(rt: HostRuntime) -> Result<(), Fail> {
     Ok(())
 }
 
-/// The refusals of calls, and what is left after them.
-fn refuses(rt: &impl Abort, table: &mut Table<ScriptHook>) -> Result<(), Fail> {
-    put(table, 10, record_of(1, false, ScriptHook::new()))?;
-    put(table, 20, record_of(2, true, ScriptHook::new()))?;
-    table.add_instance(20, 5)?;
-    for state in [0, 11, 62, 200, 201, u32::MAX] {
-        assert!(rt;
-            remove(table, state).err() == Some(TableError::Invalid),
-            "at {state}"
-        );
-        assert!(rt;
-            table.add_instance(state, 1) == Err(TableError::Invalid),
-            "at {state}"
-        );
-        assert!(rt;
-            table.remove_instance(state, 1) == Err(TableError::Invalid),
-            "at {state}"
-        );
-        assert!(rt;
-            table.step(state).is_none() && table.instances(state).is_empty(),
-            "at {state}"
-        );
-    }
-    assert!(rt; table.add_instance(10, 1) == Err(TableError::Invalid));
-    assert!(rt; table.add_instance(20, 0) == Err(TableError::Invalid));
-    assert!(rt; table.add_instance(20, 5) == Err(TableError::Busy));
-    assert!(rt; table.remove_instance(20, 6) == Err(TableError::Invalid));
-    assert!(rt; table.remove_instance(10, 0) == Err(TableError::Invalid));
-    assert!(rt; remove(table, 20).err() == Some(TableError::Busy));
-    assert!(rt; table.instances(20) == [5].as_slice());
-    assert!(rt; !table.is_named(201) && !table.is_named(u32::MAX));
-    Ok(())
-}
-
-#[test]
-fn refusals_have_their_causes(rt: HostRuntime) -> Result<(), Fail> {
-    refuses(&rt, &mut Table::new(rt.alloc())?)
-}
-
-/// Each slot of both ranges, and one that is free again.
-fn gives_slots(rt: &impl Abort, table: &mut Table<ScriptHook>) -> Result<(), Fail> {
-    for want in 41..62 {
-        let state = table.slot(Range::Prepare)?;
-        assert!(rt; state == want, "slot {want}");
-        put(table, state, record_of(1, false, ScriptHook::new()))?;
-    }
-    for want in 141..172 {
-        let state = table.slot(Range::Online)?;
-        assert!(rt; state == want, "slot {want}");
-        put(table, state, record_of(1, false, ScriptHook::new()))?;
-    }
-    assert!(rt; table.slot(Range::Prepare) == Err(TableError::NoSpace));
-    assert!(rt; table.slot(Range::Online) == Err(TableError::NoSpace));
-    remove(table, 150)?;
-    assert!(rt; table.slot(Range::Online) == Ok(150));
-    assert!(rt; table.slot(Range::Prepare) == Err(TableError::NoSpace));
-    Ok(())
-}
-
-#[test]
-fn each_slot_is_given_out_once(rt: HostRuntime) -> Result<(), Fail> {
-    gives_slots(&rt, &mut Table::new(rt.alloc())?)
-}
-
 /// Instances up to the limits of a state and of a table.
 fn counts_instances(rt: &impl Abort, table: &mut Table<ScriptHook>) -> Result<(), Fail> {
     put(table, 120, record_of(1, true, ScriptHook::new()))?;
     for state in 103..119 {
         put(table, state, record_of(1, true, ScriptHook::new()))?;
-        for inst in 1..257 {
+        for inst in 1..MAX_INSTANCES + 1 {
             table.add_instance(state, inst)?;
         }
         if state < 118 {
@@ -267,16 +203,16 @@ fn counts_instances(rt: &impl Abort, table: &mut Table<ScriptHook>) -> Result<()
             assert!(rt; table.remove_instance(120, 1) == Ok(()), "at {state}");
         }
         assert!(rt;
-            table.add_instance(state, 257) == Err(TableError::TooMany),
+            table.add_instance(state, MAX_INSTANCES + 1) == Err(TableError::TooMany),
             "at {state}"
         );
         assert!(rt;
-            table.add_instance(state, 256) == Err(TableError::Busy),
+            table.add_instance(state, MAX_INSTANCES) == Err(TableError::Busy),
             "at {state}"
         );
     }
     assert!(rt; table.add_instance(120, 1) == Err(TableError::TooMany));
-    assert!(rt; table.keys_between(0, 200) == 4096);
+    assert!(rt; table.keys_between(0, 200) == MAX_TABLE_INSTANCES);
     assert!(rt; table.remove_instance(110, 7) == Ok(()));
     table.add_instance(120, 1)?;
     assert!(rt; table.add_instance(110, 7) == Err(TableError::TooMany));
@@ -286,77 +222,6 @@ fn counts_instances(rt: &impl Abort, table: &mut Table<ScriptHook>) -> Result<()
 #[test]
 fn so_many_instances_and_no_more(rt: HostRuntime) -> Result<(), Fail> {
     counts_instances(&rt, &mut Table::new(rt.alloc())?)
-}
-
-/// The states of a large table: 128, none of them built in.
-const LARGE: [(u32, u32); 3] = [(1, 62), (65, 100), (103, 135)];
-
-/// What is at each state of a large table.
-fn reads_states(rt: &impl Abort, table: &mut Table<ScriptHook>) -> Result<(), Fail> {
-    for &(first, end) in LARGE.iter() {
-        for state in first..end {
-            put(table, state, record_of(1, true, ScriptHook::new()))?;
-            for inst in 1..33 {
-                table.add_instance(state, inst)?;
-            }
-        }
-    }
-    assert!(rt; table.keys_between(0, 200) == 4096);
-    for &(first, end) in LARGE.iter() {
-        let keys = (end - first) * 32;
-        assert!(rt;
-            table.keys_between(first - 1, end - 1) == keys,
-            "from {first}"
-        );
-        for state in first..end {
-            assert!(rt; table.keys_between(state - 1, state) == 32, "at {state}");
-            assert!(rt; table.instances(state).len() == 32, "at {state}");
-            assert!(rt; table.instances(state).first() == Some(&32), "at {state}");
-            assert!(rt; call(rt, table, state, 0, Dir::Up) == 0, "at {state}");
-        }
-    }
-    Ok(())
-}
-
-#[test]
-fn a_large_table_is_read_state_by_state(rt: HostRuntime) -> Result<(), Fail> {
-    reads_states(&rt, &mut Table::new(rt.alloc())?)
-}
-
-/// The keys between two states.
-fn counts_keys(rt: &impl Abort, table: &mut Table<ScriptHook>) -> Result<(), Fail> {
-    put(table, 10, record_of(1, false, ScriptHook::new()))?;
-    put(table, 20, record_of(2, true, ScriptHook::new()))?;
-    put(table, 30, record_of(3, true, ScriptHook::new()))?;
-    put(table, 198, record_of(4, false, ScriptHook::new()))?;
-    for inst in [8, 6, 7] {
-        table.add_instance(20, inst)?;
-    }
-    for &(low, high, want) in [
-        (0, 200, 5),
-        (9, 10, 1),
-        (10, 200, 4),
-        (10, 10, 0),
-        (10, 20, 3),
-        (20, 197, 0),
-        (20, 10, 0),
-        (0, u32::MAX, 5),
-        (200, u32::MAX, 0),
-        (u32::MAX, u32::MAX, 0),
-    ]
-    .iter()
-    {
-        assert!(rt;
-            table.keys_between(low, high) == want,
-            "from {low} to {high}"
-        );
-    }
-    Ok(())
-}
-
-#[test]
-fn keys_are_counted_between_states(rt: HostRuntime) -> Result<(), Fail> {
-    counts_keys(&rt, &mut Table::new(rt.alloc())?)
 }
 
 #[test]

@@ -261,60 +261,6 @@ fn stuck_in_a_rollback_up(rt: HostRuntime) -> Result<(), Fail> {
 }
 
 #[test]
-fn nothing_crossed(rt: HostRuntime) -> Result<(), Fail> {
-    let table = table_of(rt.alloc(), &[110, 130, 150], 130, &[])?;
-    for &(from, to) in [
-        (0, 109),
-        (110, 149),
-        (150, 200),
-        (200, 150),
-        (149, 110),
-        (109, 0),
-        (1, 0),
-        (0, 1),
-    ]
-    .iter()
-    {
-        walks(&rt, &table, from, to, &[], (from, to, Answer::Ok(0)));
-    }
-    Ok(())
-}
-
-#[test]
-fn states_at_both_ends(rt: HostRuntime) -> Result<(), Fail> {
-    let table = table_of(rt.alloc(), &[110, 120, 150], 0, &[])?;
-    let up = [
-        shows(110, 150).crosses(120, 0, Up, Forward, RanOk),
-        shows(120, 150).crosses(150, 0, Up, Forward, RanOk),
-    ];
-    walks(&rt, &table, 110, 150, &up, (150, 150, Answer::Ok(0)));
-    let down = [
-        shows(150, 110).crosses(150, 0, Down, Forward, RanOk),
-        shows(149, 110).crosses(120, 0, Down, Forward, RanOk),
-    ];
-    walks(&rt, &table, 150, 110, &down, (119, 110, Answer::Ok(0)));
-    Ok(())
-}
-
-#[test]
-fn a_rollback_to_both_ends(rt: HostRuntime) -> Result<(), Fail> {
-    let table = table_of(rt.alloc(), &[110, 120, 150], 0, &[])?;
-    let up = [
-        shows(110, 150).crosses(120, 0, Up, Forward, RanOk),
-        shows(120, 150).crosses(150, 0, Up, Forward, RanFault(5)),
-        shows(120, 110).crosses(120, 0, Down, Back, RanOk),
-    ];
-    walks(&rt, &table, 110, 150, &up, (119, 110, Answer::Fault(5)));
-    let down = [
-        shows(150, 110).crosses(150, 0, Down, Forward, RanOk),
-        shows(149, 110).crosses(120, 0, Down, Forward, RanFault(5)),
-        shows(149, 150).crosses(150, 0, Up, Back, RanOk),
-    ];
-    walks(&rt, &table, 150, 110, &down, (150, 150, Answer::Fault(5)));
-    Ok(())
-}
-
-#[test]
 fn the_lowest_and_the_highest_state(rt: HostRuntime) -> Result<(), Fail> {
     let table = table_of(rt.alloc(), &[1, 198], 0, &[])?;
     let up = [

@@ -3,6 +3,7 @@
 use crate::changes::{Change, Verdict, assert_refusals, verdict_of};
 use hp_event::Version;
 use hp_replay::ReplayKind::Unlawful;
+use hp_states::MAX_SEATS;
 use std::alloc::Global;
 use std::test::*;
 
@@ -210,8 +211,8 @@ fn all_seats(alloc: Global, head: &str, seats: u32, behind: &str) -> Result<Vec<
     Ok(text)
 }
 
-/// What stands behind 320 clients, and what is said of the text then.
-const BEHIND_320: [(&'static str, Verdict); 7] = [
+/// What stands behind as many clients as there are seats, and what is said of the text then.
+const BEHIND_ALL: [(&'static str, Verdict); 7] = [
     ("shown 319 1 state 0 200\nend 481\n", None),
     ("shown 160 1 state 0 200\nend 481\n", None),
     ("admit 320 client\n", Some((485, Unlawful))),
@@ -225,16 +226,19 @@ const BEHIND_320: [(&'static str, Verdict); 7] = [
 #[test]
 fn seat_numbers_run_out(rt: HostRuntime) -> Result<(), Fail> {
     let head = "cpuhp journal 2\ncpus 1\nabsent -\nevents\n";
-    for &(behind, wanted) in BEHIND_320.iter() {
-        let text = all_seats(rt.alloc(), head, 320, behind)?;
+    for &(behind, wanted) in BEHIND_ALL.iter() {
+        let text = all_seats(rt.alloc(), head, MAX_SEATS, behind)?;
         let found = verdict_of(rt.alloc(), Version::Two, text.as_slice())?;
         assert!(rt; found == wanted, "{behind:?}: {found:?}");
     }
     Ok(())
 }
 
-/// The same behind 96 clients, in a text of version 1.
-const BEHIND_96: [(&'static str, Verdict); 7] = [
+/// The seats of a text of version 1.
+const SEATS_OF_VERSION_1: u32 = 96;
+
+/// The same behind as many clients as these, in such a text.
+const BEHIND_ALL_OF_VERSION_1: [(&'static str, Verdict); 7] = [
     ("shown 95 state 0 200\nend 145\n", None),
     ("shown 48 state 0 200\nend 145\n", None),
     ("admit 96 client\n", Some((149, Unlawful))),
@@ -244,12 +248,12 @@ const BEHIND_96: [(&'static str, Verdict); 7] = [
     ("leave 47\n", Some((149, Unlawful))),
 ];
 
-/// Version 1 has 96 seat numbers.
+/// Version 1 has fewer seat numbers.
 #[test]
 fn seat_numbers_of_version_1_run_out(rt: HostRuntime) -> Result<(), Fail> {
     let head = "cpuhp journal 1\ncpus 1\nabsent -\nevents\n";
-    for &(behind, wanted) in BEHIND_96.iter() {
-        let text = all_seats(rt.alloc(), head, 96, behind)?;
+    for &(behind, wanted) in BEHIND_ALL_OF_VERSION_1.iter() {
+        let text = all_seats(rt.alloc(), head, SEATS_OF_VERSION_1, behind)?;
         let found = verdict_of(rt.alloc(), Version::One, text.as_slice())?;
         assert!(rt; found == wanted, "{behind:?}: {found:?}");
     }

@@ -99,15 +99,16 @@ fn play(
     requires hooks { sum_by setups_in script.now.actors ≤ length rack.old.hooks.items }
 {
     let mut run = SmtRun::start(alloc, script, 2, want, rack)?;
-    run.play(alloc)?;
-    let text = journal_text(alloc, run.smt.board().journal())?;
+    let played = run.play(alloc);
+    let text = journal_text(alloc, run.smt.board().journal());
     let SmtRun {
         written,
         denied,
         ..
     } = run;
+    played?;
     Ok(Found {
-        text,
+        text: text?,
         written,
         denied,
     })

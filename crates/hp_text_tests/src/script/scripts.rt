@@ -2,7 +2,7 @@
 
 use hp_event::{Form, Op};
 use hp_script::{ParseError, Schedule, Script, ScriptKind, parse};
-use hp_states::{CpuSet, Dir, MAX_CODE, MAX_EVENTS, MAX_INSTANCE, MAX_RULE_CPU, Rule};
+use hp_states::{CpuSet, Dir, MAX_CODE, MAX_CPUS, MAX_EVENTS, MAX_INSTANCE, MAX_RULE_CPU, Rule};
 use std::alloc::Global;
 use std::test::*;
 
@@ -199,7 +199,7 @@ const ACTORS: [&'static [Op]; 3] = [&[Op::Lock, Op::Lock, Op::Unlock], &[], &[Op
 #[test]
 fn as_many_processors_as_there_may_be(rt: HostRuntime) -> Result<(), Fail> {
     let script = parse(rt.alloc(), b"cpus 256\nabsent 255\nactor a", 0)?;
-    assert!(rt; script.head().possible == 256);
+    assert!(rt; script.head().possible == MAX_CPUS);
     assert!(rt; script.head().absent.as_slice() == [255].as_slice());
     Ok(())
 }
