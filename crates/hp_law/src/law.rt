@@ -1,14 +1,15 @@
 //! The machine of a journal's checker.
 
-ghost use Rattle.std.specs.Prelude.{◌≡◌, ◌↔◌, ◌++◌, ◌∷◌, [], true, false, IsTrue, IfOk, OnOk, OnErr, length, is_some};
+ghost use Rattle.std.specs.Prelude.{◌≡◌, ◌↔◌, ◌++◌, ◌∷◌, ◌≤◌, [], true, false, IsTrue, IfOk, OnOk, OnErr, length, is_some};
 ghost use Rattle.hp_account.specs.TableChanges.{brings_hook};
 ghost use Rattle.hp_model.specs.Heads.{IsHead};
 ghost use Rattle.hp_model.specs.How.{answer_at};
-ghost use Rattle.hp_model.specs.Lawful.{Stands};
+ghost use Rattle.hp_model.specs.Lawful.{IsLawful, Stands};
 ghost use Rattle.hp_model.specs.Needs.{need as room_need, taken};
 ghost use Rattle.hp_model.specs.NextEvent.{due_entry};
 ghost use Rattle.hp_law.specs.Asked.{IsOfOperation};
 ghost use Rattle.hp_law.specs.RoomOf.{IsRoomOf};
+ghost use Rattle.hp_states.specs.declared.limits.TheConstants.{MAX_EVENTS};
 
 use crate::asked::asked_by;
 use crate::same::same;
@@ -100,6 +101,18 @@ impl Law {
             }
             None => Ok(false),
         }
+    }
+
+    /// What is so of every checker, which callers cite: it does nothing.
+    ///
+    /// What it took is a lawful journal, of `MAX_EVENTS` events at most. Takes no memory. This project's own.
+    pub fn sound(&self)
+        ensures lawful { IsLawful self.now.head self.now.events }
+        ensures few { length self.now.events ≤ MAX_EVENTS }
+    {
+        self.machine.sound();
+        // a journal says so where its length is asked for
+        let _ = self.machine.journal().len();
     }
 
     /// How many events it took, 0 to `MAX_EVENTS`. Takes no memory.

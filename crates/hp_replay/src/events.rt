@@ -53,8 +53,8 @@ impl Taking {
         if !self.law.offer(&said.event)? {
             return Err(line.bad(ReplayKind::Unlawful));
         }
-        // The law holds fewer than `u32::MAX` events, and so has a seat fewer operations.
-        let _ = self.law.len();
+        // so a seat has fewer operations than a number can say
+        self.law.sound();
         let number = self.numbers.take(&said.event)?;
         if is_its(number, said.number) && has_seat(self.version, &said.event) {
             Ok(())

@@ -1,6 +1,7 @@
-use Rattle.std.proofs.Common.{arith, ◌≡◌, ℕ, Bool, true, false, [], ◌∷◌, length, refl, sym, ap, ◌∙◌, length-append}
+use Rattle.std.proofs.Common.{arith, ◌≡◌, ◌≤◌, ℕ, Bool, true, false, [], ◌∷◌, ◌++◌, length, refl, sym, ap, subst, ◌∙◌, length-append}
 use Rattle.hp_event.specs.Events.{seat_of}
 use Rattle.hp_law.specs.Law.{Taken}
+use Rattle.hp_states.specs.declared.limits.TheConstants.{MAX_EVENTS}
 use Rattle.hp_model.specs.OperationNumber.{operations_of, operation_number}
 use Rattle.hp_print.proofs.OperationNumbersLaws.{operations_few, numbered_push}
 use Rattle.hp_replay.specs.Versions.{has_seat, is_its_number, is_numbered}
@@ -12,10 +13,10 @@ pub take-requires : goal.take-requires
 take-requires c = λ seat.
     let events = c.args.self.now.law.events in
     let taken = c.in_ok-offer.ensures.taken c.if-not-branch.false in
-    let count = c.len.ensures ∙ ap (λ (t : Taken). length t.events) taken in
+    let held : length (events ++ c.args.said.now.event ∷ []) ≤ MAX_EVENTS = subst (λ (t : Taken). length t.events ≤ MAX_EVENTS) taken c.sound.ensures.few in
     let few = operations_few seat events in
     let is = c.requires.numbered seat in
-    omega (arith, c.len.type_inv, length-append events (c.args.said.now.event ∷ []))
+    omega (arith, length-append events (c.args.said.now.event ∷ []))
 
 pub returns-then-has_seat-clause-right : goal.returns-then-has_seat-clause-right
 returns-then-has_seat-clause-right c =
