@@ -1,17 +1,27 @@
 //! The words of SMT control.
 
-ghost use Rattle.std.specs.Prelude.{◌≡◌, Bool, IfSome, IfNone, map, string_bytes};
+ghost use Rattle.std.specs.Prelude.{◌≡◌, IfSome, IfNone, map, string_bytes};
 ghost use Rattle.hp_command.specs.Controlling.{SaysThreads, SaysNoThreads, mode_word, AreControlling, AreNoControlling};
+ghost use Rattle.hp_command.specs.declared.controlling.ControlMode.{ControlMode as AMode};
 
 use crate::number::number_of;
+
+/// The mode that is written to SMT control: siblings go down, and stay down.
+#[derive(Clone, Copy, Debug, PartialEq, Eq)]
+pub enum ControlMode {
+    /// Until On is written.
+    Off,
+    /// For good.
+    ForceOff,
+}
 
 /// Under which SMT control a script is played: the threads of a core, and the mode that is written.
 #[derive(Clone, Copy, Debug, PartialEq, Eq)]
 pub struct Controlling {
     /// The threads of a core, from 2 to 8.
     pub threads: u32,
-    /// Whether ForceOff is written, and not Off.
-    pub force: bool,
+    /// The mode that is written.
+    pub mode: ControlMode,
 }
 
 /// The threads of a core that a word says, if it says some.
@@ -26,16 +36,16 @@ fn threads_of(word: &str) -> Option<u32>
     Some(number as u32)
 }
 
-/// Whether a word is that of ForceOff, if it is that of a mode.
-fn force_of(word: &str) -> Option<bool>
-    ensures some { IfSome result (λ force. word.now ≡ mode_word force) }
-    ensures none { IfNone result ((force : Bool) → word.now ≡ mode_word force → ⊥) }
+/// The mode that a word says, if it says one.
+fn mode_of(word: &str) -> Option<ControlMode>
+    ensures some { IfSome result (λ mode. word.now ≡ mode_word mode) }
+    ensures none { IfNone result ((mode : AMode) → word.now ≡ mode_word mode → ⊥) }
 {
     if word == "off" {
-        return Some(false);
+        return Some(ControlMode::Off);
     }
     if word == "forceoff" {
-        return Some(true);
+        return Some(ControlMode::ForceOff);
     }
     None
 }
@@ -49,6 +59,6 @@ pub fn controlling_of(words: &[String]) -> Option<Controlling>
         return None;
     }
     let threads = threads_of(words[0].as_str())?;
-    let force = force_of(words[1].as_str())?;
-    Some(Controlling { threads, force })
+    let mode = mode_of(words[1].as_str())?;
+    Some(Controlling { threads, mode })
 }

@@ -16,7 +16,7 @@ mod options;
 mod texts;
 
 pub use command::{Command, command_of};
-pub use controlling::Controlling;
+pub use controlling::{ControlMode, Controlling};
 pub use counting::Counting;
 pub use law::words_determine_the_command;
 pub use number::number_of;

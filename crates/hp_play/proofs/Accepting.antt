@@ -1,6 +1,6 @@
 -- A command that has its input isn't refused.
-use Rattle.std.proofs.Common.{◌≡◌, ℕ, ◌≤◌, inl, inr, Option, List, length, ap, sym, subst, ◌∙◌, arith}
-use Rattle.hp_states.specs.declared.limits.TheConstants.{MAX_JOURNAL_BYTES, MAX_SCRIPT_BYTES}
+use Rattle.std.proofs.Common.{◌≡◌, ℕ, ◌≤◌, inl, inr, Option, List, length, subst, arith}
+use Rattle.hp_states.specs.declared.limits.TheConstants.{MAX_JOURNAL_BYTES}
 use Rattle.hp_event.specs.declared.head.Head.{Head}
 use Rattle.hp_event.specs.declared.event.Event.{Event}
 use Rattle.hp_command.specs.declared.command.Command.{Command}
@@ -14,24 +14,7 @@ use Rattle.hp_replay.specs.Judged.{accepted, refused}
 use Rattle.hp_replay.specs.Verdict.{IsReplay}
 use Rattle.hp_replay.proofs.VerdictLaws.{one_outcome}
 use Rattle.hp_edge.proofs.Holding.{all_read, no_bad_script}
-use Rattle.hp_edge.specs.Scripts.{counted_hooks}
-use Rattle.hp_script.proofs.PlayableScripts.{short_read}
-use Rattle.hp_script.specs.Pieces.{lines}
-use Rattle.hp_script.specs.Script.{statements, script_in}
-use Rattle.hp_play.specs.Controlled.{HasSeatMore}
-use Rattle.hp_play.specs.Main.{Asked, HoldsControlled, HoldsJournal, HasInput, IsBadControl, IsBadJournal, IsBadJournalOf, IsRefusedBy}
-
--- a script that leaves a seat is refused by no line, nor for want of one
-no_bad_control : (hooks : ℕ) (left now : Option (List ℕ)) (written : List ℕ) → HoldsControlled hooks left →
-    IsBadControl hooks left now written → ⊥
-no_bad_control hooks left now written has (inl bad) = no_bad_script hooks left now written has.holds bad
-no_bad_control hooks left now written has (inr bad) =
-    let h = has.holds in
-    let few = short_read (counted_hooks hooks) h.bytes h.script h.is_script in
-    let bytes = all_read MAX_SCRIPT_BYTES left now bad.read.bytes h.bytes h.held few bad.read.read in
-    let same : bad.script ≡ h.script =
-    bad.read.is_script.says ∙ (ap (λ z. script_in (statements (lines z))) bytes ∙ sym h.is_script.says) in
-    bad.no_seat (subst HasSeatMore (sym same) has.seat)
+use Rattle.hp_play.specs.Main.{Asked, HoldsJournal, HasInput, IsBadJournal, IsBadJournalOf, IsRefusedBy}
 
 not_refused : (command : Command) (hooks : ℕ) (left now : Option (List ℕ)) (written : List ℕ) → HasInput command hooks left →
     IsRefusedBy command hooks left now written → ⊥
@@ -42,7 +25,7 @@ not_refused asks.Replay hooks left now written has bad = bad
 not_refused asks.Migrate hooks left now written has bad = bad
 not_refused (asks.Gen options) hooks left now written has bad = bad
 not_refused (asks.Count counting) hooks left now written has bad = no_bad_script hooks left now written has bad
-not_refused (asks.Smt controlling) hooks left now written has bad = no_bad_control hooks left now written has bad
+not_refused (asks.Smt controlling) hooks left now written has bad = no_bad_script hooks left now written has bad
 not_refused (asks.Bench options) hooks left now written has bad = let few = bad.few_hooks in omega (arith, has, few)
 
 -- the command that the words ask for is refused by no script

@@ -33,11 +33,11 @@ over old new p =
 
 -- as what stays says the setup of it
 pub record IsPlayedTo {H : Type 0} (c : Controlling) (script : Contents) (run : SmtRun H) : Type 0 where
-  pub setup_is : setup_of run ≡ setup script.head c.threads script.actors (control_of c.force)
+  pub setup_is : setup_of run ≡ setup script.head c.threads script.actors (control_of c.mode)
   pub under : IsRunUnder c script (state_of run)
 
 pub played_to : {H : Type 0} (c : Controlling) (script : Contents) (old new : SmtRun H) (s : Setup) → IsPlayed old new →
-    setup_of old ≡ s → s ≡ setup script.head c.threads script.actors (control_of c.force) →
+    setup_of old ≡ s → s ≡ setup script.head c.threads script.actors (control_of c.mode) →
     IsLawful new.smt.board.head new.smt.board.events → operation new.smt.board.events ≡ None → registration new.smt.board.events ≡ None →
     IsPlayedTo c script new
 played_to c script old new s p starts is lawful free quiet = record {
@@ -45,14 +45,14 @@ played_to c script old new s p starts is lawful free quiet = record {
   under = by (subst (λ (z : Setup). Ran z) same (p.is_run, p.off));
 }
   where
-    same : setup_of old ≡ setup script.head c.threads script.actors (control_of c.force)
+    same : setup_of old ≡ setup script.head c.threads script.actors (control_of c.mode)
     same = starts ∙ is
 
     Ran : Setup → Type 0
     Ran z =
         (r : IsSmtRun z.head z.threads z.actors z.want (state_of new)) × SiblingsStayOffFor z.head z.threads z.actors z.want r.rounds
 
-    by : Ran (setup script.head c.threads script.actors (control_of c.force)) → IsRunUnder c script (state_of new)
+    by : Ran (setup script.head c.threads script.actors (control_of c.mode)) → IsRunUnder c script (state_of new)
     by r = record {
       run = r.0;
       off = r.1;

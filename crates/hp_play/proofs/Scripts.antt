@@ -1,5 +1,5 @@
 -- Why there is no script is why nothing is played; which generated scripts can be.
-use Rattle.std.proofs.Common.{◌≡◌, ℕ, ◌<◌, Option, Bool, true, false, ltb, List, Result, Ok, Err, IfErr, inl, arith, refl, sym, subst}
+use Rattle.std.proofs.Common.{◌≡◌, ℕ, ◌<◌, Option, Bool, true, false, ltb, List, Result, Ok, Err, IfErr, arith, refl, sym, subst}
 use Rattle.std.proofs.lemmas.Bool.{ltb-true, ltb-false}
 use Rattle.hp_command.specs.declared.command.Command.{Command}
 use Rattle.hp_command.specs.declared.command.Command.TheVariants as asks
@@ -9,14 +9,20 @@ use Rattle.hp_edge.specs.declared.script.NoScript.{NoScript}
 use Rattle.hp_edge.specs.declared.script.NoScript.TheVariants as no_script
 use Rattle.hp_edge.specs.Scripts.{counted_hooks}
 use Rattle.hp_edge.specs.Scripts as edge
+use Rattle.hp_model.specs.Lists.{numbers}
+use Rattle.hp_model.specs.Processors.{is_present}
+use Rattle.hp_model.proofs.SumLemmas.{length-filter_le, length-numbers}
 use Rattle.hp_script.specs.Generated.{generated}
-use Rattle.hp_script.specs.Judged.{IsRefused}
+use Rattle.hp_script.specs.Script.{Contents}
+use Rattle.hp_script.proofs.PlayableScripts.{read_scripts_play}
+use Rattle.hp_script.specs.Judged.{IsRead, IsRefused}
 use Rattle.hp_script.specs.declared.error.ScriptKind.{ScriptKind}
 use Rattle.hp_script.proofs.GeneratedScripts.{is_read}
 use Rattle.hp_play.specs.declared.stop.Stop.{Stop}
 use Rattle.hp_play.specs.declared.stop.Stop.TheVariants.{BadScript, BadJournal, ReadFault, NoMemory}
+use Rattle.hp_play.specs.Controlled.{HasSeatMore}
 use Rattle.hp_play.specs.Ranges.{AreInRange}
-use Rattle.hp_play.specs.Stops.{HasRanges, Stops, StopsScript, StopsControl, Refuses, stop_of}
+use Rattle.hp_play.specs.Stops.{HasRanges, Stops, StopsScript, Refuses, stop_of}
 
 -- the stop says why there is no script
 pub refuses_stop : (hooks : ℕ) (bytes : List ℕ) (e : NoScript) (stop : Stop) → stop ≡ stop_of e → edge.Refuses hooks bytes e →
@@ -37,15 +43,12 @@ stops_script hooks left now faults faults_now e stop is why = subst (StopsScript
     go no_script.ReadFault why = why
     go no_script.NoMemory why = why
 
--- so it is of a script that is read to be played under SMT control
-pub stops_control : (hooks : ℕ) (left now : Option (List ℕ)) (faults faults_now : ℕ) (e : NoScript) (stop : Stop) → stop ≡ stop_of e →
-    edge.Stops hooks left now faults faults_now e → StopsControl hooks left now faults faults_now stop
-stops_control hooks left now faults faults_now e stop is why = subst (StopsControl hooks left now faults faults_now) (sym is) (go e why)
-  where
-    go : (e : NoScript) → edge.Stops hooks left now faults faults_now e → StopsControl hooks left now faults faults_now (stop_of e)
-    go (no_script.Refused line) why = (inl why.0, why.1)
-    go no_script.ReadFault why = why
-    go no_script.NoMemory why = why
+-- a script that is read leaves a seat
+pub seat_more : (hooks : ℕ) (bytes : List ℕ) (script : Contents) → IsRead hooks bytes script → HasSeatMore script
+seat_more hooks bytes script read =
+    let p = read_scripts_play hooks bytes script read in
+    let head = script.head in
+    omega (arith, length-filter_le (λ c. is_present head c) (numbers head.possible), length-numbers head.possible, p.plays.head_is.few_possible, p.few_actors)
 
 -- the words of a command have its options in their ranges
 pub ranges : (words : List (List ℕ)) (command : Command) → IsCommand words command → HasRanges command

@@ -12,7 +12,7 @@ use Rattle.hp_play.specs.declared.output.Output.{Output}
 use Rattle.hp_play.specs.declared.stop.Stop.{Stop}
 use Rattle.hp_play.specs.Main.{Answer, Asked, HasInput, IsDoneBy, IsScriptPlayed, IsScriptControlled, IsReplayed, IsMigrated, Writes, WritesPart}
 use Rattle.hp_play.specs.Racks.{Racks, Stays, racks_of}
-use Rattle.hp_play.specs.Stops.{Reads, Stops, StopsScript, StopsControl, StopsJournal}
+use Rattle.hp_play.specs.Stops.{Reads, Stops, StopsScript, StopsJournal}
 
 -- ---- the whole program
 
@@ -115,10 +115,6 @@ StopsAt command from source source_now rack =
 abbrev pub StopsScriptAt : {S H : Type 0} → Source.Ghosts S → (source source_now : S) → (rack : Rack H) → Stop → Type 0
 StopsScriptAt from source source_now rack =
     StopsScript (length rack.hooks.items) (from.left source) (from.left source_now) (from.faults source) (from.faults source_now)
-
-abbrev pub StopsControlAt : {S H : Type 0} → Source.Ghosts S → (source source_now : S) → (rack : Rack H) → Stop → Type 0
-StopsControlAt from source source_now rack =
-    StopsControl (length rack.hooks.items) (from.left source) (from.left source_now) (from.faults source) (from.faults source_now)
 
 abbrev pub StopsJournalAt : {S : Type 0} → Version → Source.Ghosts S → (source source_now : S) → Stop → Type 0
 StopsJournalAt v from source source_now =

@@ -1,5 +1,7 @@
 -- What is so of the run of a script under SMT control, of what is written of it, and of the rack after it. This project's own.
-use Rattle.std.specs.Prelude.{◌≡◌, ◌+◌, ◌≤◌, Bool, true, false, ℕ, List, ◌++◌, length}
+use Rattle.std.specs.Prelude.{◌≡◌, ◌+◌, ◌≤◌, ℕ, List, ◌++◌, length}
+use Rattle.hp_command.specs.declared.controlling.ControlMode.{ControlMode}
+use Rattle.hp_command.specs.declared.controlling.ControlMode.TheVariants as mode
 use Rattle.hp_command.specs.declared.controlling.Controlling.{Controlling}
 use Rattle.hp_model.specs.Processors.{present}
 use Rattle.hp_model.specs.Summary.{summary}
@@ -16,19 +18,19 @@ use Rattle.hp_play.specs.Played.{HasLaws}
 use Rattle.hp_play.specs.Racks.{Racks, IsRefilled}
 
 -- the write before that of On
-abbrev pub control_of : (force : Bool) → Control
-control_of false = Off
-control_of true = ForceOff
+abbrev pub control_of : ControlMode → Control
+control_of mode.Off = Off
+control_of mode.ForceOff = ForceOff
 
--- beside the threads and the actors there is a seat for the client that writes
+-- beside the threads and the actors there is a seat for the client that writes, as there is of every script
 abbrev pub HasSeatMore : Contents → Type 0
 HasSeatMore script = length (present script.head) + length script.actors + 1 ≤ MAX_SEATS
 
 -- It is the run of the script's actors beside that client. Before it and after each of its turns, while the mode is Off or ForceOff,
 -- every processor that is online is a primary; its journal has the laws of every journal.
 pub record IsRunUnder (c : Controlling) (script : Contents) (at : SmtState) : Type 0 where
-  pub run : IsSmtRun script.head c.threads script.actors (control_of c.force) at
-  pub off : SiblingsStayOffFor script.head c.threads script.actors (control_of c.force) run.rounds
+  pub run : IsSmtRun script.head c.threads script.actors (control_of c.mode) at
+  pub off : SiblingsStayOffFor script.head c.threads script.actors (control_of c.mode) run.rounds
   pub laws : HasLaws script.head at.run.events
 
 abbrev pub controlled_text : Contents → SmtState → List ℕ

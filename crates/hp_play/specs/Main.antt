@@ -26,17 +26,13 @@ use Rattle.hp_script.specs.Judged.{IsRefused}
 use Rattle.hp_script.specs.Script.{Contents}
 use Rattle.hp_play.specs.declared.output.Output.{Output}
 use Rattle.hp_play.specs.declared.output.Output.TheVariants as writes
-use Rattle.hp_play.specs.Controlled.{HasSeatMore, WasControlled}
+use Rattle.hp_play.specs.Controlled.{WasControlled}
 use Rattle.hp_play.specs.Played.{IsPlayed}
 use Rattle.hp_play.specs.Racks.{Racks, Stays}
 
 abbrev pub usage_line : List ℕ
 usage_line =
     codes "usage: hp play|replay|states|report|gen|bench|migrate|smt|count [--seed N] [--size N] [T MODE] [STATE BATCH]" ++ 10 ∷ []
-
--- what answers a script that leaves no seat for the client that writes to SMT control
-abbrev pub no_seat_line : List ℕ
-no_seat_line = codes "error: no seat is left" ++ 10 ∷ []
 
 -- ---- what is done
 
@@ -105,11 +101,6 @@ pub record HoldsJournal (v : Version) (left : Option (List ℕ)) : Type 0 where
   pub held : left ≡ Some bytes
   pub is_text : IsReplay v bytes (accepted head events)
 
--- the source holds a script that leaves a seat for the client that writes to SMT control
-pub record HoldsControlled (hooks : ℕ) (left : Option (List ℕ)) : Type 0 where
-  pub holds : HoldsScript hooks left
-  pub seat : HasSeatMore holds.script
-
 -- what a command needs: the input that it reads, or of `bench` the hooks for the twelve setups of a generated script
 abbrev pub HasInput : Command → (hooks : ℕ) (left : Option (List ℕ)) → Type 0
 HasInput asks.Play hooks left = HoldsScript hooks left
@@ -120,7 +111,7 @@ HasInput asks.Migrate hooks left = HoldsJournal One left
 HasInput (asks.Gen options) hooks left = Unit {0}
 HasInput (asks.Bench options) hooks left = 12 ≤ hooks
 HasInput (asks.Count counting) hooks left = HoldsScript hooks left
-HasInput (asks.Smt controlling) hooks left = HoldsControlled hooks left
+HasInput (asks.Smt controlling) hooks left = HoldsScript hooks left
 
 -- ---- what is refused
 
@@ -133,23 +124,13 @@ pub record IsBadBench (seed size hooks : ℕ) (left now : Option (List ℕ)) (wr
   pub few_hooks : hooks < 12
   pub written_is : written ≡ script_error_line (BadScript line kind)
 
--- the script that was read leaves no seat for the client that writes to SMT control
-pub record IsUnseated (hooks : ℕ) (left now : Option (List ℕ)) (written : List ℕ) : Type 0 where
-  pub script : Contents
-  pub read : HasReadScript hooks left now script
-  pub no_seat : HasSeatMore script → ⊥
-  pub written_is : written ≡ no_seat_line
-
-abbrev pub IsBadControl : (hooks : ℕ) (left now : Option (List ℕ)) (written : List ℕ) → Type 0
-IsBadControl hooks left now written = IsBadScript hooks left now written ⊎ IsUnseated hooks left now written
-
 abbrev pub IsRefusedBy : Command → (hooks : ℕ) (left now : Option (List ℕ)) (written : List ℕ) → Type 0
 IsRefusedBy asks.Play hooks left now written = IsBadScript hooks left now written
 IsRefusedBy asks.States hooks left now written = IsBadScript hooks left now written
 IsRefusedBy asks.Report hooks left now written = IsBadScript hooks left now written
 IsRefusedBy (asks.Bench options) hooks left now written = IsBadBench options.seed options.size hooks left now written
 IsRefusedBy (asks.Count counting) hooks left now written = IsBadScript hooks left now written
-IsRefusedBy (asks.Smt controlling) hooks left now written = IsBadControl hooks left now written
+IsRefusedBy (asks.Smt controlling) hooks left now written = IsBadScript hooks left now written
 IsRefusedBy _ hooks left now written = ⊥
 
 -- the source holds no journal in a version: this line is the first that can't stand, for this cause

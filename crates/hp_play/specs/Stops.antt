@@ -6,7 +6,7 @@ use Rattle.hp_command.specs.Controlling.{AreThreads}
 use Rattle.hp_play.specs.declared.stop.Stop.{Stop}
 use Rattle.hp_play.specs.declared.stop.Stop.TheVariants.{BadScript, BadJournal, ReadFault, NoMemory}
 use Rattle.hp_play.specs.Ranges.{AreInRange, CanBeCounted}
-use Rattle.hp_play.specs.Main.{IsBadJournal, IsBadJournalOf, IsBadControl, IsRefusedBy}
+use Rattle.hp_play.specs.Main.{IsBadJournal, IsBadJournalOf, IsRefusedBy}
 use Rattle.hp_event.specs.declared.version.Version.{Version}
 use Rattle.hp_edge.specs.declared.script.NoScript.{NoScript}
 use Rattle.hp_edge.specs.declared.script.NoScript.TheVariants as no_script
@@ -46,13 +46,6 @@ StopsScript hooks left now faults faults_now (BadScript line) = IsBadScript hook
 StopsScript hooks left now faults faults_now (BadJournal line) = ⊥
 StopsScript hooks left now faults faults_now ReadFault = faults_now ≡ faults + 1
 StopsScript hooks left now faults faults_now NoMemory = faults_now ≡ faults
-
--- the same of a script that is read to be played under SMT control
-abbrev pub StopsControl : (hooks : ℕ) (left now : Option (List ℕ)) (faults faults_now : ℕ) → Stop → Type 0
-StopsControl hooks left now faults faults_now (BadScript line) = IsBadControl hooks left now line.items × (faults_now ≡ faults)
-StopsControl hooks left now faults faults_now (BadJournal line) = ⊥
-StopsControl hooks left now faults faults_now ReadFault = faults_now ≡ faults + 1
-StopsControl hooks left now faults faults_now NoMemory = faults_now ≡ faults
 
 -- the same of a journal that is read in a version
 abbrev pub StopsJournal : Version → (left now : Option (List ℕ)) (faults faults_now : ℕ) → Stop → Type 0

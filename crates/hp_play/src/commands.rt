@@ -7,11 +7,11 @@ ghost use Rattle.hp_play.specs.Racks.{racks_of, StaysUnlessWanting};
 ghost use Rattle.hp_play.specs.Ranges.{CanBeWritten};
 ghost use Rattle.hp_play.specs.Stops.{HasRanges, Refuses};
 ghost use Rattle.hp_command.specs.Controlling.{AreThreads};
-ghost use Rattle.hp_play.specs.Calls.{Does, StopsAt, Plays, StopsScriptAt, Controls, StopsControlAt};
+ghost use Rattle.hp_play.specs.Calls.{Does, StopsAt, Plays, StopsScriptAt, Controls};
 ghost use Rattle.hp_event.specs.declared.version.Version.TheVariants.{One, Two};
 ghost use Rattle.hp_play.specs.Calls.{Replays, Migrates, StopsJournalAt};
 
-use crate::controlled::{has_seat_more, no_seat_line, text_controlled};
+use crate::controlled::text_controlled;
 use crate::output::Output;
 use crate::play::text_played;
 use crate::stop::Stop;
@@ -87,16 +87,11 @@ fn script_controlled<S: Source, H: Hook>(
     requires threads { AreThreads controlling.threads }
     ensures controlled { IfOk result (Controls controlling S.Source H.Hook source.old source.new rack.old rack.new) }
     ensures faults { OnOk result (S.faults source.new ≡ S.faults source.old) }
-    ensures stop { IfErr result (StopsControlAt S.Source source.old source.new rack.old) }
+    ensures stop { IfErr result (StopsScriptAt S.Source source.old source.new rack.old) }
     ensures rack { IfErr result (StaysUnlessWanting rack.old rack.new) }
 {
     match read_script(alloc, source, rack.hooks.len()) {
-        Ok(script) => {
-            if !has_seat_more(&script) {
-                return Err(Stop::BadScript(no_seat_line(alloc)?));
-            }
-            Ok(text_controlled(alloc, controlling, &script, rack)?)
-        }
+        Ok(script) => Ok(text_controlled(alloc, controlling, &script, rack)?),
         Err(error) => Err(Stop::of_script(error)),
     }
 }

@@ -1,49 +1,29 @@
 //! A script is played under SMT control, and what is written of it.
 
-ghost use Rattle.std.specs.Prelude.{◌≡◌, ◌↔◌, ◌≤◌, true, IfOk, length, sum_by};
+ghost use Rattle.std.specs.Prelude.{◌≡◌, ◌≤◌, IfOk, length, sum_by};
 ghost use Rattle.hp_command.specs.Controlling.{AreThreads};
 ghost use Rattle.hp_model.specs.Scripts.{IsScript};
 ghost use Rattle.hp_script.specs.Playable.{setups_in};
 ghost use Rattle.hp_play.specs.Controlled.{HasSeatMore, WasControlled, control_of as control_for};
-ghost use Rattle.hp_play.specs.Main.{no_seat_line as line_without_seat};
 ghost use Rattle.hp_play.specs.Racks.{racks_of};
 
 use crate::control_text::append_control_text;
-use hp_actors::present_count;
-use hp_command::Controlling;
+use hp_command::{ControlMode, Controlling};
 use hp_hook::{Hook, Rack};
 use hp_print::journal_and_summary;
 use hp_script::Script;
 use hp_smt::Control;
 use hp_smt_run::SmtRun;
-use hp_states::{MAX_SEATS, NoMemory};
-use hp_text::append;
+use hp_states::NoMemory;
 use std::alloc::Global;
 
-/// Whether there is a seat for a client beside the threads and the actors of a script. Takes no memory.
-pub fn has_seat_more(script: &Script) -> bool
-    ensures { (result ≡ true) ↔ HasSeatMore script.now }
+/// What is written for a mode, before On. Takes no memory.
+fn control_of(mode: ControlMode) -> Control
+    ensures { result ≡ control_for mode }
 {
-    u64::from(present_count(script.head())) + u64::from(script.actors()) < u64::from(MAX_SEATS)
-}
-
-/// The line that says that there is none. Takes memory for it.
-pub fn no_seat_line(alloc: Global) -> Result<Vec<u8>, NoMemory>
-    ensures { IfOk result (λ text. text.items ≡ line_without_seat) }
-{
-    let mut line = Vec::new(alloc);
-    append(&mut line, b"error: no seat is left\n")?;
-    Ok(line)
-}
-
-/// The mode that is written before On. Takes no memory.
-fn control_of(force: bool) -> Control
-    ensures { result ≡ control_for force }
-{
-    if force {
-        Control::ForceOff
-    } else {
-        Control::Off
+    match mode {
+        ControlMode::Off => Control::Off,
+        ControlMode::ForceOff => Control::ForceOff,
     }
 }
 
@@ -67,7 +47,7 @@ pub fn text_controlled<H: Hook>(
         (racks_of H.Hook rack.old rack.new)
         text.items) }
 {
-    let want = control_of(controlling.force);
+    let want = control_of(controlling.mode);
     let mut run = SmtRun::start(alloc, script, controlling.threads, want, rack)?;
     run.play(alloc)?;
     run.rests();

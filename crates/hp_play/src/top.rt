@@ -41,21 +41,20 @@ const USAGE: &[u8] =
 /// | 0 | done | as above |
 /// | 1 | exactly where the words are none of these; nothing is read | the usage line |
 /// | 2 | exactly where the script is refused; of `bench`, where the rack has fewer than twelve hooks | its first refused line and the cause: `error: line 3: bad word` |
-/// | 2 | of `smt` also where threads and actors leave no seat for the client that writes | `error: no seat is left` |
 /// | 3 | only where a read failed, so never of `gen` and `bench` | nothing |
 /// | 4 | only where a write failed | the first bytes of what was to be written |
 /// | 5 | memory was wanting | nothing |
 /// | 6 | exactly where the journal is refused, of `replay` and `migrate` alone | its first line that can't stand, and the cause |
 ///
-/// The text of a journal is in version 2, but where version 1 is named. A script (of `smt` one that leaves a
-/// seat more), and the text of a lawful journal, is never refused: where no read and no write fails the
-/// status is 0, or 5. For the statuses 0, 2 and 6 of a command that reads, the
-/// source was read to its end, or to one byte past the most bytes of such an input. A script is played with
-/// hooks of the rack, one for each of its setups; the journal is the run of its actors by its schedule, and
-/// lawful: `specs/Played.antt` says what is so of it, and `specs/Racks.antt` of the rack after it; of `smt` it
-/// is the run that `specs/Controlled.antt` says. Under 1, 2, 3 and 6 the rack is as it was, and of `replay`,
-/// `migrate` and `gen` under every status; under 4 it is as under the status whose answer was begun. Where memory was wanting
-/// for a script, some hooks may be lost. The statuses are this project's own.
+/// The text of a journal is in version 2, but where version 1 is named. A script, and the text of a lawful
+/// journal, is never refused: where no read and no write fails the status is 0, or 5. For the statuses 0, 2
+/// and 6 of a command that reads, the source was read to its end, or to one byte past the most bytes of such
+/// an input. A script is played with hooks of the rack, one for each of its setups; the journal is the run of
+/// its actors by its schedule, and lawful: `specs/Played.antt` says what is so of it, and `specs/Racks.antt` of
+/// the rack after it; of `smt` it is the run that `specs/Controlled.antt` says. Under 1, 2, 3 and 6 the rack is
+/// as it was, and of `replay`, `migrate` and `gen` under every status; under 4 it is as under the status whose
+/// answer was begun. Where memory was wanting for a script, some hooks may be lost. The statuses are this
+/// project's own.
 pub fn hp_main<S: Source, K: Sink, H: Hook>(
     alloc: Global,
     words: &Vec<String>,
