@@ -3,7 +3,7 @@
 
 use hp_event::{Answer, Event, File, Form, How, Op, Role};
 use hp_print::{event_line, has_line};
-use hp_states::{CpuSet, Dir, MAX_EVENTS};
+use hp_states::{CpuSet, Dir};
 use std::alloc::Global;
 use std::process::Abort;
 use std::test::Fail;
@@ -100,7 +100,7 @@ fn a_line_of_each_seat_event(rt: HostRuntime) -> Result<(), Fail> {
 const NUMBERS: [(u32, &'static str); 4] = [
     (0, "unlock 10 0\n"),
     (1, "unlock 10 1\n"),
-    (MAX_EVENTS, "unlock 10 1048576\n"),
+    (9_876_543, "unlock 10 9876543\n"),
     (u32::MAX, "unlock 10 4294967295\n"),
 ];
 
