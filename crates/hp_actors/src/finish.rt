@@ -53,7 +53,10 @@ impl<H: Hook> Run<H> {
         let given = give_back(actors, rack);
         match board.retire(rack) {
             Ok(_) => given,
-            Err(_) => Err(NoMemory),
+            Err((error, board)) => {
+                board.into_journal();
+                Err(error)
+            }
         }
     }
 }

@@ -29,8 +29,13 @@ pub fn seated_board<H: Hook>(alloc: Global, head: &Head, clients: u32) -> Result
     ensures none { IfOk result (λ board. hook_count board.places ≡ 0) }
 {
     let mut board = board_of(alloc, head)?;
-    seat_all(&mut board, head, clients)?;
-    Ok(board)
+    match seat_all(&mut board, head, clients) {
+        Ok(()) => Ok(board),
+        Err(error) => {
+            board.into_journal();
+            Err(error)
+        }
+    }
 }
 
 /// Lets the threads of the present processors into an empty machine, in rising number, and after them so many

@@ -44,6 +44,18 @@ impl<H: Hook> Board<H> {
         move_hooks(table, &mut rack.hooks);
         Ok(journal)
     }
+
+    /// Gives the board up with its hooks, and answers its journal. What is in flight is left as it is.
+    ///
+    /// Takes no memory. This project's own.
+    pub fn into_journal(self) -> Journal
+        ensures head { result.head ≡ self.head }
+        ensures events { result.events ≡ self.events }
+    {
+        let Board { machine, .. } = self;
+        let (journal, _) = machine.into_parts();
+        journal
+    }
 }
 
 /// Moves the hooks of a table behind others, which have places for as many. Takes no memory.

@@ -60,8 +60,8 @@ fn text_of_script<R: Threads + Wait + Sync, G: Gate + Sync, H: Hook + Send>(
     requires command { CanBeDone command }
     ensures { IfOk result (λ text. WasDone command script.now text.items) }
 {
-    let board = run_script(rt, alloc, script, rack, gate)?;
-    Ok(text_of_journal(rt, alloc, command, board.journal())?)
+    let journal = run_script(rt, alloc, script, rack, gate)?;
+    Ok(text_of_journal(rt, alloc, command, &journal)?)
 }
 
 /// What is written under a command of a lawful journal. Takes memory for it; where that is wanting: `NoMemory`.

@@ -46,7 +46,10 @@ impl<H: Hook> SmtRun<H> {
         give_back(actors, rack)?;
         match smt.into_board().retire(rack) {
             Ok(journal) => Ok(journal),
-            Err(_) => Err(NoMemory),
+            Err((error, board)) => {
+                board.into_journal();
+                Err(error)
+            }
         }
     }
 }

@@ -8,7 +8,7 @@ ghost use Rattle.hp_threads.specs.Ending.{HasGone, HaveGone};
 ghost use Rattle.hp_threads.specs.Jobs.{CanServe};
 ghost use Rattle.hp_turn.specs.Story.{Knows};
 
-use hp_board::Board;
+use hp_event::Journal;
 use hp_hook::Hook;
 use hp_live::{Gate, Hotplug, Left, ParkedAp, Root};
 use std::sync::Wait;
@@ -67,8 +67,8 @@ fn leave_one<H: Hook + Send, R: Wait, G: Gate>(
     machine.meet(root, left);
 }
 
-/// The machine is closed: the board at its end.
-pub(crate) fn close<H: Hook + Send, R: Wait>(rt: &R, machine: Hotplug<H>, root: Root<H>) -> Board<H>
+/// The machine is closed: its journal.
+pub(crate) fn close<H: Hook + Send, R: Wait>(rt: &R, machine: Hotplug<H>, root: Root<H>) -> Journal
     requires own { IsOf machine root.lock }
     ensures head { result.head ≡ root.head }
     ensures lawful { IsLawful result.head result.events }
@@ -76,5 +76,5 @@ pub(crate) fn close<H: Hook + Send, R: Wait>(rt: &R, machine: Hotplug<H>, root: 
 {
     let board = machine.close(rt, root);
     board.sound();
-    board
+    board.into_journal()
 }

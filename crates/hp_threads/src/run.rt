@@ -12,7 +12,7 @@ use crate::ending::{close, leave_all, meet_all};
 use crate::job::Job;
 use crate::joining::run_threads;
 use crate::telling::{tell_actors, tell_threads};
-use hp_board::Board;
+use hp_event::Journal;
 use hp_hook::{Hook, Rack};
 use hp_live::{Gate, Hotplug, ParkedAp, Root};
 use hp_script::Script;
@@ -21,7 +21,7 @@ use std::alloc::Global;
 use std::sync::Wait;
 use std::thread::Threads;
 
-/// Runs a script on threads: one for each of its actors, and one for each present processor. Answers the board at its end.
+/// Runs a script on threads: one for each of its actors, and one for each present processor. Answers its journal.
 ///
 /// The seats of the present processors' threads are let in, in rising number, and then one for each actor, in the
 /// script's order; the script's schedule isn't used. An actor's thread makes its operations, one after another, and its
@@ -29,7 +29,7 @@ use std::thread::Threads;
 /// can't be started is run by the caller, after the others were started: then it may wait for ever.
 ///
 /// The script is one that can be played, and the rack has at least as many hooks as it has setups: each takes one
-/// of its own. The rack's hooks are lost with it. The board's journal says what was done.
+/// of its own. The rack's hooks are lost with it.
 /// - `NoMemory` where memory was wanting before the threads were started, or where a seat wasn't let in. That
 ///   there is a seat and room for each is so of a script that can be played, where nobody else has the machine.
 ///
@@ -41,11 +41,11 @@ pub fn run_script<H: Hook + Send, R: Threads + Wait + Sync, G: Gate + Sync>(
     script: &Script,
     mut rack: Rack<H>,
     gate: &G,
-) -> Result<Board<H>, NoMemory>
+) -> Result<Journal, NoMemory>
     requires script { IsScript script.now.head script.now.actors }
     requires hooks { sum_by setups_in script.now.actors ≤ length rack.hooks.items }
-    ensures head { IfOk result (λ board. board.head ≡ script.now.head) }
-    ensures journal { IfOk result (λ board. IsJournalOf script.now board.events) }
+    ensures head { IfOk result (λ journal. journal.head ≡ script.now.head) }
+    ensures journal { IfOk result (λ journal. IsJournalOf script.now journal.events) }
 {
     let (machine, mut root) = start_machine(alloc, script.head())?;
     let (passes, jobs) = open(rt, alloc, &machine, &mut root, script, &mut rack)?;
