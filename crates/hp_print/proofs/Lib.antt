@@ -10,3 +10,4 @@ pub mod NameText
 pub mod OperationNumbersLaws
 pub mod ReportValue
 pub mod ReportShape
+pub mod Loops

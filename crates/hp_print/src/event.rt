@@ -1,6 +1,7 @@
 //! The line of an event.
 
 ghost use Rattle.std.specs.Prelude.{◌≡◌, ◌++◌, ◌∷◌, [], OnOk, IfOk, true, decimal};
+ghost use Rattle.hp_event.specs.declared.answer.Answer.TheVariants as answer;
 ghost use Rattle.hp_event.specs.declared.event.Event.TheVariants as event;
 ghost use Rattle.hp_model.specs.Words.{spaced, joined, dir_word};
 ghost use Rattle.hp_model.specs.HasLine.{lists_one as lists_one_of, has_line as has_line_of};
@@ -19,18 +20,29 @@ fn append_how(out: &mut Vec<u8>, how: How) -> Result<(), AllocError>
 {
     match how {
         How::RanOk => append(out, b" ok"),
-        How::RanFault(code) => {
-            append(out, b" fault")?;
-            append_number(out, code)
-        }
+        How::RanFault(code) => append_of(out, b" fault", code),
         How::Injected => append(out, b" injected"),
         How::Empty => append(out, b" empty"),
         How::Presumed => append(out, b" presumed"),
-        How::Overruled(code) => {
-            append(out, b" overruled")?;
-            append_number(out, code)
-        }
+        How::Overruled(code) => append_of(out, b" overruled", code),
     }
+}
+
+/// Appends the words of an operation that is ok, with the value that it read.
+fn append_ok(out: &mut Vec<u8>, value: i32) -> Result<(), AllocError>
+    ensures { OnOk result (Appends out.old out.new (spaced (answer_words (answer.Ok value)))) }
+{
+    append(out, b" ok")?;
+    append_signed(out, value)
+}
+
+/// Appends the words of an operation that is stuck: its two codes, and the state where it is.
+fn append_stuck(out: &mut Vec<u8>, first: u32, second: u32, at: u32) -> Result<(), AllocError>
+    ensures { OnOk result (Appends out.old out.new (spaced (answer_words (answer.Stuck first second at)))) }
+{
+    append_of(out, b" stuck", first)?;
+    append_number(out, second)?;
+    append_number(out, at)
 }
 
 /// Appends the words of the answer of an operation or a registration, each behind a space.
@@ -40,24 +52,10 @@ pub fn append_answer(out: &mut Vec<u8>, answer: Answer) -> Result<(), AllocError
     ensures { OnOk result (Appends out.old out.new (spaced (answer_words answer))) }
 {
     match answer {
-        Answer::Ok(value) => {
-            append(out, b" ok")?;
-            append_signed(out, value)
-        }
-        Answer::Refused(errno) => {
-            append(out, b" refused")?;
-            append_number(out, errno)
-        }
-        Answer::Fault(code) => {
-            append(out, b" fault")?;
-            append_number(out, code)
-        }
-        Answer::Stuck { first, second, at } => {
-            append(out, b" stuck")?;
-            append_number(out, first)?;
-            append_number(out, second)?;
-            append_number(out, at)
-        }
+        Answer::Ok(value) => append_ok(out, value),
+        Answer::Refused(errno) => append_of(out, b" refused", errno),
+        Answer::Fault(code) => append_of(out, b" fault", code),
+        Answer::Stuck { first, second, at } => append_stuck(out, first, second, at),
         Answer::LogFull => append(out, b" full"),
     }
 }
@@ -263,17 +261,17 @@ fn append_alone(out: &mut Vec<u8>, word: &[u8], seat: u32, number: u32) -> Resul
 fn append_words(out: &mut Vec<u8>, event: &Event, number: u32) -> Result<(), AllocError>
     ensures { OnOk result (AppendsWords out.old out.new number event.now) }
 {
-    match event {
-        Event::Admit { seat, role } => append_admit(out, *seat, *role),
-        Event::Leave { seat } => append_of(out, b"leave", *seat),
-        Event::Enter { seat, op } => append_enter(out, *seat, number, op),
-        Event::Refused { seat, errno, op } => append_refused(out, *seat, number, *errno, op),
+    match *event {
+        Event::Admit { seat, role } => append_admit(out, seat, role),
+        Event::Leave { seat } => append_of(out, b"leave", seat),
+        Event::Enter { seat, op } => append_enter(out, seat, number, &op),
+        Event::Refused { seat, errno, op } => append_refused(out, seat, number, errno, &op),
         Event::WalkBegin {
             seat,
             cpu,
             from,
             to,
-        } => append_walk(out, *seat, *cpu, *from, *to),
+        } => append_walk(out, seat, cpu, from, to),
         Event::Call {
             seat,
             cpu,
@@ -281,31 +279,21 @@ fn append_words(out: &mut Vec<u8>, event: &Event, number: u32) -> Result<(), All
             inst,
             dir,
             how,
-        } => append_call(
-            out,
-            *seat,
-            *cpu,
-            Key {
-                state: *state,
-                inst: *inst,
-            },
-            *dir,
-            *how,
-        ),
-        Event::WalkEnd { seat, cpu, answer } => append_walked(out, *seat, *cpu, *answer),
-        Event::OpEnd { seat, answer } => append_done(out, *seat, number, *answer),
-        Event::RegBegin { seat, state, op } => append_reg(out, *seat, number, *state, op),
-        Event::RegEnd { seat, answer } => append_regged(out, *seat, number, *answer),
-        Event::ReadLock { seat } => append_alone(out, b"lock", *seat, number),
-        Event::ReadUnlock { seat } => append_alone(out, b"unlock", *seat, number),
-        Event::Armed { seat, cpu, value } => append_armed(out, *seat, number, *cpu, *value),
+        } => append_call(out, seat, cpu, Key { state, inst }, dir, how),
+        Event::WalkEnd { seat, cpu, answer } => append_walked(out, seat, cpu, answer),
+        Event::OpEnd { seat, answer } => append_done(out, seat, number, answer),
+        Event::RegBegin { seat, state, op } => append_reg(out, seat, number, state, &op),
+        Event::RegEnd { seat, answer } => append_regged(out, seat, number, answer),
+        Event::ReadLock { seat } => append_alone(out, b"lock", seat, number),
+        Event::ReadUnlock { seat } => append_alone(out, b"unlock", seat, number),
+        Event::Armed { seat, cpu, value } => append_armed(out, seat, number, cpu, value),
         Event::Shown {
             seat,
             file,
             cpu,
             value,
-        } => append_shown(out, *seat, number, *file, *cpu, *value),
-        Event::Wakeup { seat } => append_alone(out, b"wakeup", *seat, number),
+        } => append_shown(out, seat, number, file, cpu, value),
+        Event::Wakeup { seat } => append_alone(out, b"wakeup", seat, number),
     }
 }
 

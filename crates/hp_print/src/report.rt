@@ -64,10 +64,9 @@ fn cpu_value(
 ) -> Result<Value, AllocError>
     ensures { IfOk result (λ v. view v ≡ cpu_object cpu present state (keys_of counts.now)) }
 {
-    let keys = keys_value(alloc, counts)?;
     json!(in alloc; {
         "cpu": cpu,
-        "keys": keys,
+        "keys": keys_value(alloc, counts)?,
         "online": state >= TEARDOWN_CPU,
         "present": present,
         "state": state,
@@ -132,13 +131,11 @@ fn registered_value(
     ensures { IfOk result (λ v. view v
         ≡ sub_object state (utf8_lossy name.now) made faults insts.now) }
 {
-    let instances = numbers_value(alloc, insts)?;
-    let name = String::from_utf8_lossy(alloc, name)?;
     json!(in alloc; {
         "faults": faults,
-        "instances": instances,
+        "instances": numbers_value(alloc, insts)?,
         "made": made,
-        "name": name,
+        "name": String::from_utf8_lossy(alloc, name)?,
         "state": state,
     })
 }
@@ -210,15 +207,12 @@ fn report_value(
     requires faults { length tally.now.states.faults.items ≡ ONLINE + 1 }
     ensures { IfOk result (λ v. view v ≡ tallied head.now tally.now count) }
 {
-    let cpus = cpus_value(alloc, head, &tally.processors)?;
-    let frozen = frozen_value(alloc, tally.suspended.frozen.as_slice(), head.possible)?;
-    let subs = states_value(alloc, head, &tally.states, ONLINE + 1)?;
     json!(in alloc; {
-        "cpus": cpus,
+        "cpus": cpus_value(alloc, head, &tally.processors)?,
         "disabled": tally.suspended.disabled,
         "events": count,
-        "frozen": frozen,
-        "subs": subs,
+        "frozen": frozen_value(alloc, tally.suspended.frozen.as_slice(), head.possible)?,
+        "subs": states_value(alloc, head, &tally.states, ONLINE + 1)?,
     })
 }
 
