@@ -8,8 +8,8 @@
 //! registered state, which answers by its subsystem's rules. So each event takes a time that doesn't
 //! grow with the journal. No hook of anybody else's is called.
 //!
-//! Journals that are lawful, and refused with one line changed, are texts in `hp_replay_tests`; heads, full
-//! journals, and what no text can say are tested in `hp_law_tests`.
+//! Journals that are lawful, and refused with one line changed, are rows of `hp_examples`; heads, full journals,
+//! and what no text can say are tested in `hp_law_tests`.
 #![tactic(auto)]
 
 mod asked;

@@ -1,4 +1,4 @@
-//! Freezes and thaws.
+//! A freeze and a thaw.
 
 use crate::sample::Sample;
 
@@ -83,47 +83,5 @@ sub 150 net:a made 7 faults 1 instances -
 sub 160 net:b made 6 faults 0 instances -
 ops ok 4 refused 1 fault 1 stuck 0 full 0
 events 42
-",
-};
-
-/// A pending wakeup ends a freeze.
-pub const WAKEUP_STOPS_FREEZE: Sample = Sample {
-    name: "wakeup stops freeze",
-    script: "\
-cpus 2
-actor a
-up 1
-wakeup
-freeze 0
-down 1
-thaw
-",
-    journal: "\
-cpuhp journal 2
-cpus 2
-absent -
-events
-admit 0 ap 0
-admit 1 ap 1
-admit 2 client
-enter 2 1 up 1
-walk 2 1 0 200
-walked 2 1 ok
-done 2 1 ok 0
-wakeup 2 2
-enter 2 3 freeze 0
-done 2 3 refused 16
-refused 2 4 16 down 1
-enter 2 5 thaw
-done 2 5 ok 0
-end 13
-",
-    summary: "\
-cpu 0 present state 200 keys -
-cpu 1 present state 200 keys -
-disabled 0
-frozen -
-ops ok 3 refused 2 fault 0 stuck 0 full 0
-events 13
 ",
 };

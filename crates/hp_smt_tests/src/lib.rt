@@ -1,7 +1,7 @@
-//! The tests of hp_smt and hp_smt_run: that siblings go off and come back, what is denied, what a write of control waits for and
-//! answers, and what is recorded.
+//! The tests of hp_smt: what is denied, what a write of control waits for and answers, and what is recorded. Runs of scripts
+//! under SMT control are rows of hp_examples.
 //!
-//! They use both as any crate does. They stand apart because a crate with tests is proved twice, once with them and
+//! They use hp_smt as any crate does. They stand apart because a crate with tests is proved twice, once with them and
 //! once without.
 #![tactic(auto)]
 
@@ -13,8 +13,6 @@ mod machine;
 mod off;
 #[cfg(test)]
 mod played;
-#[cfg(test)]
-mod runs;
 #[cfg(test)]
 mod turned;
 #[cfg(test)]

@@ -23,6 +23,7 @@ pub(crate) fn machine(alloc: Global, subs: Subs, clients: u32) -> Result<Smt<Scr
     if come_in(&mut board, clients) && Smt::is_at_rest(&board) {
         Ok(Smt::over(board, 2))
     } else {
+        board.into_journal();
         Err(Fail::from("the seats come in"))
     }
 }

@@ -37,7 +37,9 @@ pub(crate) fn played(alloc: Global, subs: Subs, clients: &[&[Task]]) -> Result<F
     requires { All IsSub subs }
 {
     let mut smt = machine(alloc, subs, 4)?;
-    play(alloc, &mut smt, clients)
+    let found = play(alloc, &mut smt, clients);
+    smt.into_board().into_journal();
+    found
 }
 
 /// Rounds of the four threads and of the clients, enough for all their tasks.

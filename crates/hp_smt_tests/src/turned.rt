@@ -28,7 +28,9 @@ pub(crate) type Heard = (Vec<Said>, Mode);
 /// Takes turns on a new machine with no subsystem and so many clients.
 pub(crate) fn heard(alloc: Global, clients: u32, turns: &[Turned]) -> Result<Heard, Fail> {
     let mut smt = machine(alloc, Subs::new(alloc), clients)?;
-    hear(alloc, &mut smt, turns)
+    let heard = hear(alloc, &mut smt, turns);
+    smt.into_board().into_journal();
+    heard
 }
 
 /// Takes turns, one after the other.

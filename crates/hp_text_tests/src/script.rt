@@ -1,5 +1,5 @@
-//! The tests of hp_script: scripts that are read, with what they say, scripts that are refused, each with its line
-//! and kind, and generated scripts.
+//! The tests of hp_script: a script that is read, with what it says, scripts that are refused for how much they hold,
+//! each with its line and kind, and generated scripts.
 
 mod generator;
 mod refusals;

@@ -1,10 +1,11 @@
-//! Whole texts and summaries.
+//! Whole texts and summaries, and reports of what is in flight.
 
 use crate::compared::assert_text;
-use hp_event::{Answer, Event, Form, Head, How, Journal, Name, Numbers, Op, Role, Sub, Subs};
+use hp_event::{Answer, Event, Form, Head, How, Journal, Op, Role};
 use hp_print::{journal_text, report_json, summary};
 use hp_samples::TWO_STARTUPS;
-use hp_states::{Dir, HookPlan, Rule};
+use hp_script::parse;
+use hp_states::Dir;
 use std::alloc::Global;
 use std::process::Abort;
 use std::test::Fail;
@@ -13,16 +14,6 @@ const PLAIN: Form = Form {
     nocalls: false,
     locked: false,
 };
-
-fn named(alloc: Global, name: &[u8], multi: bool, plan: HookPlan) -> Result<Sub, Fail> {
-    Ok(Sub {
-        name: Name::from_vec(Vec::from_slice(alloc, name)?),
-        up: true,
-        down: true,
-        multi,
-        plan,
-    })
-}
 
 fn setup(state: u32, sub: u32) -> Event {
     Event::RegBegin {
@@ -45,17 +36,6 @@ fn call(seat: u32, cpu: u32, state: u32, how: How) -> Event {
         dir: Dir::Up,
         how,
     }
-}
-
-fn journal_of(head: Head, alloc: Global, events: &[Event]) -> Result<Journal, Fail> {
-    let mut journal = Journal::new(alloc, head);
-    for event in events {
-        journal.reserve(1)?;
-        if journal.promised() > 0 {
-            journal.push(*event);
-        }
-    }
-    Ok(journal)
 }
 
 /// The answer of what is done.
@@ -104,25 +84,21 @@ fn events_of_two_startups() -> [Event; 15] {
     ]
 }
 
-/// The head of their journal.
-fn head_of_two_startups(alloc: Global) -> Result<Head, Fail> {
-    let mut subs = Subs::new(alloc);
-    subs.push(named(alloc, b"net:a", false, HookPlan::none())?)?;
-    subs.push(named(alloc, b"net:b", false, HookPlan::none())?)?;
-    Ok(Head {
-        possible: 2,
-        absent: Numbers::new(alloc),
-        subs,
-    })
+/// The head of a journal of this script.
+fn head_of(alloc: Global, script: &str) -> Result<Head, Fail> {
+    let script = parse(alloc, script.as_bytes(), 4)?;
+    Ok(script.head().copy()?)
 }
 
-/// Their journal.
-fn two_startups(alloc: Global) -> Result<Journal, Fail> {
-    journal_of(
-        head_of_two_startups(alloc)?,
-        alloc,
-        &events_of_two_startups(),
-    )
+/// Appends so many of these events.
+fn append(journal: &mut Journal, events: &[Event], many: usize) -> Result<(), Fail> {
+    for event in events.iter().take(many) {
+        journal.reserve(1)?;
+        if journal.promised() > 0 {
+            journal.push(*event);
+        }
+    }
+    Ok(())
 }
 
 /// Compares the text of a journal, its summary and its report.
@@ -145,10 +121,12 @@ fn check_texts(
 
 #[test]
 fn the_texts_of_two_startups(rt: HostRuntime) -> Result<(), Fail> {
-    let journal = two_startups(rt.alloc())?;
+    let alloc = rt.alloc();
+    let mut journal = Journal::new(alloc, head_of(alloc, TWO_STARTUPS.script)?);
+    append(&mut journal, &events_of_two_startups(), 15)?;
     check_texts(
         &rt,
-        rt.alloc(),
+        alloc,
         &journal,
         TWO_STARTUPS.journal,
         TWO_STARTUPS.summary,
@@ -185,39 +163,10 @@ const IN_A_WALK: &str = concat!(
     "\n",
 );
 
-#[test]
-fn reports_of_what_is_in_flight(rt: HostRuntime) -> Result<(), Fail> {
-    let alloc = rt.alloc();
-    let events = events_of_two_startups();
-    for (many, wanted) in [(8, IN_A_REGISTRATION), (12, IN_A_WALK)] {
-        let journal = journal_of(head_of_two_startups(alloc)?, alloc, &events[..many])?;
-        assert_text(&rt, "in flight", &report_json(alloc, &journal)?, wanted);
-    }
-    Ok(())
-}
+/// A script whose journal is empty as long as nobody comes in, with absent processors.
+const ABSENT: &str = "cpus 4\nabsent 1 3\nsub - both multi\nrule up * 3 * 5\nactor a\n";
 
-/// A journal without events, of which two processors are absent, and its summary.
-const EMPTY: &str = "\
-cpuhp journal 2
-cpus 4
-absent 1 3
-sub - both multi
-rule up * 3 * 5
-events
-end 0
-";
-
-const EMPTY_SUMMARY: &str = "\
-cpu 0 present state 200 keys -
-cpu 1 absent state 0 keys -
-cpu 2 present state 0 keys -
-cpu 3 absent state 0 keys -
-disabled 0
-frozen -
-ops ok 0 refused 0 fault 0 stuck 0 full 0
-events 0
-";
-
+/// The report of no events of it.
 const EMPTY_REPORT: &str = concat!(
     r#"{"cpus":[{"cpu":0,"keys":[],"online":true,"present":true,"state":200},"#,
     r#"{"cpu":1,"keys":[],"online":false,"present":false,"state":0},"#,
@@ -227,33 +176,32 @@ const EMPTY_REPORT: &str = concat!(
     "\n",
 );
 
+/// Compares the report of so many events of two startups in a journal of this script.
+fn check_report(
+    rt: &impl Abort,
+    alloc: Global,
+    script: &str,
+    many: usize,
+    wanted: &str,
+) -> Result<(), Fail> {
+    let mut journal = Journal::new(alloc, head_of(alloc, script)?);
+    append(&mut journal, &events_of_two_startups(), many)?;
+    let report = report_json(alloc, &journal)?;
+    assert_text(rt, "a report", &report, wanted);
+    Ok(())
+}
+
 #[test]
-fn absent_processors_names_and_rules(rt: HostRuntime) -> Result<(), Fail> {
-    let mut plan = HookPlan::none();
-    plan.add(Rule {
-        dir: Dir::Up,
-        cpu: None,
-        inst: Some(3),
-        nth: None,
-        code: 5,
-    });
-    let mut subs = Subs::new(rt.alloc());
-    subs.push(named(rt.alloc(), b"", true, plan)?)?;
-    let mut absent = Numbers::new(rt.alloc());
-    absent.push(1)?;
-    absent.push(3)?;
-    let head = Head {
-        possible: 4,
-        absent,
-        subs,
-    };
-    let journal = journal_of(head, rt.alloc(), &[])?;
-    check_texts(
-        &rt,
-        rt.alloc(),
-        &journal,
-        EMPTY,
-        EMPTY_SUMMARY,
-        EMPTY_REPORT,
-    )
+fn reports_of_what_is_in_flight(rt: HostRuntime) -> Result<(), Fail> {
+    let first = TWO_STARTUPS.script;
+    for &(script, many, wanted) in [
+        (first, 8, IN_A_REGISTRATION),
+        (first, 12, IN_A_WALK),
+        (ABSENT, 0, EMPTY_REPORT),
+    ]
+    .iter()
+    {
+        check_report(&rt, rt.alloc(), script, many, wanted)?;
+    }
+    Ok(())
 }
