@@ -46,9 +46,6 @@ fn text(alloc: Global, schedule: &[u8]) -> Result<Vec<u8>, Fail> {
     Ok(text)
 }
 
-/// The seats of a run's events, and the last two.
-type Played = (Vec<u32>, Option<(Event, Event)>);
-
 /// Plays a script: the events of its journal.
 fn played(
     rt: &impl Abort,
@@ -84,17 +81,18 @@ fn play(
     Ok(events?)
 }
 
-/// The seats of events, and the last two.
-fn seats_of(alloc: Global, events: &[Event]) -> Result<Played, Fail> {
-    let mut seats = Vec::new(alloc);
-    for event in events {
-        seats.push(event.seat())?;
+/// Asserts that events are made by these seats, and that these come last.
+fn assert_events(rt: &impl Abort, events: &[Event], seats: &[u32], last: &[Event], name: &str) {
+    assert!(rt;
+        events.len() == seats.len(),
+        "{name}: {} events",
+        events.len()
+    );
+    for (at, (event, wanted)) in events.iter().zip(seats).enumerate() {
+        let seat = event.seat();
+        assert!(rt; seat == *wanted, "{name}: seat {seat} makes event {at}");
     }
-    let last = match events {
-        [.., one, other] => Some((*one, *other)),
-        _ => None,
-    };
-    Ok((seats, last))
+    assert!(rt; events.ends_with(last), "{name}: other events at its end");
 }
 
 /// The marks of five hooks, and how often each was called. The second and the third came back, in no order
@@ -152,7 +150,7 @@ const ROWS: [(&'static str, [u32; 23], [u32; 5]); 3] = [
 const MADE: [u64; 5] = [0, 0, 2, 1, 2];
 
 /// The last two events of each run.
-const LAST: (Event, Event) = (
+const LAST: [Event; 2] = [
     Event::WalkEnd {
         seat: 3,
         cpu: 1,
@@ -162,21 +160,16 @@ const LAST: (Event, Event) = (
         seat: 3,
         answer: Answer::Ok(0),
     },
-);
+];
 
 #[test]
 fn schedules_interleave_two_actors(rt: HostRuntime) -> Result<(), Fail> {
-    for &(schedule, seats, marks) in ROWS.iter() {
+    for (schedule, seats, marks) in ROWS.iter() {
         let mut rack = rack(rt.alloc())?;
         let text = text(rt.alloc(), schedule.as_bytes())?;
         let events = played(&rt, rt.alloc(), &text, &mut rack)?;
-        let (made_by, last) = seats_of(rt.alloc(), &events)?;
-        assert!(rt;
-            made_by.as_slice() == seats.as_slice(),
-            "{schedule}: {made_by:?}"
-        );
-        assert!(rt; last == Some(LAST), "{schedule}");
-        assert!(rt; seen(&rack) == Some((marks, MADE)), "{schedule}");
+        assert_events(&rt, &events, seats, &LAST, schedule);
+        assert!(rt; seen(&rack) == Some((*marks, MADE)), "{schedule}");
     }
     Ok(())
 }
@@ -213,64 +206,74 @@ const TOGETHER_SEATS: [u32; 33] = [
 ];
 
 /// Those from the first walk on.
-fn walked() -> [Event; 11] {
-    [
-        Event::WalkBegin {
-            seat: 3,
-            cpu: 1,
-            from: 0,
-            to: 200,
-        },
-        Event::WalkBegin {
-            seat: 3,
-            cpu: 2,
-            from: 0,
-            to: 200,
-        },
-        up_call(3, 1, 20),
-        up_call(1, 1, 150),
-        up_call(3, 2, 20),
-        up_call(2, 2, 150),
-        Event::WalkEnd {
-            seat: 3,
-            cpu: 1,
-            answer: Answer::Ok(0),
-        },
-        Event::WalkEnd {
-            seat: 3,
-            cpu: 2,
-            answer: Answer::Ok(0),
-        },
-        Event::OpEnd {
-            seat: 3,
-            answer: Answer::Ok(0),
-        },
-        Event::ReadLock { seat: 4 },
-        Event::ReadUnlock { seat: 4 },
-    ]
-}
-
-/// The entry of a processor that a hook made, on its way up.
-fn up_call(seat: u32, cpu: u32, state: u32) -> Event {
+const WALKED: [Event; 11] = [
+    Event::WalkBegin {
+        seat: 3,
+        cpu: 1,
+        from: 0,
+        to: 200,
+    },
+    Event::WalkBegin {
+        seat: 3,
+        cpu: 2,
+        from: 0,
+        to: 200,
+    },
     Event::Call {
-        seat,
-        cpu,
-        state,
+        seat: 3,
+        cpu: 1,
+        state: 20,
         inst: 0,
         dir: Dir::Up,
         how: How::RanOk,
-    }
-}
+    },
+    Event::Call {
+        seat: 1,
+        cpu: 1,
+        state: 150,
+        inst: 0,
+        dir: Dir::Up,
+        how: How::RanOk,
+    },
+    Event::Call {
+        seat: 3,
+        cpu: 2,
+        state: 20,
+        inst: 0,
+        dir: Dir::Up,
+        how: How::RanOk,
+    },
+    Event::Call {
+        seat: 2,
+        cpu: 2,
+        state: 150,
+        inst: 0,
+        dir: Dir::Up,
+        how: How::RanOk,
+    },
+    Event::WalkEnd {
+        seat: 3,
+        cpu: 1,
+        answer: Answer::Ok(0),
+    },
+    Event::WalkEnd {
+        seat: 3,
+        cpu: 2,
+        answer: Answer::Ok(0),
+    },
+    Event::OpEnd {
+        seat: 3,
+        answer: Answer::Ok(0),
+    },
+    Event::ReadLock { seat: 4 },
+    Event::ReadUnlock { seat: 4 },
+];
 
 #[test]
 fn processors_come_up_together(rt: HostRuntime) -> Result<(), Fail> {
     let mut rack = rack(rt.alloc())?;
     let events = played(&rt, rt.alloc(), TOGETHER, &mut rack)?;
-    let (made_by, _) = seats_of(rt.alloc(), &events)?;
-    assert!(rt; made_by.as_slice() == TOGETHER_SEATS.as_slice());
-    let begun = events.len().min(22);
-    let (_, from_first) = events.split_at(begun);
-    assert!(rt; from_first == walked().as_slice());
+    assert_events(&rt, &events, &TOGETHER_SEATS, &WALKED, "upmany");
     Ok(())
 }
 

@@ -1,211 +1,261 @@
-//! Which entries hooks are lent for, and which not: an entry that no hook makes, a fault of a hook that is out,
-//! registrations, and a client's own entry.
+//! Which entries hooks are lent for, who waits for a hook that is lent, and what goes on meanwhile.
 
-ghost use Rattle.std.specs.Prelude.{◌≡◌, ℕ, IfOk};
-ghost use Rattle.hp_board.specs.Loans.{loan};
-ghost use Rattle.hp_model.specs.Heads.{IsSub};
-
-use super::lending::{
-    answers, counted, goes_up, has_entry, lends_nothing, no_hooks, retired, serves, sets_up, setup,
-};
-use super::turns::{ask, board, board_of, fault, made, not_yet, ok, subsystem};
-use hp_board::{Ask, Board};
-use hp_event::{How, Op, Sub, Subs};
+use crate::play::play;
+use crate::rows::Does::{Asks, GoesOn, Serves, SetsUp};
+use crate::rows::Wanted::{Ends, Faults, Made, Waits};
+use crate::rows::{Answers, Lends, Part, Row};
+use hp_event::{How, Op};
 use hp_locks::Why;
-use hp_samples::Marked;
 use hp_states::Dir;
-use std::alloc::Global;
-use std::process::Abort;
 use std::test::Fail;
 
-/// Lends the hook of a seat, calls it, and gives it back: the place of the entry, and what the hook answered; none
-/// where nothing can be lent.
-fn lends(board: &mut Board<Marked>, by: u32) -> Option<(u32, u32)> {
-    if board.has_lent(by) {
-        return None;
+/// A board of two processors and two clients, which brings up the second processor with a hook at state 120.
+const WALK: Row = Row {
+    name: "a hook is lent for a walk and waited for",
+    cpus: 2,
+    clients: 2,
+    subs: (Answers::Zero, Answers::Zero),
+    parts: &[
+        Part {
+            steps: &[
+                (2, SetsUp(120, 1), Made(4)),
+                (0, Serves, Made(5)),
+                (2, GoesOn, Ends(6)),
+                (2, Asks(Op::Up(1)), Made(7)),
+                (2, GoesOn, Made(8)),
+            ],
+            nothing: &[0],
+            lends: Some(Lends {
+                by: 1,
+                beside: None,
+                steps: &[
+                    (2, GoesOn, Waits(Why::HookOut(120))),
+                    (3, Asks(Op::Arm(1, 120)), Waits(Why::HookOut(120))),
+                    (3, Asks(Op::ShowState(1)), Ends(9)),
+                ],
+                nothing: &[1],
+                answer: 0,
+                at: 10,
+            }),
+        },
+        Part {
+            steps: &[
+                (3, Asks(Op::Arm(1, 120)), Ends(11)),
+                (2, GoesOn, Made(12)),
+                (2, GoesOn, Ends(13)),
+            ],
+            nothing: &[],
+            lends: None,
+        },
+    ],
+    entries: &[(10, 1, 1, 120, Dir::Up, How::RanOk)],
+    len: 14,
+    states: None,
+    left: None,
+    hooks: &[(120, 2, 0)],
+};
+
+const EMPTY: Row = Row {
+    name: "an empty entry is not lent",
+    clients: 1,
+    subs: (Answers::NoStartup, Answers::Zero),
+    parts: &[
+        Part {
+            steps: &[(2, SetsUp(120, 1), Made(3))],
+            nothing: &[0],
+            lends: None,
+        },
+        Part {
+            steps: &[(0, Serves, Made(4)), (2, GoesOn, Ends(5))],
+            nothing: &[],
+            lends: None,
+        },
+    ],
+    entries: &[(4, 0, 0, 120, Dir::Up, How::Empty)],
+    len: 6,
+    hooks: &[(120, 0, 0)],
+    ..WALK
+};
+
+const INJECTED: Row = Row {
+    name: "an injected fault is not lent",
+    clients: 1,
+    parts: &[
+        Part {
+            steps: &[
+                (2, SetsUp(120, 1), Made(3)),
+                (0, Serves, Made(4)),
+                (2, GoesOn, Ends(5)),
+                (2, Asks(Op::Arm(1, 120)), Ends(6)),
+                (2, Asks(Op::Up(1)), Made(7)),
+                (2, GoesOn, Made(8)),
+            ],
+            nothing: &[1],
+            lends: None,
+        },
+        Part {
+            steps: &[
+                (1, Serves, Made(9)),
+                (2, GoesOn, Made(10)),
+                (2, GoesOn, Faults(11, 11)),
+            ],
+            nothing: &[],
+            lends: None,
+        },
+    ],
+    entries: &[(9, 1, 1, 120, Dir::Up, How::Injected)],
+    len: 12,
+    hooks: &[(120, 1, 0)],
+    ..WALK
+};
+
+/// The second lent hook answers a fault, and the first is lent again to undo.
+const FAULT: Row = Row {
+    name: "a fault of a lent hook rolls the walk back",
+    clients: 1,
+    subs: (Answers::Zero, Answers::Five),
+    parts: &[
+        Part {
+            steps: &[
+                (2, SetsUp(110, 1), Made(3)),
+                (0, Serves, Made(4)),
+                (2, GoesOn, Ends(5)),
+                (2, SetsUp(120, 2), Made(6)),
+                (0, Serves, Made(7)),
+                (2, GoesOn, Ends(8)),
+                (2, Asks(Op::Up(1)), Made(9)),
+                (2, GoesOn, Made(10)),
+                (1, Serves, Made(11)),
+            ],
+            nothing: &[],
+            lends: Some(Lends {
+                by: 1,
+                beside: None,
+                steps: &[],
+                nothing: &[],
+                answer: 5,
+                at: 12,
+            }),
+        },
+        Part {
+            steps: &[],
+            nothing: &[],
+            lends: Some(Lends {
+                by: 1,
+                beside: None,
+                steps: &[],
+                nothing: &[],
+                answer: 0,
+                at: 13,
+            }),
+        },
+        Part {
+            steps: &[(2, GoesOn, Made(14)), (2, GoesOn, Faults(5, 15))],
+            nothing: &[],
+            lends: None,
+        },
+    ],
+    entries: &[
+        (12, 1, 1, 120, Dir::Up, How::RanFault(5)),
+        (13, 1, 1, 110, Dir::Down, How::RanOk),
+    ],
+    len: 16,
+    hooks: &[(110, 3, 0), (120, 2, 1)],
+    ..WALK
+};
+
+/// While a hook is lent for an entry of a registration the one that registers waits for it, and a write of `fail` waits
+/// for no hook.
+const REGISTRATION: Row = Row {
+    name: "one thread at a time is lent a hook of a registration",
+    parts: &[
+        Part {
+            steps: &[
+                (2, Asks(Op::Up(1)), Made(4)),
+                (2, GoesOn, Made(5)),
+                (2, GoesOn, Made(6)),
+                (2, GoesOn, Ends(7)),
+                (2, SetsUp(120, 1), Made(8)),
+            ],
+            nothing: &[1],
+            lends: Some(Lends {
+                by: 0,
+                beside: None,
+                steps: &[
+                    (2, GoesOn, Waits(Why::HookOut(120))),
+                    (3, Asks(Op::Arm(1, 120)), Waits(Why::RegIn(2))),
+                    (3, Asks(Op::Arm(1, -1)), Ends(9)),
+                ],
+                nothing: &[1],
+                answer: 0,
+                at: 10,
+            }),
+        },
+        Part {
+            steps: &[],
+            nothing: &[0],
+            lends: Some(Lends {
+                by: 1,
+                beside: None,
+                steps: &[
+                    (2, GoesOn, Waits(Why::HookOut(120))),
+                    (3, Asks(Op::Arm(1, 120)), Waits(Why::RegIn(2))),
+                    (3, Asks(Op::Arm(1, -1)), Ends(11)),
+                ],
+                nothing: &[0],
+                answer: 0,
+                at: 12,
+            }),
+        },
+        Part {
+            steps: &[(2, GoesOn, Ends(13))],
+            nothing: &[],
+            lends: None,
+        },
+    ],
+    entries: &[
+        (10, 0, 0, 120, Dir::Up, How::RanOk),
+        (12, 1, 1, 120, Dir::Up, How::RanOk),
+    ],
+    len: 14,
+    hooks: &[(120, 2, 0)],
+    ..WALK
+};
+
+const OWN: Row = Row {
+    name: "a client is lent the hook of its own entry",
+    clients: 1,
+    parts: &[
+        Part {
+            steps: &[(2, SetsUp(30, 1), Made(3))],
+            nothing: &[],
+            lends: Some(Lends {
+                by: 2,
+                beside: None,
+                steps: &[],
+                nothing: &[],
+                answer: 0,
+                at: 4,
+            }),
+        },
+        Part {
+            steps: &[(2, GoesOn, Ends(5))],
+            nothing: &[],
+            lends: None,
+        },
+    ],
+    entries: &[(4, 2, 0, 30, Dir::Up, How::RanOk)],
+    len: 6,
+    hooks: &[(30, 1, 0)],
+    ..WALK
+};
+
+const ROWS: [Row; 6] = [WALK, EMPTY, INJECTED, FAULT, REGISTRATION, OWN];
+
+#[test]
+fn hooks_are_lent_for_entries(rt: HostRuntime) -> Result<(), Fail> {
+    for row in ROWS.iter() {
+        play(&rt, rt.alloc(), row)?;
     }
-    let back = board.lend(by)?.call();
-    let answer = back.answer();
-    Some((board.give(by, back), answer))
-}
-
-/// Whether the hooks of a board that ends with so many events have these marks and counts.
-fn ends(
-    rt: &impl Abort,
-    alloc: Global,
-    board: Board<Marked>,
-    events: u32,
-    hooks: &[(u32, u64, u64)],
-) -> Result<bool, Fail> {
-    let mut rack = no_hooks(alloc);
-    let made = retired(rt, board, &mut rack);
-    Ok(made == events && counted(alloc, &rack)?.as_slice() == hooks)
-}
-
-/// A subsystem without a startup.
-fn without_startup(alloc: Global) -> Result<Sub, Fail>
-    ensures { IfOk result IsSub }
-{
-    let mut sub = subsystem(alloc, None)?;
-    sub.up = false;
-    Ok(sub)
-}
-
-/// An entry that no hook makes, of the first thread.
-fn makes_an_empty_entry(rt: &impl Abort, board: &mut Board<Marked>) {
-    let mut setup = ask(setup(120, 1));
-    assert!(rt; answers(board, 2, &mut setup, made(3)));
-    lends_nothing(rt, board, 0);
-    assert!(rt; serves(board, 0, 4));
-    assert!(rt; has_entry(board, 4, (0, 0), (120, Dir::Up), How::Empty));
-    assert!(rt; answers(board, 2, &mut setup, ok(5)));
-}
-
-#[test]
-fn an_empty_entry_is_not_lent(rt: HostRuntime) -> Result<(), Fail> {
-    let sub = without_startup(rt.alloc())?;
-    let mut board = board(&rt, rt.alloc(), sub, 1)?;
-    makes_an_empty_entry(&rt, &mut board);
-    assert!(rt; ends(&rt, rt.alloc(), board, 6, [(120, 0, 0)].as_slice())?);
-    Ok(())
-}
-
-/// A walk that an armed fault turns back at its only entry.
-fn walks_into_an_armed_fault(rt: &impl Abort, board: &mut Board<Marked>) {
-    let mut up = ask(Op::Up(1));
-    assert!(rt; goes_up(board, &mut up, 7));
-    lends_nothing(rt, board, 1);
-    assert!(rt; serves(board, 1, 9));
-    assert!(rt; has_entry(board, 9, (1, 1), (120, Dir::Up), How::Injected));
-    assert!(rt; answers(board, 2, &mut up, made(10)));
-    assert!(rt; answers(board, 2, &mut up, fault(11, 11)));
-}
-
-#[test]
-fn an_injected_fault_is_not_lent(rt: HostRuntime) -> Result<(), Fail> {
-    let sub = subsystem(rt.alloc(), None)?;
-    let mut board = board(&rt, rt.alloc(), sub, 1)?;
-    assert!(rt; sets_up(&mut board, &mut ask(setup(120, 1)), 3));
-    assert!(rt; answers(&mut board, 2, &mut ask(Op::Arm(1, 120)), ok(6)));
-    walks_into_an_armed_fault(&rt, &mut board);
-    assert!(rt; ends(&rt, rt.alloc(), board, 12, [(120, 1, 0)].as_slice())?);
-    Ok(())
-}
-
-/// A board with a subsystem that answers 0, and one whose startup answers 5 on the second processor.
-fn board_with_a_fault(rt: &impl Abort, alloc: Global) -> Result<Board<Marked>, Fail> {
-    let mut subs = Subs::new(alloc);
-    subs.push(subsystem(alloc, None)?)?;
-    subs.push(subsystem(alloc, Some(5))?)?;
-    board_of(rt, alloc, subs, 1)
-}
-
-/// A walk of which the second lent hook answers a fault, and the first is lent again to undo.
-fn walks_into_a_fault(rt: &impl Abort, board: &mut Board<Marked>) {
-    let mut up = ask(Op::Up(1));
-    assert!(rt; goes_up(board, &mut up, 9));
-    assert!(rt; serves(board, 1, 11));
-    assert!(rt; lends(board, 1) == Some((12, 5)));
-    assert!(rt; has_entry(board, 12, (1, 1), (120, Dir::Up), How::RanFault(5)));
-    assert!(rt; lends(board, 1) == Some((13, 0)));
-    assert!(rt; has_entry(board, 13, (1, 1), (110, Dir::Down), How::RanOk));
-    assert!(rt; answers(board, 2, &mut up, made(14)));
-    assert!(rt; answers(board, 2, &mut up, fault(5, 15)));
-}
-
-#[test]
-fn a_fault_of_a_lent_hook_rolls_the_walk_back(rt: HostRuntime) -> Result<(), Fail> {
-    let mut board = board_with_a_fault(&rt, rt.alloc())?;
-    assert!(rt; sets_up(&mut board, &mut ask(setup(110, 1)), 3));
-    assert!(rt; sets_up(&mut board, &mut ask(setup(120, 2)), 6));
-    walks_into_a_fault(&rt, &mut board);
-    assert!(rt;
-        ends(
-            &rt,
-            rt.alloc(),
-            board,
-            16,
-            [(110, 3, 0), (120, 2, 1)].as_slice()
-        )?
-    );
-    Ok(())
-}
-
-/// What the clients find while a hook is lent for an entry of a registration: the one that registers waits for it,
-/// and a write of `fail` waits for no hook.
-fn finds(board: &mut Board<Marked>, setup: &mut Ask<Marked>, at: u32) -> bool
-    ensures { (k : ℕ) → loan board.new k ≡ loan board.old k }
-{
-    let registering = not_yet(Why::RegIn(2));
-    answers(board, 2, setup, not_yet(Why::HookOut(120)))
-        && answers(board, 3, &mut ask(Op::Arm(1, 120)), registering)
-        && answers(board, 3, &mut ask(Op::Arm(1, -1)), ok(at))
-}
-
-/// Lends the hook of one thread, calls it, and gives it back; the place of the entry, where the clients find it as it
-/// should be meanwhile. Nothing can be lent to the other thread then.
-fn lends_one(
-    rt: &impl Abort,
-    board: &mut Board<Marked>,
-    (by, other): (u32, u32),
-    setup: &mut Ask<Marked>,
-    at: u32,
-) -> Option<u32> {
-    if board.has_lent(by) {
-        return None;
-    }
-    let lent = board.lend(by)?;
-    lends_nothing(rt, board, other);
-    let found = finds(board, setup, at);
-    let back = lent.call();
-    lends_nothing(rt, board, other);
-    let at = board.give(by, back);
-    if found { Some(at) } else { None }
-}
-
-/// The second processor comes up, with nothing to call.
-fn comes_up(rt: &impl Abort, board: &mut Board<Marked>) {
-    let mut up = ask(Op::Up(1));
-    assert!(rt; goes_up(board, &mut up, 4));
-    assert!(rt; answers(board, 2, &mut up, made(6)));
-    assert!(rt; answers(board, 2, &mut up, ok(7)));
-}
-
-/// A registration of which each thread in its turn is lent the hook.
-fn registers_on_both(rt: &impl Abort, board: &mut Board<Marked>) {
-    let mut setup = ask(setup(120, 1));
-    assert!(rt; answers(board, 2, &mut setup, made(8)));
-    assert!(rt; lends_one(rt, board, (0, 1), &mut setup, 9) == Some(10));
-    assert!(rt; lends_one(rt, board, (1, 0), &mut setup, 11) == Some(12));
-    assert!(rt; has_entry(board, 10, (0, 0), (120, Dir::Up), How::RanOk));
-    assert!(rt; has_entry(board, 12, (1, 1), (120, Dir::Up), How::RanOk));
-    assert!(rt; answers(board, 2, &mut setup, ok(13)));
-}
-
-#[test]
-fn one_thread_at_a_time_is_lent_a_hook_of_a_registration(rt: HostRuntime) -> Result<(), Fail> {
-    let sub = subsystem(rt.alloc(), None)?;
-    let mut board = board(&rt, rt.alloc(), sub, 2)?;
-    comes_up(&rt, &mut board);
-    registers_on_both(&rt, &mut board);
-    assert!(rt; ends(&rt, rt.alloc(), board, 14, [(120, 2, 0)].as_slice())?);
-    Ok(())
-}
-
-/// A registration whose entry the client makes itself.
-fn makes_its_own_entry(rt: &impl Abort, board: &mut Board<Marked>) {
-    let mut setup = ask(setup(30, 1));
-    assert!(rt; answers(board, 2, &mut setup, made(3)));
-    assert!(rt; lends(board, 2) == Some((4, 0)));
-    assert!(rt; has_entry(board, 4, (2, 0), (30, Dir::Up), How::RanOk));
-    assert!(rt; answers(board, 2, &mut setup, ok(5)));
-}
-
-#[test]
-fn a_client_is_lent_the_hook_of_its_own_entry(rt: HostRuntime) -> Result<(), Fail> {
-    let sub = subsystem(rt.alloc(), None)?;
-    let mut board = board(&rt, rt.alloc(), sub, 1)?;
-    makes_its_own_entry(&rt, &mut board);
-    assert!(rt; ends(&rt, rt.alloc(), board, 6, [(30, 1, 0)].as_slice())?);
     Ok(())
 }

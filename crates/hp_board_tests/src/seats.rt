@@ -1,6 +1,6 @@
 //! As many seats as there can be come in, and no more.
 
-use super::lending::{no_hooks, retired};
+use crate::play::{rack, retired};
 use hp_board::{AdmitError, Board, CpuPlan};
 use hp_event::{Numbers, Role, Subs};
 use hp_samples::Marked;
@@ -15,6 +15,7 @@ fn seats_run_out(rt: HostRuntime) -> Result<(), Fail> {
         possible: MAX_CPUS,
         absent: Numbers::new(rt.alloc()),
     };
+    let mut rack = rack(rt.alloc(), &[])?;
     let mut board = Board::<Marked>::start(rt.alloc(), plan, Subs::new(rt.alloc()))?;
     for seat in 0..MAX_SEATS {
         let role = if seat < MAX_CPUS {
@@ -29,6 +30,6 @@ fn seats_run_out(rt: HostRuntime) -> Result<(), Fail> {
         board.leave(MAX_SEATS - 1);
     }
     assert!(rt; matches!(board.admit(Role::Client), Err(AdmitError::Full)));
-    assert!(rt; retired(&rt, board, &mut no_hooks(rt.alloc())) == MAX_SEATS + 1);
+    assert!(rt; retired(&rt, board, &mut rack) == MAX_SEATS + 1);
     Ok(())
 }

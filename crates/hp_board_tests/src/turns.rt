@@ -1,235 +1,161 @@
-//! Turns that come out as written by hand.
+//! Turns that come out as written by hand, hooks that come back, and how a board ends, where no clause says it: the very
+//! hooks come back, in rising state and behind those of the rack, and the states file names what is registered.
 
-ghost use Rattle.std.specs.Prelude.{◌<◌, ◌≤◌, All, IfOk, IfSome};
-ghost use Rattle.hp_model.specs.Heads.{IsSub};
-ghost use Rattle.hp_states.specs.declared.limits.TheConstants.{MAX_CODE};
-
-use super::lending::{no_hooks, retired};
-use hp_board::{Ask, Board, CpuPlan, Turn};
-use hp_event::{Answer, Form, Name, Numbers, Op, Role, Sub, Subs};
+use crate::play::play;
+use crate::rows::Does::{Asks, GoesOn, Removes, Serves, SetsUp};
+use crate::rows::Wanted::{Ends, Faults, Made, Refuses, Waits};
+use crate::rows::{Answers, Part, Row};
+use hp_event::Op;
 use hp_locks::Why;
-use hp_samples::Marked;
-use hp_states::{Dir, HookPlan, Rule};
-use std::alloc::Global;
-use std::process::Abort;
 use std::test::Fail;
 
-/// A subsystem with both callbacks, whose startup answers this code on processor 1, or 0 with none.
-pub(crate) fn subsystem(alloc: Global, code: Option<u32>) -> Result<Sub, Fail>
-    requires { IfSome code (λ n. (0 < n) × (n ≤ MAX_CODE)) }
-    ensures { IfOk result IsSub }
-{
-    let mut name = Name::new(alloc);
-    name.push(b'a')?;
-    let mut plan = HookPlan::none();
-    if let Some(code) = code {
-        plan.add(Rule {
-            dir: Dir::Up,
-            cpu: Some(1),
-            inst: None,
-            nth: None,
-            code,
-        });
-    }
-    Ok(Sub {
-        name,
-        up: true,
-        down: true,
-        multi: false,
-        plan,
-    })
-}
-
-/// A board of two processors with this subsystem, and with so many clients behind its two threads.
-pub(crate) fn board(
-    rt: &impl Abort,
-    alloc: Global,
-    sub: Sub,
-    clients: u32,
-) -> Result<Board<Marked>, Fail>
-    requires { IsSub sub }
-{
-    let mut subs = Subs::new(alloc);
-    subs.push(sub)?;
-    board_of(rt, alloc, subs, clients)
-}
-
-/// The same with these subsystems.
-pub(crate) fn board_of(
-    rt: &impl Abort,
-    alloc: Global,
-    subs: Subs,
-    clients: u32,
-) -> Result<Board<Marked>, Fail>
-    requires { All IsSub subs }
-{
-    let plan = CpuPlan {
-        possible: 2,
-        absent: Numbers::new(alloc),
-    };
-    let mut board = Board::start(alloc, plan, subs)?;
-    assert!(rt; come_in(&mut board, clients), "the seats come in");
-    Ok(board)
-}
-
-/// Whether the threads of two processors and so many clients come in.
-fn come_in(board: &mut Board<Marked>, clients: u32) -> bool {
-    for cpu in 0..2u32 {
-        if board.admit(Role::Ap(cpu)).is_err() {
-            return false;
-        }
-    }
-    for _ in 0..clients {
-        if board.admit(Role::Client).is_err() {
-            return false;
-        }
-    }
-    true
-}
-
-/// An operation, with a hook where it is a setup, which is marked with the state.
-pub(crate) fn ask(op: Op) -> Ask<Marked> {
-    let hook = match op {
-        Op::Setup { state, .. } => Some(Marked::new(state)),
-        _ => None,
-    };
-    Ask { op, hook }
-}
-
-/// One turn of a seat: of a thread's, or of a client's with its ask. None where it can't be taken.
-fn turn(board: &mut Board<Marked>, by: u32, ask: Option<&mut Ask<Marked>>) -> Option<Turn> {
-    match ask {
-        None => {
-            if board.has_lent(by) {
-                return None;
-            }
-            Some(board.serve(by))
-        }
-        Some(ask) => {
-            if !board.can_ask(by, ask) {
-                return None;
-            }
-            board.turn(by, ask).ok()
-        }
-    }
-}
-
-/// A turn of a seat, with the operation that it begins to ask for, if it does, and what it answers.
-pub(crate) type Step = (u32, Option<Op>, Turn);
-
-/// A turn that makes the event at this place.
-pub(crate) const fn made(at: u32) -> Turn {
-    Turn::Made { at }
-}
-
-/// A turn that waits.
-pub(crate) const fn not_yet(why: Why) -> Turn {
-    Turn::NotYet(why)
-}
-
-/// A turn that answers an operation so, at this place.
-const fn answered(at: u32, answer: Answer) -> Turn {
-    Turn::Answered {
-        at: Some(at),
-        answer,
-    }
-}
-
-/// What answers an operation with Ok, at this place.
-pub(crate) const fn ok(at: u32) -> Turn {
-    answered(at, Answer::Ok(0))
-}
-
-/// What refuses an operation with an error number, at this place.
-pub(crate) const fn refused(errno: u32, at: u32) -> Turn {
-    answered(at, Answer::Refused(errno))
-}
-
-/// What answers an operation with the code of a fault, at this place.
-pub(crate) const fn fault(code: u32, at: u32) -> Turn {
-    answered(at, Answer::Fault(code))
-}
-
-/// An ask for each of six seats.
-pub(crate) fn six_asks(alloc: Global) -> Result<Vec<Ask<Marked>>, Fail> {
-    let mut asks = Vec::new(alloc);
-    for _ in 0..6 {
-        asks.push(ask(Op::Lock))?;
-    }
-    Ok(asks)
-}
-
-/// What a seat asks for; nothing where it is a thread's.
-fn ask_of(asks: &mut [Ask<Marked>], by: u32) -> Option<&mut Ask<Marked>> {
-    if by < 2 {
-        None
-    } else {
-        asks.get_mut(by as usize)
-    }
-}
-
-/// Asserts that turns answer so, one after the other, each client's with the ask of its seat.
-pub(crate) fn play(
-    rt: &impl Abort,
-    board: &mut Board<Marked>,
-    asks: &mut [Ask<Marked>],
-    steps: &[Step],
-) {
-    for (place, (by, begins, wanted)) in steps.iter().enumerate() {
-        if let (Some(op), Some(ask_of_seat)) = (*begins, asks.get_mut(*by as usize)) {
-            *ask_of_seat = ask(op);
-        }
-        let found = turn(board, *by, ask_of(&mut *asks, *by));
-        assert!(rt; found == Some(*wanted), "turn {place}: {found:?}");
-    }
-}
-
-pub(crate) const FORM: Form = Form {
-    locked: false,
-    nocalls: false,
+/// A board of two processors and one client, with nothing done.
+const ROW: Row = Row {
+    name: "",
+    cpus: 2,
+    clients: 1,
+    subs: (Answers::Zero, Answers::Zero),
+    parts: &[],
+    entries: &[],
+    len: 0,
+    states: None,
+    left: None,
+    hooks: &[],
 };
 
-pub(crate) const SETUP: Op = Op::Setup {
-    state: 150,
-    sub: 1,
-    form: FORM,
-};
+/// The states file after setups of two states.
+const STATES: &[u8] = b"  0: offline
+ 62: cpu:bringup
+ 63: idle:dead
+ 64: ap:offline
+100: ap:online
+101: cpu:teardown
+102: online:idle
+120: a
+150: a
+199: sched:active
+200: online
+";
 
-/// Two clients read, a third registers, and a fourth brings up a processor.
-fn readers() -> [Step; 23] {
-    [
-        (2, Some(Op::Lock), ok(6)),
-        (3, Some(Op::Lock), ok(7)),
-        (4, Some(SETUP), made(8)),
-        (5, Some(Op::Up(1)), made(9)),
-        (5, None, not_yet(Why::ReadersIn(2))),
-        (2, Some(Op::Unlock), ok(10)),
-        (5, None, not_yet(Why::ReadersIn(1))),
-        (3, Some(Op::Unlock), ok(11)),
-        (5, None, not_yet(Why::RegIn(4))),
-        (4, None, not_yet(Why::ApTurn(0))),
-        (1, None, not_yet(Why::Idle)),
-        (0, None, made(12)),
-        (2, Some(SETUP), not_yet(Why::RegIn(4))),
-        (4, None, ok(13)),
-        (2, None, refused(16, 14)),
-        (2, Some(Op::Down(0)), not_yet(Why::MapsHeld(5))),
-        (5, None, made(15)),
-        (3, Some(Op::Lock), not_yet(Why::WriterIn(5))),
-        (5, None, not_yet(Why::ApTurn(1))),
-        (1, None, made(16)),
-        (5, None, made(17)),
-        (5, None, ok(18)),
-        (3, None, ok(19)),
-    ]
-}
+const ROWS: [Row; 5] = [
+    Row {
+        name: "two clients read, a third registers, and a fourth brings up a processor",
+        clients: 4,
+        parts: &[Part {
+            steps: &[
+                (2, Asks(Op::Lock), Ends(6)),
+                (3, Asks(Op::Lock), Ends(7)),
+                (4, SetsUp(150, 1), Made(8)),
+                (5, Asks(Op::Up(1)), Made(9)),
+                (5, GoesOn, Waits(Why::ReadersIn(2))),
+                (2, Asks(Op::Unlock), Ends(10)),
+                (5, GoesOn, Waits(Why::ReadersIn(1))),
+                (3, Asks(Op::Unlock), Ends(11)),
+                (5, GoesOn, Waits(Why::RegIn(4))),
+                (4, GoesOn, Waits(Why::ApTurn(0))),
+                (1, Serves, Waits(Why::Idle)),
+                (0, Serves, Made(12)),
+                (2, SetsUp(150, 1), Waits(Why::RegIn(4))),
+                (4, GoesOn, Ends(13)),
+                (2, GoesOn, Refuses(16, 14)),
+                (2, Asks(Op::Down(0)), Waits(Why::MapsHeld(5))),
+                (5, GoesOn, Made(15)),
+                (3, Asks(Op::Lock), Waits(Why::WriterIn(5))),
+                (5, GoesOn, Waits(Why::ApTurn(1))),
+                (1, Serves, Made(16)),
+                (5, GoesOn, Made(17)),
+                (5, GoesOn, Ends(18)),
+                (3, GoesOn, Ends(19)),
+            ],
+            nothing: &[],
+            lends: None,
+        }],
+        len: 20,
+        hooks: &[(150, 2, 0)],
+        ..ROW
+    },
+    Row {
+        name: "a remove hands the hook of its state back",
+        parts: &[Part {
+            steps: &[
+                (2, SetsUp(150, 1), Made(3)),
+                (0, Serves, Made(4)),
+                (2, GoesOn, Ends(5)),
+                (2, Removes(150), Made(6)),
+                (0, Serves, Made(7)),
+                (2, GoesOn, Ends(8)),
+            ],
+            nothing: &[],
+            lends: None,
+        }],
+        len: 9,
+        left: Some(150),
+        ..ROW
+    },
+    Row {
+        name: "a setup of a state that is taken hands its hook back",
+        parts: &[Part {
+            steps: &[
+                (2, SetsUp(150, 1), Made(3)),
+                (0, Serves, Made(4)),
+                (2, GoesOn, Ends(5)),
+                (2, SetsUp(150, 1), Refuses(16, 6)),
+            ],
+            nothing: &[],
+            lends: None,
+        }],
+        len: 7,
+        left: Some(150),
+        hooks: &[(150, 1, 0)],
+        ..ROW
+    },
+    Row {
+        name: "a setup whose startup faults hands its hook back",
+        subs: (Answers::Five, Answers::Zero),
+        parts: &[Part {
+            steps: &[
+                (2, Asks(Op::Up(1)), Made(3)),
+                (2, GoesOn, Made(4)),
+                (2, GoesOn, Made(5)),
+                (2, GoesOn, Ends(6)),
+                (2, SetsUp(150, 1), Made(7)),
+                (0, Serves, Made(8)),
+                (1, Serves, Made(9)),
+                (0, Serves, Made(10)),
+                (2, GoesOn, Faults(5, 11)),
+            ],
+            nothing: &[],
+            lends: None,
+        }],
+        len: 12,
+        left: Some(150),
+        ..ROW
+    },
+    Row {
+        name: "two setups, the higher state first",
+        parts: &[Part {
+            steps: &[
+                (2, SetsUp(150, 1), Made(3)),
+                (0, Serves, Made(4)),
+                (2, GoesOn, Ends(5)),
+                (2, SetsUp(120, 1), Made(6)),
+                (0, Serves, Made(7)),
+                (2, GoesOn, Ends(8)),
+            ],
+            nothing: &[],
+            lends: None,
+        }],
+        len: 9,
+        states: Some(STATES),
+        hooks: &[(120, 1, 0), (150, 1, 0)],
+        ..ROW
+    },
+];
 
 #[test]
-fn two_readers_and_a_registration_keep_a_walk_out(rt: HostRuntime) -> Result<(), Fail> {
-    let mut asks = six_asks(rt.alloc())?;
-    let sub = subsystem(rt.alloc(), None)?;
-    let mut board = board(&rt, rt.alloc(), sub, 4)?;
-    play(&rt, &mut board, &mut asks, &readers());
-    assert!(rt; retired(&rt, board, &mut no_hooks(rt.alloc())) == 20);
+fn turns_come_out_as_written(rt: HostRuntime) -> Result<(), Fail> {
+    for row in ROWS.iter() {
+        play(&rt, rt.alloc(), row)?;
+    }
     Ok(())
 }

@@ -1,9 +1,8 @@
 -- One call more raises no count by more than one, and a plan's counts begin at 0.
-use Rattle.std.proofs.Common.{◌≡◌, ℕ, ◌+◌, ◌<◌, ◌≤◌, Bool, true, false, if◌then◌else◌, List, [], ◌∷◌, take, length, get_or, refl, ap, ◌∙◌, arith}
+use Rattle.std.proofs.Common.{◌≡◌, ℕ, ◌+◌, ◌≤◌, Bool, true, false, if◌then◌else◌, List, [], ◌∷◌, take, length, refl, ap, ◌∙◌, arith}
 use Rattle.std.proofs.Math.ListN.{replicate}
 use Rattle.std.proofs.lemmas.List.{take-replicate}
 use Rattle.std.proofs.lemmas.List.Elements.{All-nil, All-cons, All-head, All-tail}
-use Rattle.hp_states.specs.declared.limits.TheConstants.{MAX_EVENTS}
 use Rattle.hp_states.specs.declared.plan.Rule.{Rule}
 use Rattle.hp_states.specs.Rules.{Site, matches, counts_of, raised}
 use Rattle.hp_hook.specs.Counted.{NoneAbove}
@@ -24,10 +23,6 @@ none_above (rule ∷ rules) (n ∷ ns) site made below =
 pub none_yet : (plan : List Rule) → NoneAbove (counts_of plan []) 0
 none_yet [] = All-nil (λ n. n ≤ 0)
 none_yet (rule ∷ rules) = All-cons (λ n. n ≤ 0) _ _ (omega arith) (none_yet rules)
-
--- so the first call can be counted
-pub first_room : (plan : List Rule) (k d : ℕ) → k < length (counts_of plan []) → get_or (counts_of plan []) k d < MAX_EVENTS
-first_room plan k d within = omega (arith, none_yet plan k d within)
 
 -- the counts of no sites
 counts_of-nil : (plan : List Rule) → replicate (length plan) 0 ≡ counts_of plan []

@@ -1,18 +1,14 @@
-use crate::{CountedPlan, Hook, Rack, ScriptHook};
+use crate::{CountedPlan, Hook, ScriptHook};
 use hp_states::{Dir, HookPlan, MAX_EVENTS, Rule};
-use std::alloc::{AllocError, Global};
-use std::sync::Arc;
-use std::sync::atomic::{AtomicU64, Ordering};
+use std::alloc::AllocError;
 
-/// A hook of the test's own: it answers as a script's hook does, and counts its calls where the
-/// test sees them too.
+/// A hook of the test's own, which answers as a script's hook does.
 #[derive(Drop)]
-struct SharedHook {
+struct OwnHook {
     inner: ScriptHook,
-    calls: Arc<AtomicU64, Global>,
 }
 
-impl Hook for SharedHook {
+impl Hook for OwnHook {
     ghost counts = { λ h. h.inner };
 
     fn load(&mut self, rules: HookPlan) {
@@ -20,7 +16,6 @@ impl Hook for SharedHook {
     }
 
     fn call(&mut self, cpu: u32, inst: u32, dir: Dir) -> u32 {
-        self.calls.fetch_add(1, Ordering::SeqCst);
         self.inner.call(cpu, inst, dir)
     }
 
@@ -79,71 +74,21 @@ fn answers<H: Hook>(rt: &impl std::process::Abort, hook: &mut H) {
 }
 
 #[test]
-fn hooks_of_three_types_answer(rt: HostRuntime) -> Result<(), AllocError> {
-    let alloc = rt.alloc();
+fn a_scripts_hook_answers(rt: HostRuntime) {
     answers(&rt, &mut ScriptHook::new());
-    let calls = Arc::new(alloc, AtomicU64::new(0))?;
-    answers(
-        &rt,
-        &mut SharedHook {
-            inner: ScriptHook::new(),
-            calls: Arc::try_clone(&calls)?,
-        },
-    );
-    let mut hooks: Vec<Box<dyn Hook + Send>> = Vec::new(alloc);
+}
+
+#[test]
+fn a_hook_in_a_box_answers(rt: HostRuntime) -> Result<(), AllocError> {
     let inner = ScriptHook::default();
-    hooks.push(Box::new(
-        alloc,
-        SharedHook {
-            inner,
-            calls: Arc::try_clone(&calls)?,
-        },
-    )?)?;
-    let mut rack = Rack { hooks };
-    if let Some(mut hook) = rack.hooks.pop() {
-        answers(&rt, &mut hook);
-    }
-    assert!(rt; calls.load(Ordering::SeqCst) == 12);
+    let mut hook: Box<dyn Hook + Send> = Box::new(rt.alloc(), OwnHook { inner })?;
+    answers(&rt, &mut hook);
     Ok(())
 }
 
 #[test]
-fn what_comes_next_is_answered_without_a_count(rt: HostRuntime) {
-    let mut hook = ScriptHook::new();
-    hook.load(three_rules());
-    assert!(&rt; hook.answer_to(0, 3, Dir::Up) == 11);
-    assert!(&rt; hook.call(0, 3, Dir::Up) == 11);
-    assert!(&rt; hook.answer_to(0, 3, Dir::Up) == 5);
-    assert!(&rt; hook.answer_to(0, 3, Dir::Up) == 5);
-    assert!(&rt; hook.made() == 1);
-    assert!(&rt; hook.answer_to(0, 2, Dir::Down) == 16);
-    assert!(&rt; hook.answer_to(1, 3, Dir::Up) == 0);
-}
-
-#[test]
-#[tactic(auto, using(crate::proofs::Bounds::first_room))]
-fn a_plan_is_counted_as_data(rt: HostRuntime) -> Result<(), AllocError> {
-    let mut counted = CountedPlan::new(three_rules());
-    let mut other = counted.clone()?;
-    counted.count(0, 0, Dir::Up);
-    assert!(&rt; counted.answer_to(0, 1, Dir::Up) == 5);
-    assert!(&rt; other.answer_to(0, 1, Dir::Up) == 11);
-    assert!(&rt; other.count_and_answer(0, 1, Dir::Up) == 11);
-    assert!(&rt; other.answer_to(0, 1, Dir::Up) == 5);
-    assert!(&rt; counted.plan() == &three_rules());
+fn a_plan_is_copied(rt: HostRuntime) -> Result<(), AllocError> {
+    let copy = CountedPlan::new(three_rules()).clone()?;
+    assert!(&rt; copy.answer_to(0, 1, Dir::Up) == 11);
     Ok(())
-}
-
-#[test]
-fn a_plan_begins_again(rt: HostRuntime) {
-    let mut hook = ScriptHook::new();
-    assert!(&rt; hook.call(0, 0, Dir::Up) == 0);
-    hook.load(three_rules());
-    assert!(&rt; hook.call(0, 0, Dir::Up) == 11);
-    hook.load(three_rules());
-    assert!(&rt; hook.call(0, 0, Dir::Up) == 11);
-    assert!(&rt; hook.made() == 1);
-    hook.load(HookPlan::none());
-    assert!(&rt; hook.call(0, 0, Dir::Up) == 0);
-    assert!(&rt; hook.faults() == 0);
 }

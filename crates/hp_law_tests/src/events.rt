@@ -1,35 +1,20 @@
 //! What a law lets stand after two setups.
 
-use super::heads::{head, sub};
-use hp_event::{Answer, Event, File, Form, Head, How, Op, Role};
-use hp_law::{Law, is_head};
-use hp_states::{Dir, HookPlan};
-use std::alloc::Global;
+use super::heads::{ONE, Row};
+use super::laws::{started, takes};
+use hp_event::{Answer, Event, File, Form, How, Op, Role};
+use hp_law::Law;
+use hp_states::Dir;
+use std::process::Abort;
 use std::test::Fail;
 
-/// The place of the first event that can't stand after those before it; none where each can. 0 where a
-/// machine can't be started with the head.
-pub(crate) fn first_unlawful(
-    alloc: Global,
-    head: &Head,
-    events: &[Event],
-) -> Result<Option<usize>, Fail> {
-    if !is_head(head) {
-        return Ok(Some(0));
-    }
-    first_refused(&mut Law::start(alloc, head)?, events)
-}
-
-/// The place of the first event that can't stand, where those before it are taken.
-fn first_refused(law: &mut Law, events: &[Event]) -> Result<Option<usize>, Fail> {
-    for (place, event) in events.iter().enumerate() {
-        if !law.can_stand(event) {
-            return Ok(Some(place));
-        }
-        law.take(event)?;
-    }
-    Ok(None)
-}
+/// Two processors and two subsystems.
+const TWO: Row = Row {
+    name: "two processors",
+    possible: 2,
+    subs: 2,
+    ..ONE
+};
 
 /// The form with calls, outside of read sections.
 const FORM: Form = Form {
@@ -95,62 +80,35 @@ const TWO_SETUPS: [Event; 9] = [
     },
 ];
 
-/// Those events, and the named states shown of a processor's number.
-fn with_states(alloc: Global, cpu: u32) -> Result<Vec<Event>, Fail> {
-    let mut events = Vec::from_slice(alloc, &TWO_SETUPS)?;
-    events.push(Event::Shown {
+/// The named states, shown of a processor's number.
+fn shown(cpu: u32) -> Event {
+    Event::Shown {
         seat: 2,
         file: File::States,
         cpu,
         value: 11,
-    })?;
-    Ok(events)
+    }
 }
 
-/// Two processors and two subsystems.
-fn two_subs(alloc: Global) -> Result<Head, Fail> {
-    let mut head = head(alloc, 2);
-    head.subs.push(sub(alloc, b"net:a", HookPlan::none())?)?;
-    head.subs.push(sub(alloc, b"net:b", HookPlan::none())?)?;
-    Ok(head)
+/// Those events are taken one after another, and the first not once more. Behind them the named states are shown with
+/// the number 0 for the processor: no text says another.
+fn assert_taken(rt: &impl Abort, law: &mut Law) {
+    for event in TWO_SETUPS.iter() {
+        let at = law.len();
+        assert!(rt; takes(rt, law, event), "event {at}");
+    }
+    assert!(rt; !takes(rt, law, &TWO_SETUPS[0]), "a thread comes in twice");
+    assert!(rt; !law.can_stand(&shown(1)), "of a processor");
+    let named = shown(0);
+    assert!(rt; law.can_stand(&named), "of no processor");
+    assert!(rt; law.take(&named).is_ok(), "memory for an event");
 }
 
-/// The named states are shown with the number 0 for the processor. No text says another.
 #[test]
 fn the_named_states_are_of_no_processor(rt: HostRuntime) -> Result<(), Fail> {
-    let head = two_subs(rt.alloc())?;
-    let shown = with_states(rt.alloc(), 0)?;
-    assert!(rt; first_unlawful(rt.alloc(), &head, shown.as_slice())? == None);
-    let shown = with_states(rt.alloc(), 1)?;
-    assert!(rt; first_unlawful(rt.alloc(), &head, shown.as_slice())? == Some(9));
-    Ok(())
-}
-
-/// Whether the events are taken, each as it is offered, and the first not once more.
-fn takes_each_once(law: &mut Law, events: &[Event]) -> Result<bool, Fail> {
-    for event in events {
-        if !law.offer(event)? {
-            return Ok(false);
-        }
-    }
-    match events.first() {
-        Some(first) => Ok(!law.offer(first)? && law.len() as usize == events.len()),
-        None => Ok(true),
-    }
-}
-
-/// Offered one after another those events are taken, and the first not once more; the journal is theirs.
-#[test]
-fn events_that_are_offered_make_a_journal(rt: HostRuntime) -> Result<(), Fail> {
-    let head = two_subs(rt.alloc())?;
-    if !is_head(&head) {
-        return Err(Fail::from("no machine is started with this head"));
-    }
-    let mut law = Law::start(rt.alloc(), &head)?;
-    let taken = takes_each_once(&mut law, TWO_SETUPS.as_slice());
+    let mut law = started(&rt, rt.alloc(), &TWO)?;
+    assert_taken(&rt, &mut law);
     let journal = law.into_journal();
-    assert!(rt; taken?);
-    assert!(rt; journal.events() == TWO_SETUPS.as_slice());
-    assert!(rt; journal.promised() == 0);
+    assert!(rt; (journal.len(), journal.promised()) == (10, 0));
     Ok(())
 }

@@ -1,6 +1,5 @@
 //! Heads that a machine can be started with, each at its limits, and heads one step beyond them.
 
-use super::events::first_unlawful;
 use hp_event::{Head, Name, Numbers, Sub, Subs};
 use hp_law::is_head;
 use hp_states::{
@@ -9,61 +8,50 @@ use hp_states::{
 use std::alloc::Global;
 use std::test::Fail;
 
-/// A head without absent processors and subsystems.
-pub(crate) fn head(alloc: Global, possible: u32) -> Head {
-    Head {
-        possible,
-        absent: Numbers::new(alloc),
-        subs: Subs::new(alloc),
-    }
+/// A head, and whether a machine can be started with it.
+#[derive(Clone, Copy)]
+pub(crate) struct Row {
+    pub name: &'static str,
+    pub possible: u32,
+    pub absent: &'static [u32],
+    /// How many subsystems there are, each with both callbacks.
+    pub subs: u32,
+    /// The name of each.
+    pub sub: &'static str,
+    /// The last of the eight rules of each.
+    pub rule: Rule,
+    pub wanted: bool,
 }
 
-/// A subsystem with both callbacks.
-pub(crate) fn sub(alloc: Global, name: &[u8], plan: HookPlan) -> Result<Sub, Fail> {
-    Ok(Sub {
-        name: Name::from_vec(Vec::from_slice(alloc, name)?),
-        up: true,
-        down: true,
-        multi: false,
-        plan,
-    })
-}
-
-/// So many processors, of which these are absent.
-fn of_processors(alloc: Global, possible: u32, absent: &[u32]) -> Result<Head, Fail> {
-    let mut head = head(alloc, possible);
-    for cpu in absent {
-        head.absent.push(*cpu)?;
-    }
-    Ok(head)
-}
-
-/// One processor and one subsystem of a name.
-fn of_name(alloc: Global, name: &[u8]) -> Result<Head, Fail> {
-    let mut head = head(alloc, 1);
-    head.subs.push(sub(alloc, name, HookPlan::none())?)?;
-    Ok(head)
-}
-
-/// One processor and so many subsystems.
-fn of_subs(alloc: Global, count: u32) -> Result<Head, Fail> {
-    let mut head = head(alloc, 1);
-    for _ in 0..count {
-        head.subs.push(sub(alloc, b"net:a", HookPlan::none())?)?;
-    }
-    Ok(head)
-}
-
-/// One processor and one subsystem with eight rules, the last of which is this one.
-fn of_rule(alloc: Global, rule: Rule) -> Result<Head, Fail> {
+/// The subsystems of a row.
+fn subs_of(alloc: Global, row: &Row) -> Result<Subs, Fail> {
     let mut plan = HookPlan::none();
     for _ in 0..7 {
         plan.add(WIDEST);
     }
-    plan.add(rule);
-    let mut head = head(alloc, 1);
-    head.subs.push(sub(alloc, b"net:a", plan)?)?;
-    Ok(head)
+    plan.add(row.rule);
+    let mut subs = Vec::new(alloc);
+    for _ in 0..row.subs {
+        let name = Name::from_vec(Vec::from_slice(alloc, row.sub.as_bytes())?);
+        subs.push(Sub {
+            name,
+            up: true,
+            down: true,
+            multi: false,
+            plan,
+        })?;
+    }
+    Ok(Subs::from_vec(subs))
+}
+
+/// The head of a row.
+pub(crate) fn head_of(alloc: Global, row: &Row) -> Result<Head, Fail> {
+    let absent = Numbers::from_vec(Vec::from_slice(alloc, row.absent)?);
+    Ok(Head {
+        possible: row.possible,
+        absent,
+        subs: subs_of(alloc, row)?,
+    })
 }
 
 /// The rule of the greatest numbers.
@@ -93,113 +81,193 @@ const ANY: Rule = Rule {
     code: 1,
 };
 
-/// So many processors, of which these are absent, and whether a machine can be started with them.
-const PROCESSORS: [(u32, &'static [u32], bool); 9] = [
-    (1, &[], true),
-    (MAX_CPUS, &[1, MAX_CPUS - 1], true),
-    (4, &[1, 2, 3], true),
-    (0, &[], false),
-    (MAX_CPUS + 1, &[], false),
-    (MAX_CPUS, &[MAX_CPUS], false),
-    (2, &[0], false),
-    (4, &[2, 1], false),
-    (4, &[1, 1], false),
-];
+/// One processor, and no subsystem.
+pub(crate) const ONE: Row = Row {
+    name: "one processor",
+    possible: 1,
+    absent: &[],
+    subs: 0,
+    sub: "net:a",
+    rule: WIDEST,
+    wanted: true,
+};
 
-/// The number of processors, and which are absent.
-#[test]
-fn the_first_processor_is_present(rt: HostRuntime) -> Result<(), Fail> {
-    for &(possible, absent, wanted) in PROCESSORS.iter() {
-        let head = of_processors(rt.alloc(), possible, absent)?;
-        assert!(rt; is_head(&head) == wanted, "{possible} without {absent:?}");
-    }
-    Ok(())
-}
+/// One processor and one subsystem.
+const SUB: Row = Row {
+    name: "the greatest numbers of a rule",
+    subs: 1,
+    ..ONE
+};
 
-/// Names, and whether a subsystem can have them.
-const NAMES: [(&'static str, bool); 7] = [
-    ("", true),
-    ("aZ09:_/.-", true),
-    ("a23456789012345678901234567890bc", true),
-    ("a23456789012345678901234567890bcd", false),
-    ("net a", false),
-    ("net!", false),
-    ("-", false),
-];
+/// The same, with what no subsystem has.
+const BAD: Row = Row {
+    wanted: false,
+    ..SUB
+};
 
-/// The names of subsystems, and how many there are.
-#[test]
-fn subsystems_have_names_or_none(rt: HostRuntime) -> Result<(), Fail> {
-    for &(name, wanted) in NAMES.iter() {
-        let head = of_name(rt.alloc(), name.as_bytes())?;
-        assert!(rt; is_head(&head) == wanted, "{name:?}");
-    }
-    for &(count, wanted) in [(MAX_SUBS, true), (MAX_SUBS + 1, false)].iter() {
-        let head = of_subs(rt.alloc(), count)?;
-        assert!(rt; is_head(&head) == wanted, "{count} subsystems");
-    }
-    Ok(())
-}
-
-/// Rules, and whether they have the form of one.
-const RULES: [(Rule, bool); 9] = [
-    (WIDEST, true),
-    (LEAST, true),
-    (ANY, true),
-    (
-        Rule {
+const ROWS: [Row; 27] = [
+    ONE,
+    Row {
+        name: "as many processors as there can be, the last absent",
+        possible: MAX_CPUS,
+        absent: &[1, MAX_CPUS - 1],
+        ..ONE
+    },
+    Row {
+        name: "all absent but the first",
+        possible: 4,
+        absent: &[1, 2, 3],
+        ..ONE
+    },
+    Row {
+        name: "no processor",
+        possible: 0,
+        wanted: false,
+        ..ONE
+    },
+    Row {
+        name: "one processor too many",
+        possible: MAX_CPUS + 1,
+        wanted: false,
+        ..ONE
+    },
+    Row {
+        name: "an absent one that is not possible",
+        possible: MAX_CPUS,
+        absent: &[MAX_CPUS],
+        wanted: false,
+        ..ONE
+    },
+    Row {
+        name: "the first is absent",
+        possible: 2,
+        absent: &[0],
+        wanted: false,
+        ..ONE
+    },
+    Row {
+        name: "absent ones fall",
+        possible: 4,
+        absent: &[2, 1],
+        wanted: false,
+        ..ONE
+    },
+    Row {
+        name: "one is absent twice",
+        possible: 4,
+        absent: &[1, 1],
+        wanted: false,
+        ..ONE
+    },
+    SUB,
+    Row {
+        name: "as many subsystems as there can be",
+        subs: MAX_SUBS,
+        ..SUB
+    },
+    Row {
+        name: "one subsystem too many",
+        subs: MAX_SUBS + 1,
+        ..BAD
+    },
+    Row {
+        name: "no name",
+        sub: "",
+        ..SUB
+    },
+    Row {
+        name: "each kind of byte in a name",
+        sub: "aZ09:_/.-",
+        ..SUB
+    },
+    Row {
+        name: "the longest name",
+        sub: "a23456789012345678901234567890bc",
+        ..SUB
+    },
+    Row {
+        name: "a name too long",
+        sub: "a23456789012345678901234567890bcd",
+        ..BAD
+    },
+    Row {
+        name: "a space in a name",
+        sub: "net a",
+        ..BAD
+    },
+    Row {
+        name: "another byte in a name",
+        sub: "net!",
+        ..BAD
+    },
+    Row {
+        name: "the word for no name",
+        sub: "-",
+        ..BAD
+    },
+    Row {
+        name: "the least numbers of a rule",
+        rule: LEAST,
+        ..SUB
+    },
+    Row {
+        name: "a rule of every call",
+        rule: ANY,
+        ..SUB
+    },
+    Row {
+        name: "a rule's processor too high",
+        rule: Rule {
             cpu: Some(MAX_RULE_CPU + 1),
             ..WIDEST
         },
-        false,
-    ),
-    (
-        Rule {
+        ..BAD
+    },
+    Row {
+        name: "a rule's instance too high",
+        rule: Rule {
             inst: Some(MAX_INSTANCE + 1),
             ..WIDEST
         },
-        false,
-    ),
-    (
-        Rule {
+        ..BAD
+    },
+    Row {
+        name: "a rule's call too high",
+        rule: Rule {
             nth: Some(MAX_EVENTS + 1),
             ..WIDEST
         },
-        false,
-    ),
-    (
-        Rule {
+        ..BAD
+    },
+    Row {
+        name: "a rule's call 0",
+        rule: Rule {
             nth: Some(0),
             ..LEAST
         },
-        false,
-    ),
-    (
-        Rule {
+        ..BAD
+    },
+    Row {
+        name: "a rule's code too high",
+        rule: Rule {
             code: MAX_CODE + 1,
             ..WIDEST
         },
-        false,
-    ),
-    (Rule { code: 0, ..LEAST }, false),
+        ..BAD
+    },
+    Row {
+        name: "a rule's code 0",
+        rule: Rule { code: 0, ..LEAST },
+        ..BAD
+    },
 ];
 
-/// The numbers of a rule.
 #[test]
-fn rules_keep_their_ranges(rt: HostRuntime) -> Result<(), Fail> {
-    for &(rule, wanted) in RULES.iter() {
-        let head = of_rule(rt.alloc(), rule)?;
-        assert!(rt; is_head(&head) == wanted, "{rule:?}");
+fn heads_keep_their_limits(rt: HostRuntime) -> Result<(), Fail> {
+    for row in ROWS.iter() {
+        let name = row.name;
+        let head = head_of(rt.alloc(), row)?;
+        assert!(rt; is_head(&head) == row.wanted, "row {name}");
     }
-    Ok(())
-}
-
-/// Without events.
-#[test]
-fn a_journal_without_events_needs_a_head(rt: HostRuntime) -> Result<(), Fail> {
-    let lawful = of_processors(rt.alloc(), 2, &[1])?;
-    assert!(rt; first_unlawful(rt.alloc(), &lawful, &[])? == None);
-    let unlawful = of_processors(rt.alloc(), 2, &[0])?;
-    assert!(rt; first_unlawful(rt.alloc(), &unlawful, &[])? == Some(0));
     Ok(())
 }

@@ -9,4 +9,6 @@ mod events;
 #[cfg(test)]
 mod heads;
 #[cfg(test)]
+mod laws;
+#[cfg(test)]
 mod room;

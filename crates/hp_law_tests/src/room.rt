@@ -1,47 +1,37 @@
 //! Journals that are full: what was promised always fits, and nothing else.
 
-use super::heads::head;
+use super::heads::{ONE, Row};
+use super::laws::{started, takes};
 use hp_event::{Answer, Event, Op, Role};
-use hp_law::{Law, is_head};
-use hp_states::{MAX_EVENTS, NoMemory, ONLINE};
-use std::alloc::Global;
+use hp_law::Law;
+use hp_states::{MAX_EVENTS, ONLINE};
 use std::process::Abort;
 use std::test::Fail;
 
-/// A machine with so many processors.
-fn machine(alloc: Global, cpus: u32) -> Result<Law, Fail> {
-    let head = head(alloc, cpus);
-    if !is_head(&head) {
-        return Err(Fail::from("no machine is started with this head"));
-    }
-    Ok(Law::start(alloc, &head)?)
-}
+/// Two processors.
+const TWO: Row = Row {
+    name: "two processors",
+    possible: 2,
+    ..ONE
+};
 
 /// Lets the threads of so many processors in, and a client, whose number is theirs, which takes so many
 /// wakeups, or as many as there is room for; and says how many.
 fn wake(rt: &impl Abort, law: &mut Law, cpus: u32, wakeups: u32) -> u32 {
     for cpu in 0..cpus {
         let role = Role::Ap(cpu);
-        assert!(rt; takes(rt, law, Event::Admit { seat: cpu, role }));
+        assert!(rt; takes(rt, law, &Event::Admit { seat: cpu, role }));
     }
     let role = Role::Client;
-    assert!(rt; takes(rt, law, Event::Admit { seat: cpus, role }));
+    assert!(rt; takes(rt, law, &Event::Admit { seat: cpus, role }));
     let mut taken = 0u32;
     for _ in 0..wakeups {
-        if !takes(rt, law, Event::Wakeup { seat: cpus }) {
+        if !takes(rt, law, &Event::Wakeup { seat: cpus }) {
             break;
         }
         taken = taken.saturating_add(1);
     }
     taken
-}
-
-/// Takes an event, if it stands.
-fn takes(rt: &impl Abort, law: &mut Law, event: Event) -> bool {
-    match law.offer(&event) {
-        Ok(stands) => stands,
-        Err(NoMemory) => panic!(rt; "memory for an event"),
-    }
 }
 
 /// What a full journal of one processor's thread and a client has no room for.
@@ -74,7 +64,7 @@ fn assert_full(rt: &impl Abort, law: &mut Law) {
 
 #[test]
 fn a_full_journal_has_room_for_leaves(rt: HostRuntime) -> Result<(), Fail> {
-    let mut law = machine(rt.alloc(), 1)?;
+    let mut law = started(&rt, rt.alloc(), &ONE)?;
     assert_full(&rt, &mut law);
     assert!(rt; law.into_journal().len() == MAX_EVENTS - 2);
     Ok(())
@@ -84,7 +74,7 @@ fn a_full_journal_has_room_for_leaves(rt: HostRuntime) -> Result<(), Fail> {
 fn begins_or_ends(rt: &impl Abort, law: &mut Law, wakeups: u32) -> (bool, bool) {
     assert!(rt; wake(rt, law, 2, wakeups) == wakeups);
     let op = Op::Up(1);
-    assert!(rt; takes(rt, law, Event::Enter { seat: 2, op }));
+    assert!(rt; takes(rt, law, &Event::Enter { seat: 2, op }));
     let begin = Event::WalkBegin {
         seat: 2,
         cpu: 1,
@@ -102,7 +92,7 @@ fn begins_or_ends(rt: &impl Abort, law: &mut Law, wakeups: u32) -> (bool, bool) 
 #[test]
 fn a_walk_without_room_ends_its_operation(rt: HostRuntime) -> Result<(), Fail> {
     for &(wakeups, has_room) in [(MAX_EVENTS - 12, true), (MAX_EVENTS - 11, false)].iter() {
-        let mut law = machine(rt.alloc(), 2)?;
+        let mut law = started(&rt, rt.alloc(), &TWO)?;
         let found = begins_or_ends(&rt, &mut law, wakeups);
         assert!(rt; found == (has_room, !has_room), "{wakeups} wakeups");
         assert!(rt; law.into_journal().len() == wakeups.saturating_add(4));

@@ -190,7 +190,7 @@ fn a_batch_waits_for_a_hook_that_is_lent(rt: HostRuntime) -> Result<(), Fail> {
     let head = head(rt.alloc(), 3, 2)?;
     let (machine, mut root) = started::<ScriptHook>(rt.alloc(), &head)?;
     goes(&rt, &machine, &head, &mut root);
-    let journal = closed(&rt, rt.alloc(), machine, root);
+    let journal = closed(&rt, machine, root);
     // up to the batch's end 21 events, then 2 of the other client, and five seats leave
     assert!(rt; journal.len() == 28);
     Ok(())

@@ -125,6 +125,6 @@ fn each_form_is_answered(rt: HostRuntime) -> Result<(), Fail> {
     assert!(rt; has_instance(&rt, &mut client));
     assert!(rt; removes(&rt, &mut client));
     client.leaves(&rt, &FreeGate);
-    closed(&rt, rt.alloc(), machine, root);
+    closed(&rt, machine, root);
     Ok(())
 }

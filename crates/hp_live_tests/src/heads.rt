@@ -5,7 +5,7 @@ ghost use Rattle.hp_live.specs.Known.{IsOf};
 
 use hp_board::CpuPlan;
 use hp_event::{Head, Journal, Name, Numbers, Sub, Subs};
-use hp_hook::{Hook, Rack};
+use hp_hook::Hook;
 use hp_law::is_head;
 use hp_live::{Hotplug, Root};
 use hp_states::HookPlan;
@@ -61,7 +61,6 @@ pub(crate) fn started<H: Hook + Send>(
 /// The journal of a machine that ends: all clients have left, and nothing is lent.
 pub(crate) fn closed<H: Hook + Send>(
     rt: &(impl Wait + Abort),
-    alloc: Global,
     machine: Hotplug<H>,
     root: Root<H>,
 ) -> Journal
@@ -69,14 +68,6 @@ pub(crate) fn closed<H: Hook + Send>(
 {
     let board = machine.close(rt, root);
     assert!(rt; board.clients() == 0);
-    if !board.is_home() {
-        panic!(rt; "nothing is lent");
-    }
-    let mut rack = Rack {
-        hooks: Vec::new(alloc),
-    };
-    match board.retire(&mut rack) {
-        Ok(journal) => journal,
-        Err(_) => panic!(rt; "memory for the hooks"),
-    }
+    assert!(rt; board.is_home(), "nothing is lent");
+    board.into_journal()
 }

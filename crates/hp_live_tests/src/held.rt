@@ -64,6 +64,6 @@ fn a_file_is_shown_while_a_hook_is_called(rt: HostRuntime) -> Result<(), Fail> {
         marks.gave_up.load(Ordering::SeqCst) == 0,
         "one of them gave up"
     );
-    closed(&rt, rt.alloc(), machine, root);
+    closed(&rt, machine, root);
     Ok(())
 }

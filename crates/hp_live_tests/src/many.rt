@@ -157,7 +157,7 @@ fn twelve_threads_make_a_lawful_journal(rt: HostRuntime) -> Result<(), Fail> {
     let mut jobs = of_threads(&rt, rt.alloc(), &machine, &mut root, CPUS);
     come_in(&rt, &machine, &head, &mut root, &mut jobs);
     assert!(rt; all_done(&rt, &FreeGate, jobs));
-    let journal = closed(&rt, rt.alloc(), machine, root);
+    let journal = closed(&rt, machine, root);
     let events = journal.events();
     let refused = first_refused(rt.alloc(), &head, events)?;
     assert!(rt; refused.is_none(), "event {refused:?} can't stand");

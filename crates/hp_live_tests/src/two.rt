@@ -109,7 +109,7 @@ fn a_reader_and_a_writer_are_answered(rt: HostRuntime) -> Result<(), Fail> {
     let writes = of_client(&rt, &machine, &head, &mut root, Part::Writes, None);
     add(&rt, &mut jobs, writes);
     assert!(rt; all_done(&rt, &FreeGate, jobs));
-    let journal = closed(&rt, rt.alloc(), machine, root);
+    let journal = closed(&rt, machine, root);
     // each time 6 events of a section, and of the other client 8 of two walks, 2 files and 3 refusals
     assert!(rt; journal.len() == 4 + TIMES * (6 + 13));
     Ok(())

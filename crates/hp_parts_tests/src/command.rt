@@ -3,100 +3,120 @@
 use hp_command::{Command, Counting, Options, command_of};
 use std::alloc::Global;
 use std::process::Abort;
-use std::test::Fail;
 
-/// Compares each list of words with the command that it is to be.
-fn assert_commands(
-    rt: &impl Abort,
-    alloc: Global,
-    rows: &[(&[&str], Option<Command>)],
-) -> Result<(), Fail> {
-    for (row, wanted) in rows {
-        let mut words = Vec::new(alloc);
-        for word in *row {
-            words.push(String::from_str(alloc, word)?)?;
-        }
-        let command = command_of(alloc, &words)?;
-        assert!(rt; command == *wanted, "{row:?}: {command:?}");
+/// A list of words, and the command that it is to be.
+type Row = (&'static [&'static str], Command);
+
+const COMMANDS: [Row; 15] = [
+    (&["play"], Command::Play),
+    (&["states"], Command::States),
+    (&["replay"], Command::Replay),
+    (&["migrate"], Command::Migrate),
+    (&["gen"], Command::Gen(Options { seed: 1, size: 100 })),
+    (
+        &["gen", "--seed", "0", "--size", "1"],
+        Command::Gen(Options { seed: 0, size: 1 }),
+    ),
+    (
+        &["gen", "--seed=7", "--size=2"],
+        Command::Gen(Options { seed: 7, size: 2 }),
+    ),
+    (
+        &["gen", "--size", "2", "--seed=7"],
+        Command::Gen(Options { seed: 7, size: 2 }),
+    ),
+    (
+        &["gen", "--size=2"],
+        Command::Gen(Options { seed: 1, size: 2 }),
+    ),
+    (
+        &["gen", "--seed", "18446744073709551615"],
+        Command::Gen(Options {
+            seed: u64::MAX,
+            size: 100,
+        }),
+    ),
+    (&["bench"], Command::Bench(Options { seed: 1, size: 100 })),
+    (
+        &["bench", "--seed", "7", "--size", "2"],
+        Command::Bench(Options { seed: 7, size: 2 }),
+    ),
+    (
+        &["bench", "--size=1000"],
+        Command::Bench(Options {
+            seed: 1,
+            size: 1000,
+        }),
+    ),
+    (
+        &["count", "1", "1"],
+        Command::Count(Counting { state: 1, batch: 1 }),
+    ),
+    (
+        &["count", "198", "1000000"],
+        Command::Count(Counting {
+            state: 198,
+            batch: 1_000_000,
+        }),
+    ),
+];
+
+/// Lists of words that are no command.
+const OTHERS: [&'static [&'static str]; 29] = [
+    &[],
+    &[""],
+    &["fly"],
+    &["Play"],
+    &["play", "play"],
+    &["play", ""],
+    &["--help"],
+    &["-h"],
+    &["--version"],
+    &["--"],
+    &["--", "play"],
+    &["replay", "--"],
+    &["migrate", "old"],
+    &["migrated"],
+    &["gen", "--help"],
+    &["gen", "-h"],
+    &["bench", "--version"],
+    &["bench", "help"],
+    &["count"],
+    &["count", "120"],
+    &["count", "120", "10", "1"],
+    &["count", "0", "10"],
+    &["count", "199", "10"],
+    &["count", "120", "0"],
+    &["count", "120", "1000001"],
+    &["count", "120", "01"],
+    &["count", "+120", "10"],
+    &["count", "120", "4294967297"],
+    &["count", "--", "120", "10"],
+];
+
+/// What a list of words asks for.
+fn asked_by(rt: &impl Abort, alloc: Global, row: &[&str]) -> Option<Command> {
+    let mut words = Vec::new(alloc);
+    for word in row {
+        let Ok(word) = String::from_str(alloc, word) else {
+            panic!(rt; "memory for a word");
+        };
+        assert!(rt; words.push(word).is_ok());
     }
-    Ok(())
-}
-
-fn generated(seed: u64, size: u32) -> Option<Command> {
-    Some(Command::Gen(Options { seed, size }))
-}
-
-fn benched(seed: u64, size: u32) -> Option<Command> {
-    Some(Command::Bench(Options { seed, size }))
-}
-
-fn counted(state: u32, batch: u32) -> Option<Command> {
-    Some(Command::Count(Counting { state, batch }))
+    let Ok(command) = command_of(alloc, &words) else {
+        panic!(rt; "memory for {row:?}");
+    };
+    command
 }
 
 #[test]
-fn commands(rt: HostRuntime) -> Result<(), Fail> {
-    assert_commands(
-        &rt,
-        rt.alloc(),
-        &[
-            (&["play"], Some(Command::Play)),
-            (&["states"], Some(Command::States)),
-            (&["replay"], Some(Command::Replay)),
-            (&["migrate"], Some(Command::Migrate)),
-            (&["gen"], generated(1, 100)),
-            (&["gen", "--seed", "0", "--size", "1"], generated(0, 1)),
-            (&["gen", "--seed=7", "--size=2"], generated(7, 2)),
-            (&["gen", "--size", "2", "--seed=7"], generated(7, 2)),
-            (&["gen", "--size=2"], generated(1, 2)),
-            (
-                &["gen", "--seed", "18446744073709551615"],
-                generated(u64::MAX, 100),
-            ),
-            (&["bench"], benched(1, 100)),
-            (&["bench", "--seed", "7", "--size", "2"], benched(7, 2)),
-            (&["bench", "--size=1000"], benched(1, 1000)),
-            (&["count", "1", "1"], counted(1, 1)),
-            (&["count", "198", "1000000"], counted(198, 1_000_000)),
-        ],
-    )
-}
-
-#[test]
-fn no_commands(rt: HostRuntime) -> Result<(), Fail> {
-    assert_commands(
-        &rt,
-        rt.alloc(),
-        &[
-            (&[], None),
-            (&[""], None),
-            (&["fly"], None),
-            (&["Play"], None),
-            (&["play", "play"], None),
-            (&["play", ""], None),
-            (&["--help"], None),
-            (&["-h"], None),
-            (&["--version"], None),
-            (&["--"], None),
-            (&["--", "play"], None),
-            (&["replay", "--"], None),
-            (&["migrate", "old"], None),
-            (&["migrated"], None),
-            (&["gen", "--help"], None),
-            (&["gen", "-h"], None),
-            (&["bench", "--version"], None),
-            (&["bench", "help"], None),
-            (&["count"], None),
-            (&["count", "120"], None),
-            (&["count", "120", "10", "1"], None),
-            (&["count", "0", "10"], None),
-            (&["count", "199", "10"], None),
-            (&["count", "120", "0"], None),
-            (&["count", "120", "1000001"], None),
-            (&["count", "120", "01"], None),
-            (&["count", "+120", "10"], None),
-            (&["count", "120", "4294967297"], None),
-            (&["count", "--", "120", "10"], None),
-        ],
-    )
+fn words_ask_for_commands(rt: HostRuntime) {
+    for &(row, command) in COMMANDS.iter() {
+        let asked = asked_by(&rt, rt.alloc(), row);
+        assert!(rt; asked == Some(command), "{row:?}: {asked:?}");
+    }
+    for &row in OTHERS.iter() {
+        let asked = asked_by(&rt, rt.alloc(), row);
+        assert!(rt; asked == None, "{row:?}: {asked:?}");
+    }
 }

@@ -1,107 +1,106 @@
-//! What no clause says of hp_locks: that memory suffices where it is ample, and who waits for whom where several
-//! seats come together, as worked out by hand from the table of waits.
+//! What no clause says of hp_locks: that memory suffices where it is ample, and who waits for whom where two seats come
+//! together, as worked out by hand from the table of waits.
 
 use hp_locks::{Locks, Why};
 use std::process::Abort;
-use std::test::Fail;
 
-#[test]
-fn seats_are_numbered_in_turn(rt: HostRuntime) -> Result<(), Fail> {
-    let mut locks = Locks::new(rt.alloc());
-    let first = locks.admit()?;
-    let second = locks.admit()?;
-    assert!(&rt; (first, second, locks.admitted()) == (0, 1, 2));
-    assert!(&rt; !locks.reading(1) && !locks.reading(2));
-    assert!(&rt; locks.readers() == 0);
-    Ok(())
+/// A call of a seat.
+#[derive(Clone, Copy, Debug)]
+enum Act {
+    Enter,
+    Leave,
+    Write,
+    EndWrite,
+    Register,
+    EndRegistration,
+    Read,
+    Unlock,
 }
 
-/// The calls of one seat, each under its condition.
-#[derive(Clone, Copy)]
-struct By {
-    seat: u32,
+/// Makes a call of a seat, which is to be answered so, under its condition.
+fn acts(rt: &impl Abort, locks: &mut Locks, &(seat, act, wanted): &(u32, Act, Result<(), Why>)) {
+    assert!(rt; seat < locks.admitted());
+    let answer = match act {
+        Act::Enter => locks.enter_maps(seat),
+        Act::Write => {
+            assert!(rt; locks.map_holder() == Some(seat) && locks.writer().is_none());
+            locks.begin_write(seat)
+        }
+        Act::Register => locks.begin_reg(seat),
+        Act::Read => {
+            assert!(rt; !locks.reading(seat));
+            locks.read_lock(seat)
+        }
+        Act::Leave | Act::EndWrite | Act::EndRegistration | Act::Unlock => {
+            ends(rt, locks, seat, act);
+            Ok(())
+        }
+    };
+    assert!(rt; answer == wanted, "{seat} {act:?}: {answer:?}");
 }
 
-impl By {
-    fn enter(&self, rt: &impl Abort, locks: &mut Locks) -> Result<(), Why> {
-        assert!(rt; self.seat < locks.admitted());
-        locks.enter_maps(self.seat)
+/// Ends what a seat has.
+fn ends(rt: &impl Abort, locks: &mut Locks, seat: u32, act: Act) {
+    match act {
+        Act::Leave => {
+            assert!(rt; locks.map_holder() == Some(seat));
+            locks.leave_maps(seat)
+        }
+        Act::EndWrite => {
+            assert!(rt; locks.writer() == Some(seat));
+            locks.end_write(seat)
+        }
+        Act::EndRegistration => {
+            assert!(rt; locks.registrar() == Some(seat));
+            locks.end_reg(seat)
+        }
+        _ => {
+            assert!(rt; seat < locks.admitted() && locks.reading(seat));
+            locks.read_unlock(seat)
+        }
     }
-
-    fn write(&self, rt: &impl Abort, locks: &mut Locks) -> Result<(), Why> {
-        let may = locks.map_holder() == Some(self.seat) && locks.writer().is_none();
-        assert!(rt; may);
-        locks.begin_write(self.seat)
-    }
-
-    fn register(&self, rt: &impl Abort, locks: &mut Locks) -> Result<(), Why> {
-        assert!(rt; self.seat < locks.admitted());
-        locks.begin_reg(self.seat)
-    }
-
-    fn read(&self, rt: &impl Abort, locks: &mut Locks) -> Result<(), Why> {
-        assert!(rt; self.seat < locks.admitted());
-        assert!(rt; !locks.reading(self.seat));
-        locks.read_lock(self.seat)
-    }
-
-    fn unlock(&self, rt: &impl Abort, locks: &mut Locks) {
-        assert!(rt; self.seat < locks.admitted());
-        assert!(rt; locks.reading(self.seat));
-        locks.read_unlock(self.seat)
-    }
-}
-
-/// The first two seats.
-fn two_seats(rt: &impl Abort, locks: &mut Locks) -> Result<(By, By), Fail> {
-    assert!(rt; locks.admitted() == 0);
-    let first = locks.admit()?;
-    let second = locks.admit()?;
-    Ok((By { seat: first }, By { seat: second }))
 }
 
 /// Seat 1 would walk, and waits for what seat 0 has.
-fn assert_walk_waits(rt: &impl Abort, locks: &mut Locks) -> Result<(), Fail> {
-    let (reader, walker) = two_seats(rt, locks)?;
-    assert!(rt; reader.read(rt, locks) == Ok(()));
-    assert!(rt; walker.enter(rt, locks) == Ok(()));
-    assert!(rt; reader.enter(rt, locks) == Err(Why::MapsHeld(1)));
-    assert!(rt; walker.write(rt, locks) == Err(Why::ReadersIn(1)));
-    assert!(rt; reader.register(rt, locks) == Ok(()));
-    assert!(rt; walker.register(rt, locks) == Err(Why::RegIn(0)));
-    assert!(rt; walker.write(rt, locks) == Err(Why::ReadersIn(1)));
-    reader.unlock(rt, locks);
-    assert!(rt; walker.write(rt, locks) == Err(Why::RegIn(0)));
-    assert!(rt; locks.readers() == 0);
-    Ok(())
-}
-
-#[test]
-fn a_walk_waits_for_readers_and_then_for_a_registration(rt: HostRuntime) -> Result<(), Fail> {
-    assert_walk_waits(&rt, &mut Locks::new(rt.alloc()))
-}
+const WAITS: [(u32, Act, Result<(), Why>); 9] = [
+    (0, Act::Read, Ok(())),
+    (1, Act::Enter, Ok(())),
+    (0, Act::Enter, Err(Why::MapsHeld(1))),
+    (1, Act::Write, Err(Why::ReadersIn(1))),
+    (0, Act::Register, Ok(())),
+    (1, Act::Register, Err(Why::RegIn(0))),
+    (1, Act::Write, Err(Why::ReadersIn(1))),
+    (0, Act::Unlock, Ok(())),
+    (1, Act::Write, Err(Why::RegIn(0))),
+];
 
 /// Seat 1 walks, and seat 0 waits for it.
-fn assert_walk_keeps_out(rt: &impl Abort, locks: &mut Locks) -> Result<(), Fail> {
-    let (other, walker) = two_seats(rt, locks)?;
-    assert!(rt; walker.enter(rt, locks) == Ok(()));
-    assert!(rt; walker.write(rt, locks) == Ok(()));
-    assert!(rt; other.read(rt, locks) == Err(Why::WriterIn(1)));
-    assert!(rt; other.register(rt, locks) == Err(Why::WriterIn(1)));
-    assert!(rt; locks.writer() == Some(walker.seat));
-    locks.end_write(walker.seat);
-    assert!(rt; other.read(rt, locks) == Ok(()));
-    assert!(rt; other.register(rt, locks) == Ok(()));
-    assert!(rt; locks.registrar() == Some(other.seat));
-    locks.end_reg(other.seat);
-    assert!(rt; locks.map_holder() == Some(walker.seat));
-    locks.leave_maps(walker.seat);
-    assert!(rt; other.enter(rt, locks) == Ok(()));
-    assert!(rt; locks.readers() == 1);
-    Ok(())
+const KEEPS_OUT: [(u32, Act, Result<(), Why>); 10] = [
+    (1, Act::Enter, Ok(())),
+    (1, Act::Write, Ok(())),
+    (0, Act::Read, Err(Why::WriterIn(1))),
+    (0, Act::Register, Err(Why::WriterIn(1))),
+    (1, Act::EndWrite, Ok(())),
+    (0, Act::Read, Ok(())),
+    (0, Act::Register, Ok(())),
+    (0, Act::EndRegistration, Ok(())),
+    (1, Act::Leave, Ok(())),
+    (0, Act::Enter, Ok(())),
+];
+
+/// Two seats come in and make these calls; then so many of them read.
+fn plays(rt: &impl Abort, locks: &mut Locks, rows: &[(u32, Act, Result<(), Why>)], readers: u32) {
+    assert!(rt; locks.admitted() == 0);
+    assert!(rt; locks.admit() == Ok(0));
+    assert!(rt; locks.admit() == Ok(1));
+    for row in rows {
+        acts(rt, locks, row);
+    }
+    assert!(rt; locks.readers() == readers);
 }
 
 #[test]
-fn a_walk_keeps_out_readers_and_registrations(rt: HostRuntime) -> Result<(), Fail> {
-    assert_walk_keeps_out(&rt, &mut Locks::new(rt.alloc()))
+fn seats_wait_for_each_other(rt: HostRuntime) {
+    plays(&rt, &mut Locks::new(rt.alloc()), &WAITS, 0);
+    plays(&rt, &mut Locks::new(rt.alloc()), &KEEPS_OUT, 1);
 }

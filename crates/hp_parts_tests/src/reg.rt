@@ -1,16 +1,15 @@
 //! What no clause says of hp_reg: that registrations come out as written by hand, at a table of real records.
 
-ghost use Rattle.std.specs.Prelude.{◌≡◌, true};
+ghost use Rattle.std.specs.Prelude.{◌≡◌};
 ghost use Rattle.hp_model.specs.Events.{is_registration_op};
 
 use hp_event::{Answer, Form, How, Key, Op};
 use hp_hook::ScriptHook;
 use hp_reg::{Reg, RegStep};
-use hp_states::{Dir, MAX_CPUS, Place};
+use hp_states::{Dir, MAX_CPUS, ONLINE, Place};
 use hp_table::{Record, Table};
 use std::alloc::Global;
 use std::process::Abort;
-use std::test::Fail;
 
 const PLAIN: Form = Form {
     nocalls: false,
@@ -18,235 +17,216 @@ const PLAIN: Form = Form {
 };
 
 /// A table with single states at 45, 120 and 143, and a multi state at 30 with the instances 7 and 9.
-fn table(alloc: Global) -> Result<Table<ScriptHook>, Fail> {
-    let mut table = Table::new(alloc)?;
-    for &(state, multi) in [(45, false), (120, false), (143, false), (30, true)].iter() {
-        let record = Record::new(1, multi, true, true, ScriptHook::new());
-        match table.install(state, record) {
-            Ok(()) => {}
-            Err((error, _)) => return Err(Fail::from(error)),
-        }
+fn table_of(rt: &impl Abort, alloc: Global) -> Table<ScriptHook> {
+    let Ok(mut table) = Table::new(alloc) else {
+        panic!(rt; "memory for a table");
+    };
+    for state in [45, 120, 143, 30] {
+        let record = Record::new(1, state == 30, true, true, ScriptHook::new());
+        assert!(rt; table.install(state, record).is_ok(), "at {state}");
     }
-    table.add_instance(30, 9)?;
-    table.add_instance(30, 7)?;
-    Ok(table)
-}
-
-/// The machine of a test: where processors stand, which are absent, and the key of the entries.
-#[derive(Clone, Copy)]
-struct Scene<'a> {
-    settled: &'a [u32],
-    absent: &'a [u32],
-    key: Key,
-}
-
-/// Asks for all entries and makes them so, then for the end: each is as wanted.
-fn check(
-    rt: &impl Abort,
-    alloc: Global,
-    mut reg: Reg,
-    scene: &Scene<'_>,
-    wanted: &[(u32, Dir, Place, How)],
-    answer: Answer,
-) -> Result<(), Fail> {
-    let table = table(alloc)?;
-    assert!(rt; scene.settled.len() <= MAX_CPUS as usize);
-    for (i, (cpu, dir, place, how)) in wanted.iter().enumerate() {
-        let step = reg.next(&table, scene.settled, scene.absent);
-        let call = RegStep::Call {
-            cpu: *cpu,
-            key: scene.key,
-            dir: *dir,
-            place: *place,
-        };
-        assert!(rt; step == call, "entry {i}");
-        assert!(rt; *cpu < MAX_CPUS, "entry {i}");
-        reg.took(*cpu, *how);
+    for inst in [9, 7] {
+        assert!(rt; table.add_instance(30, inst).is_ok(), "{inst}");
     }
-    let step = reg.next(&table, scene.settled, scene.absent);
-    assert!(rt; step == RegStep::Ended(answer), "the end");
-    Ok(())
+    table
 }
 
-/// Of five processors the second is absent and the fourth stands one state below 120.
+/// Where processors stand: of five the second is absent and the fourth stands one state below 120.
 const SETTLED: [u32; 5] = [200, 200, 120, 119, 150];
 
-const fn scene_at(state: u32, inst: u32) -> Scene<'static> {
-    Scene {
-        settled: &SETTLED,
-        absent: &[1],
-        key: Key { state, inst },
-    }
+const ABSENT: [u32; 1] = [1];
+
+/// An operation and its key, all entries that it asks for, each with its processor and how it is made, and its answer.
+struct Row {
+    name: &'static str,
+    op: Op,
+    key: Key,
+    entries: &'static [(u32, Dir, Place, How)],
+    answer: Answer,
 }
 
-const fn setup(asked: u32) -> Op
-    ensures { is_registration_op result ≡ true }
+const ROWS: [Row; 8] = [
+    Row {
+        name: "a setup goes up on the processors at its state or above",
+        op: Op::Setup {
+            state: 120,
+            sub: 1,
+            form: PLAIN,
+        },
+        key: Key {
+            state: 120,
+            inst: 0,
+        },
+        entries: &[
+            (0, Dir::Up, Place::Add, How::RanOk),
+            (2, Dir::Up, Place::Add, How::RanOk),
+            (4, Dir::Up, Place::Add, How::RanOk),
+        ],
+        answer: Answer::Ok(0),
+    },
+    Row {
+        name: "a fault undoes those before it in rising number",
+        op: Op::Setup {
+            state: 120,
+            sub: 1,
+            form: PLAIN,
+        },
+        key: Key {
+            state: 120,
+            inst: 0,
+        },
+        entries: &[
+            (0, Dir::Up, Place::Add, How::RanOk),
+            (2, Dir::Up, Place::Add, How::RanOk),
+            (4, Dir::Up, Place::Add, How::RanFault(7)),
+            (0, Dir::Down, Place::Undo, How::RanOk),
+            (2, Dir::Down, Place::Undo, How::RanOk),
+        ],
+        answer: Answer::Fault(7),
+    },
+    Row {
+        name: "an overruled undo keeps the first code",
+        op: Op::Setup {
+            state: 141,
+            sub: 1,
+            form: PLAIN,
+        },
+        key: Key {
+            state: 143,
+            inst: 0,
+        },
+        entries: &[
+            (0, Dir::Up, Place::Add, How::Empty),
+            (4, Dir::Up, Place::Add, How::RanFault(3)),
+            (0, Dir::Down, Place::Undo, How::Overruled(9)),
+        ],
+        answer: Answer::Fault(3),
+    },
+    Row {
+        name: "an add that a fault undoes",
+        op: Op::Add {
+            state: 30,
+            inst: 9,
+            form: PLAIN,
+        },
+        key: Key { state: 30, inst: 9 },
+        entries: &[
+            (0, Dir::Up, Place::Add, How::RanOk),
+            (2, Dir::Up, Place::Add, How::Overruled(4)),
+            (3, Dir::Up, Place::Add, How::Empty),
+            (4, Dir::Up, Place::Add, How::RanFault(6)),
+            (0, Dir::Down, Place::Undo, How::RanOk),
+            (2, Dir::Down, Place::Undo, How::RanOk),
+            (3, Dir::Down, Place::Undo, How::Empty),
+        ],
+        answer: Answer::Fault(6),
+    },
+    Row {
+        name: "an instance is taken out",
+        op: Op::Del {
+            state: 30,
+            inst: 7,
+            form: PLAIN,
+        },
+        key: Key { state: 30, inst: 7 },
+        entries: &[
+            (0, Dir::Down, Place::Remove, How::RanOk),
+            (2, Dir::Down, Place::Remove, How::RanOk),
+            (3, Dir::Down, Place::Remove, How::RanOk),
+            (4, Dir::Down, Place::Remove, How::RanOk),
+        ],
+        answer: Answer::Ok(0),
+    },
+    Row {
+        name: "a remove goes on whatever is overruled",
+        op: Op::Remove {
+            state: 120,
+            form: PLAIN,
+        },
+        key: Key {
+            state: 120,
+            inst: 0,
+        },
+        entries: &[
+            (0, Dir::Down, Place::Remove, How::RanOk),
+            (2, Dir::Down, Place::Remove, How::Overruled(4)),
+            (4, Dir::Down, Place::Remove, How::RanOk),
+        ],
+        answer: Answer::Ok(0),
+    },
+    Row {
+        name: "a dynamic setup in ONLINE answers its state",
+        op: Op::Setup {
+            state: 141,
+            sub: 1,
+            form: PLAIN,
+        },
+        key: Key {
+            state: 143,
+            inst: 0,
+        },
+        entries: &[
+            (0, Dir::Up, Place::Add, How::RanOk),
+            (4, Dir::Up, Place::Add, How::RanOk),
+        ],
+        answer: Answer::Ok(143),
+    },
+    Row {
+        name: "a dynamic setup in PREPARE answers its state",
+        op: Op::Setup {
+            state: 41,
+            sub: 1,
+            form: PLAIN,
+        },
+        key: Key { state: 45, inst: 0 },
+        entries: &[
+            (0, Dir::Up, Place::Add, How::Presumed),
+            (2, Dir::Up, Place::Add, How::Presumed),
+            (3, Dir::Up, Place::Add, How::Presumed),
+            (4, Dir::Up, Place::Add, How::Presumed),
+        ],
+        answer: Answer::Ok(45),
+    },
+];
+
+/// Whether an operation is a registration.
+fn is_registration(op: Op) -> bool
+    ensures { result ≡ is_registration_op op }
 {
-    Op::Setup {
-        state: asked,
-        sub: 1,
-        form: PLAIN,
+    matches!(
+        op,
+        Op::Setup { .. } | Op::Remove { .. } | Op::Add { .. } | Op::Del { .. }
+    )
+}
+
+/// Asks for all entries of a registration and makes them so, then for its end: each is as wanted.
+fn registers(rt: &impl Abort, table: &Table<ScriptHook>, row: &Row) {
+    let (name, op, key) = (row.name, row.op, row.key);
+    assert!(rt; is_registration(op) && key.state <= ONLINE, "{name}");
+    let mut reg = Reg::begin(op, key.state);
+    for (i, &(cpu, dir, place, how)) in row.entries.iter().enumerate() {
+        let call = RegStep::Call {
+            cpu,
+            key,
+            dir,
+            place,
+        };
+        assert!(rt;
+            cpu < MAX_CPUS && reg.next(table, &SETTLED, &ABSENT) == call,
+            "{name}: entry {i}"
+        );
+        reg.took(cpu, how);
     }
-}
-
-const fn up(cpu: u32, how: How) -> (u32, Dir, Place, How) {
-    (cpu, Dir::Up, Place::Add, how)
-}
-
-const fn undo(cpu: u32, how: How) -> (u32, Dir, Place, How) {
-    (cpu, Dir::Down, Place::Undo, how)
-}
-
-const fn down(cpu: u32, how: How) -> (u32, Dir, Place, How) {
-    (cpu, Dir::Down, Place::Remove, how)
+    assert!(rt;
+        reg.next(table, &SETTLED, &ABSENT) == RegStep::Ended(row.answer),
+        "{name}: the end"
+    );
 }
 
 #[test]
-fn a_setup_goes_up_on_the_processors_at_its_state_or_above(rt: HostRuntime) -> Result<(), Fail> {
-    let reg = Reg::begin(setup(120), 120);
-    let wanted = [up(0, How::RanOk), up(2, How::RanOk), up(4, How::RanOk)];
-    check(
-        &rt,
-        rt.alloc(),
-        reg,
-        &scene_at(120, 0),
-        &wanted,
-        Answer::Ok(0),
-    )
-}
-
-#[test]
-fn a_fault_undoes_those_before_it_in_rising_number(rt: HostRuntime) -> Result<(), Fail> {
-    let reg = Reg::begin(setup(120), 120);
-    let wanted = [
-        up(0, How::RanOk),
-        up(2, How::RanOk),
-        up(4, How::RanFault(7)),
-        undo(0, How::RanOk),
-        undo(2, How::RanOk),
-    ];
-    check(
-        &rt,
-        rt.alloc(),
-        reg,
-        &scene_at(120, 0),
-        &wanted,
-        Answer::Fault(7),
-    )
-}
-
-#[test]
-fn an_overruled_undo_keeps_the_first_code(rt: HostRuntime) -> Result<(), Fail> {
-    let reg = Reg::begin(setup(141), 143);
-    let wanted = [
-        up(0, How::Empty),
-        up(4, How::RanFault(3)),
-        undo(0, How::Overruled(9)),
-    ];
-    check(
-        &rt,
-        rt.alloc(),
-        reg,
-        &scene_at(143, 0),
-        &wanted,
-        Answer::Fault(3),
-    )
-}
-
-/// An add that a fault undoes.
-fn a_faulty_instance_is_undone(rt: &impl Abort, alloc: Global) -> Result<(), Fail> {
-    let add = Op::Add {
-        state: 30,
-        inst: 9,
-        form: PLAIN,
-    };
-    let wanted = [
-        up(0, How::RanOk),
-        up(2, How::Overruled(4)),
-        up(3, How::Empty),
-        up(4, How::RanFault(6)),
-        undo(0, How::RanOk),
-        undo(2, How::RanOk),
-        undo(3, How::Empty),
-    ];
-    check(
-        rt,
-        alloc,
-        Reg::begin(add, 30),
-        &scene_at(30, 9),
-        &wanted,
-        Answer::Fault(6),
-    )
-}
-
-#[test]
-fn an_instance_is_added_and_taken_out(rt: HostRuntime) -> Result<(), Fail> {
-    a_faulty_instance_is_undone(&rt, rt.alloc())?;
-    let del = Op::Del {
-        state: 30,
-        inst: 7,
-        form: PLAIN,
-    };
-    let wanted = [
-        down(0, How::RanOk),
-        down(2, How::RanOk),
-        down(3, How::RanOk),
-        down(4, How::RanOk),
-    ];
-    check(
-        &rt,
-        rt.alloc(),
-        Reg::begin(del, 30),
-        &scene_at(30, 7),
-        &wanted,
-        Answer::Ok(0),
-    )
-}
-
-#[test]
-fn a_remove_goes_on_whatever_is_overruled(rt: HostRuntime) -> Result<(), Fail> {
-    let remove = Op::Remove {
-        state: 120,
-        form: PLAIN,
-    };
-    let wanted = [
-        down(0, How::RanOk),
-        down(2, How::Overruled(4)),
-        down(4, How::RanOk),
-    ];
-    check(
-        &rt,
-        rt.alloc(),
-        Reg::begin(remove, 120),
-        &scene_at(120, 0),
-        &wanted,
-        Answer::Ok(0),
-    )
-}
-
-#[test]
-fn a_dynamic_setup_answers_its_state(rt: HostRuntime) -> Result<(), Fail> {
-    let wanted = [up(0, How::RanOk), up(4, How::RanOk)];
-    check(
-        &rt,
-        rt.alloc(),
-        Reg::begin(setup(141), 143),
-        &scene_at(143, 0),
-        &wanted,
-        Answer::Ok(143),
-    )?;
-    let wanted = [
-        up(0, How::Presumed),
-        up(2, How::Presumed),
-        up(3, How::Presumed),
-        up(4, How::Presumed),
-    ];
-    check(
-        &rt,
-        rt.alloc(),
-        Reg::begin(setup(41), 45),
-        &scene_at(45, 0),
-        &wanted,
-        Answer::Ok(45),
-    )
+fn registrations_come_out_as_written(rt: HostRuntime) {
+    let table = table_of(&rt, rt.alloc());
+    for row in ROWS.iter() {
+        registers(&rt, &table, row);
+    }
 }

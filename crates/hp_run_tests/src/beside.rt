@@ -1,51 +1,46 @@
 //! The threads of a run are beside each other: one goes on while another is held, and while a hook is called.
 
-use crate::caller::{run, some_hooks};
+use crate::caller::{Call, rack_of, run};
 use crate::holds::{CallGate, HoldingGate, HoldingHook, Signals};
 use hp_hook::{Rack, ScriptHook};
-use std::alloc::Global;
-use std::process::Abort;
-use std::sync::Wait;
+use std::sync::Arc;
+use std::sync::atomic::AtomicU64;
 use std::test::*;
-use std::thread::Threads;
 
 /// Two processors and two actors, whose seats are 2 and 3.
-const TWO_ACTORS: &str = "cpus 2\nactor a\nup 1\nactor b\nshow state 0\n";
+const TWO_ACTORS: Call = Call {
+    words: &["run"],
+    input: ["cpus 2\nactor a\nup 1\nactor b\nshow state 0\n", ""],
+    fails: (None, None),
+};
 
-/// Runs them with a gate that holds, and asserts that the other came.
-fn check_held<R: Abort + Threads + Wait + Sync>(
-    rt: &R,
-    alloc: Global,
-    name: &str,
-    gate: &HoldingGate,
-) -> Result<(), Fail> {
-    let rack = some_hooks(alloc, 0)?;
-    let (status, _) = run(rt, alloc, TWO_ACTORS, rack, gate)?;
-    assert!(rt; !gate.gave_up(), "row {name}: a hold gave up");
-    assert!(rt; status == 0, "row {name}: status {status}");
+/// The seat that is held, the one that it is held for, and whether until that leaves, in place of until it begins.
+const ROWS: [(&'static str, u32, u32, bool); 4] = [
+    ("the first actor is held", 2, 3, true),
+    ("the second actor is held", 3, 2, true),
+    ("the first processor is held", 0, 1, false),
+    ("the second processor is held", 1, 0, false),
+];
+
+#[test]
+fn no_seat_waits_for_another(rt: HostRuntime) -> Result<(), Fail> {
+    let alloc = rt.alloc();
+    let calls = Arc::new(alloc, AtomicU64::new(0))?;
+    for &(name, held, other, to_leave) in ROWS.iter() {
+        let gate = HoldingGate::new(held, other, to_leave);
+        let rack = rack_of(alloc, 0, &calls)?;
+        let ran = run(&rt, alloc, &TWO_ACTORS, rack, &gate);
+        assert!(rt; !gate.gave_up(), "row {name}: a hold gave up");
+        assert!(rt; ran.status == 0, "row {name}: status {}", ran.status);
+    }
     Ok(())
 }
 
-#[test]
-fn an_actor_waits_for_no_other(rt: HostRuntime) -> Result<(), Fail> {
-    let alloc = rt.alloc();
-    let first = HoldingGate::until_leave(2, 3);
-    check_held(&rt, alloc, "the first actor is held", &first)?;
-    let second = HoldingGate::until_leave(3, 2);
-    check_held(&rt, alloc, "the second actor is held", &second)
-}
-
-#[test]
-fn a_processor_waits_for_no_other(rt: HostRuntime) -> Result<(), Fail> {
-    let alloc = rt.alloc();
-    let first = HoldingGate::until_begin(0, 1);
-    check_held(&rt, alloc, "the first processor is held", &first)?;
-    let second = HoldingGate::until_begin(1, 0);
-    check_held(&rt, alloc, "the second processor is held", &second)
-}
-
 /// The first actor's second operation calls the hook on processor 1.
-const ONE_CALL: &str = "\
+const ONE_CALL: Call = Call {
+    words: &["run"],
+    input: [
+        "\
 cpus 2
 sub net:a both single
 actor a
@@ -53,23 +48,27 @@ setup 120 1
 up 1
 actor b
 show state 0
-";
+",
+        "",
+    ],
+    fails: (None, None),
+};
 
 #[test]
 fn a_hook_is_called_outside_the_lock(rt: HostRuntime) -> Result<(), Fail> {
     let alloc = rt.alloc();
-    let signals = Signals::new(alloc)?;
+    let signals = Arc::new(alloc, Signals::new())?;
     let gate = CallGate {
         seat: 3,
-        signals: signals.again()?,
+        signals: Arc::try_clone(&signals)?,
     };
-    let mut hooks = Vec::new(alloc);
-    hooks.push(HoldingHook {
+    let hook = HoldingHook {
         hook: ScriptHook::new(),
-        signals: signals.again()?,
-    })?;
-    let (status, _) = run(&rt, alloc, ONE_CALL, Rack { hooks }, &gate)?;
+        signals: Arc::try_clone(&signals)?,
+    };
+    let hooks = Vec::from_array(alloc, [hook])?;
+    let ran = run(&rt, alloc, &ONE_CALL, Rack { hooks }, &gate);
     assert!(rt; !signals.gave_up(), "a hold gave up");
-    assert!(rt; status == 0);
+    assert!(rt; ran.status == 0);
     Ok(())
 }

@@ -1,111 +1,137 @@
 //! A caller of `hpd_main`: the words, the source, the sink, the rack and the gate that it hands in.
 
-ghost use Rattle.std.specs.Prelude.{◌≡◌, ◌<◌, IfOk};
+ghost use Rattle.std.specs.Prelude.{◌≡◌, IfOk};
 
-use hp_edge::NO_MEMORY;
-use hp_hook::{Hook, Rack, ScriptHook};
+use hp_hook::{Hook, Rack};
 use hp_io::{MemSink, MemSource};
-use hp_live::{FreeGate, Gate};
+use hp_live::Gate;
 use hp_run::hpd_main;
-use hp_samples::{TWO_STARTUPS, first_difference};
+use hp_samples::{Marked, first_difference};
 use std::alloc::{AllocError, Global};
 use std::process::Abort;
-use std::sync::Wait;
-use std::test::*;
+use std::sync::atomic::AtomicU64;
+use std::sync::{Arc, Wait};
 use std::thread::Threads;
 
-/// A rack of so many hooks of scripts.
-pub fn some_hooks(alloc: Global, count: u32) -> Result<Rack<ScriptHook>, AllocError> {
+/// The words, what is read, and the read and the write that fail, if one does: by ten bytes each, and by a hundred.
+#[derive(Clone, Copy)]
+pub struct Call {
+    pub words: &'static [&'static str],
+    /// The script, in pieces.
+    pub input: [&'static str; 2],
+    pub fails: (Option<u64>, Option<u64>),
+}
+
+/// What came of a call.
+#[derive(Drop)]
+pub struct Ran {
+    pub status: u8,
+    /// How many reads and how many writes failed.
+    pub faults: (u64, u64),
+    pub written: Vec<u8>,
+}
+
+/// What a call hands in.
+#[derive(Drop)]
+struct Objects {
+    words: Vec<String>,
+    source: MemSource,
+    sink: MemSink,
+}
+
+/// A rack of so many hooks, which count their calls here too.
+pub fn rack_of(
+    alloc: Global,
+    count: u32,
+    calls: &Arc<AtomicU64, Global>,
+) -> Result<Rack<Marked>, AllocError> {
     let mut hooks = Vec::new(alloc);
-    for _ in 0..count {
-        hooks.push(ScriptHook::new())?;
+    for mark in 0..count {
+        hooks.push(Marked::counted(mark, Arc::try_clone(calls)?))?;
     }
     Ok(Rack { hooks })
 }
 
-/// A source of these bytes.
-pub fn source_of(alloc: Global, bytes: &[u8]) -> Result<MemSource, AllocError>
-    ensures { IfOk result (λ source. source.faults ≡ 0) }
-{
-    Ok(MemSource::new(alloc, Vec::from_slice(alloc, bytes)?))
-}
-
-/// A sink that has room for what is written here, so that it takes no more memory.
-pub fn ample_sink(alloc: Global) -> Result<MemSink, AllocError>
-    ensures { IfOk result (λ sink. sink.faults ≡ 0) }
-{
-    let mut sink = MemSink::new(alloc);
-    sink.bytes.reserve(8192)?;
-    Ok(sink)
-}
-
-/// Runs `hpd_main` with these words. Where memory is wanting nothing is written, and the test ends.
-pub fn run_with<R: Abort + Threads + Wait + Sync, H: Hook + Send, G: Gate + Sync>(
-    rt: &R,
-    alloc: Global,
-    words: &[&str],
-    source: &mut MemSource,
-    sink: &mut MemSink,
-    rack: Rack<H>,
-    gate: &G,
-) -> Result<u8, Fail>
-    requires source { source.old.faults < u64.MAX }
-    requires sink { sink.old.faults < u64.MAX }
-{
+/// The words of a command line.
+pub fn words_of(alloc: Global, words: &[&str]) -> Result<Vec<String>, AllocError> {
     let mut owned = Vec::new(alloc);
     for word in words {
         owned.push(String::from_str(alloc, word)?)?;
     }
-    let status = hpd_main(rt, alloc, &owned, source, sink, rack, gate);
-    if status == NO_MEMORY {
-        assert!(rt;
-            sink.bytes.is_empty(),
-            "no memory, and something is written"
-        );
-        Err("out of memory")?;
-    }
-    Ok(status)
+    Ok(owned)
 }
 
-/// The status, and what is written, of the command `run` on a script.
+/// A source of these bytes, of which this read fails.
+pub fn source_of(alloc: Global, bytes: Vec<u8>, fails: Option<u64>) -> Result<MemSource, AllocError>
+    ensures { IfOk result (λ source. source.faults ≡ 0) }
+{
+    let mut source = MemSource::new(alloc, bytes);
+    if let Some(call) = fails {
+        source.step = 10;
+        source.fails.push(call)?;
+    }
+    Ok(source)
+}
+
+/// A sink that has room for what is written here, so that it takes no more memory; this write fails.
+pub fn sink_of(alloc: Global, fails: Option<u64>) -> Result<MemSink, AllocError>
+    ensures { IfOk result (λ sink. sink.faults ≡ 0) }
+{
+    let mut sink = MemSink::new(alloc);
+    if let Some(call) = fails {
+        sink.step = 100;
+        sink.fails.push(call)?;
+    }
+    sink.bytes.reserve(8192)?;
+    Ok(sink)
+}
+
+/// The pieces of a script, one behind the other.
+fn bytes_of(alloc: Global, [one, other]: [&str; 2]) -> Result<Vec<u8>, AllocError> {
+    let mut bytes = Vec::from_slice(alloc, one.as_bytes())?;
+    bytes.extend_from_slice(other.as_bytes())?;
+    Ok(bytes)
+}
+
+/// What a call hands in.
+fn objects_of(alloc: Global, call: &Call) -> Result<Objects, AllocError>
+    ensures source { IfOk result (λ objects. objects.source.faults ≡ 0) }
+    ensures sink { IfOk result (λ objects. objects.sink.faults ≡ 0) }
+{
+    let words = words_of(alloc, call.words)?;
+    let source = source_of(alloc, bytes_of(alloc, call.input)?, call.fails.0)?;
+    let sink = sink_of(alloc, call.fails.1)?;
+    Ok(Objects {
+        words,
+        source,
+        sink,
+    })
+}
+
+/// Calls `hpd_main`.
 pub fn run<R: Abort + Threads + Wait + Sync, H: Hook + Send, G: Gate + Sync>(
     rt: &R,
     alloc: Global,
-    script: &str,
+    call: &Call,
     rack: Rack<H>,
     gate: &G,
-) -> Result<(u8, Vec<u8>), Fail> {
-    let mut source = source_of(alloc, script.as_bytes())?;
-    let mut sink = ample_sink(alloc)?;
-    let status = run_with(rt, alloc, &["run"], &mut source, &mut sink, rack, gate)?;
-    Ok((status, sink.bytes))
-}
-
-/// The same of the command `work`, with the word of a state, so many hooks of scripts, and a gate that does nothing.
-pub fn work_alone<R: Abort + Threads + Wait + Sync>(
-    rt: &R,
-    alloc: Global,
-    state: &str,
-    script: &str,
-    hooks: u32,
-) -> Result<(u8, Vec<u8>), Fail> {
-    let mut source = source_of(alloc, script.as_bytes())?;
-    let mut sink = ample_sink(alloc)?;
-    let rack = some_hooks(alloc, hooks)?;
-    let words = ["work", state];
-    let status = run_with(rt, alloc, &words, &mut source, &mut sink, rack, &FreeGate)?;
-    Ok((status, sink.bytes))
-}
-
-/// The same of the command `run`.
-pub fn run_alone<R: Abort + Threads + Wait + Sync>(
-    rt: &R,
-    alloc: Global,
-    script: &str,
-    hooks: u32,
-) -> Result<(u8, Vec<u8>), Fail> {
-    let rack = some_hooks(alloc, hooks)?;
-    run(rt, alloc, script, rack, &FreeGate)
+) -> Ran {
+    match objects_of(alloc, call) {
+        Ok(objects) => {
+            let Objects {
+                words,
+                mut source,
+                mut sink,
+            } = objects;
+            let status = hpd_main(rt, alloc, &words, &mut source, &mut sink, rack, gate);
+            Ran {
+                status,
+                faults: (source.faults, sink.faults),
+                written: sink.bytes,
+            }
+        }
+        Err(_) => panic!(rt; "memory for a call"),
+    }
 }
 
 /// Asserts that a text is the wanted one, and says the row and the first line that is another.
@@ -113,16 +139,4 @@ pub fn assert_text(rt: &impl Abort, name: &str, found: &[u8], wanted: &[u8]) {
     if let Some(line) = first_difference(found, wanted) {
         panic!(rt; "row {name}, line {line}");
     }
-}
-
-/// What is written of the script of two startups, whatever the threads' order: its one actor leaves when it has
-/// brought its processor up, and the two processors' seats leave after it.
-pub fn written_of_two_startups(alloc: Global) -> Result<String, AllocError> {
-    let leaves = "leave 2\nleave 0\nleave 1\nend 18\n";
-    let mut text = TWO_STARTUPS.journal.replace(alloc, "end 15\n", leaves)?;
-    let summary = TWO_STARTUPS
-        .summary
-        .replace(alloc, "events 15\n", "events 18\n")?;
-    text.push_str(summary.as_str())?;
-    Ok(text)
 }

@@ -3,7 +3,7 @@
 use hp_hook::{Hook, ScriptHook};
 use hp_live::Gate;
 use hp_states::{Dir, HookPlan};
-use std::alloc::{AllocError, Global};
+use std::alloc::Global;
 use std::sync::Arc;
 use std::sync::atomic::{AtomicU64, Ordering};
 
@@ -32,23 +32,12 @@ pub struct HoldingGate {
 }
 
 impl HoldingGate {
-    /// Holds a seat until the other leaves.
-    pub fn until_leave(held: u32, other: u32) -> HoldingGate {
+    /// Holds a seat until the other leaves, or until it begins.
+    pub fn new(held: u32, other: u32, to_leave: bool) -> HoldingGate {
         HoldingGate {
             held,
             other,
-            to_leave: true,
-            come: AtomicU64::new(0),
-            given_up: AtomicU64::new(0),
-        }
-    }
-
-    /// Holds a seat until the other begins.
-    pub fn until_begin(held: u32, other: u32) -> HoldingGate {
-        HoldingGate {
-            held,
-            other,
-            to_leave: false,
+            to_leave,
             come: AtomicU64::new(0),
             given_up: AtomicU64::new(0),
         }
@@ -74,28 +63,19 @@ impl Gate for HoldingGate {
 /// What a gate and a hook tell each other.
 #[derive(Drop)]
 pub struct Signals {
-    begun: Arc<AtomicU64, Global>,
-    left: Arc<AtomicU64, Global>,
-    given_up: Arc<AtomicU64, Global>,
+    begun: AtomicU64,
+    left: AtomicU64,
+    given_up: AtomicU64,
 }
 
 impl Signals {
     /// Nothing is told yet.
-    pub fn new(alloc: Global) -> Result<Signals, AllocError> {
-        Ok(Signals {
-            begun: Arc::new(alloc, AtomicU64::new(0))?,
-            left: Arc::new(alloc, AtomicU64::new(0))?,
-            given_up: Arc::new(alloc, AtomicU64::new(0))?,
-        })
-    }
-
-    /// The same signals, for another thread.
-    pub fn again(&self) -> Result<Signals, AllocError> {
-        Ok(Signals {
-            begun: Arc::try_clone(&self.begun)?,
-            left: Arc::try_clone(&self.left)?,
-            given_up: Arc::try_clone(&self.given_up)?,
-        })
+    pub fn new() -> Signals {
+        Signals {
+            begun: AtomicU64::new(0),
+            left: AtomicU64::new(0),
+            given_up: AtomicU64::new(0),
+        }
     }
 
     /// Whether a hold gave up.
@@ -108,7 +88,7 @@ impl Signals {
 #[derive(Drop)]
 pub struct CallGate {
     pub seat: u32,
-    pub signals: Signals,
+    pub signals: Arc<Signals, Global>,
 }
 
 impl Gate for CallGate {
@@ -129,7 +109,7 @@ impl Gate for CallGate {
 #[derive(Drop)]
 pub struct HoldingHook {
     pub hook: ScriptHook,
-    pub signals: Signals,
+    pub signals: Arc<Signals, Global>,
 }
 
 impl Hook for HoldingHook {

@@ -16,8 +16,6 @@
 
 mod grown;
 mod law;
-#[cfg(test)]
-mod lent;
 mod lock;
 #[cfg(test)]
 mod notes;

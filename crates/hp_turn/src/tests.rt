@@ -1,19 +1,19 @@
 //! What no clause says: that the lock is found taken and free again, that threads get through, and
 //! that each event is there once.
 
-ghost use Rattle.std.specs.Prelude.{◌≡◌, true, Some, IfSome, []};
+ghost use Rattle.std.specs.Prelude.{◌≡◌, true, Some, []};
 ghost use Rattle.hp_turn.specs.Passes.{MayLock};
 
 use crate::notes::Notes;
-use crate::{Grown, TurnLock, TurnPass};
+use crate::{Busy, Grown, TurnLock, TurnPass};
 use hp_event::{Event, Head, Numbers, Subs};
 use hp_states::NoMemory;
 use std::alloc::Global;
+use std::process::Abort;
 use std::sync::{Arc, Wait};
-use std::test::Fail;
 use std::thread::{Threads, join};
 
-pub(crate) fn empty(alloc: Global) -> Notes
+fn empty(alloc: Global) -> Notes
     ensures { result.events.items ≡ [] }
 {
     let head = Head {
@@ -46,27 +46,23 @@ fn section<R: Wait>(
 }
 
 // A pass with a new seat, by one that may admit and has none.
-fn admit<R: Wait>(
+fn admit<R: Wait + Abort>(
     rt: &R,
     lock: &TurnLock<Notes>,
     root: &mut TurnPass<Notes>,
     seat: u32,
-) -> Option<TurnPass<Notes>>
+) -> TurnPass<Notes>
     requires { MayLock lock.now root.old × (root.old.admits ≡ true) }
     ensures root { MayLock lock.now root.new × (root.new.admits ≡ true) }
-    ensures new { IfSome result (λ p. MayLock lock.now p × (p.seat ≡ Some seat) × (p.aside ≡ None)) }
+    ensures new { MayLock lock.now result × (result.seat ≡ Some seat) × (result.aside ≡ None) }
 {
     let mut pass = lock.split(root);
     let mut notes = lock.lock(rt, &mut pass);
-    if !notes.admit(seat) {
-        lock.unlock(&mut pass, notes);
-        lock.join(root, pass);
-        return None;
-    }
+    assert!(rt; notes.admit(seat));
     lock.unlock(&mut pass, notes);
     let right = lock.split(&mut pass);
     lock.join(root, right);
-    Some(pass)
+    pass
 }
 
 // So many sections of one pass.
@@ -107,21 +103,34 @@ fn are_acts(events: &[Event], seat: u32, count: i32) -> bool {
     next == count
 }
 
-#[test]
-fn a_second_pass_finds_the_lock_busy(rt: HostRuntime) -> Result<(), Fail> {
-    let (lock, mut first) = TurnLock::new(rt.alloc(), empty(rt.alloc()))?;
-    let mut second = lock.split(&mut first);
-    let notes = lock.lock(&rt, &mut first);
-    assert!(rt; lock.try_lock(&mut second).is_err());
-    lock.unlock(&mut first, notes);
-    let Ok(notes) = lock.try_lock(&mut second) else {
+// While the first pass has the lock the second finds it taken, and then free, with the notes as they were.
+fn takes_turns<R: Wait + Abort>(
+    rt: &R,
+    lock: &TurnLock<Notes>,
+    first: &mut TurnPass<Notes>,
+    second: &mut TurnPass<Notes>,
+)
+    requires { MayLock lock.now first.old × MayLock lock.now second.old }
+{
+    let notes = lock.lock(rt, first);
+    let Err(Busy) = lock.try_lock(second) else {
+        panic!(rt; "the lock was taken")
+    };
+    lock.unlock(first, notes);
+    let Ok(notes) = lock.try_lock(second) else {
         panic!(rt; "the lock was free")
     };
-    assert!(rt; notes.events.is_empty() && notes.head.possible == 2);
-    lock.unlock(&mut second, notes);
-    let notes = lock.close(&rt, first);
     assert!(rt; notes.events.is_empty());
-    Ok(())
+    lock.unlock(second, notes);
+}
+
+#[test]
+fn a_second_pass_finds_the_lock_busy(rt: HostRuntime) {
+    let Ok((lock, mut first)) = TurnLock::new(rt.alloc(), empty(rt.alloc())) else {
+        panic!(rt; "memory for a lock")
+    };
+    let mut second = lock.split(&mut first);
+    takes_turns(&rt, &lock, &mut first, &mut second);
 }
 
 // The seats of four threads, with so many sections each.
@@ -129,19 +138,19 @@ const SEATS: u32 = 4;
 
 const SECTIONS: i32 = 25_000;
 
-// What four threads with a pass each leave; `None` where a pass or room was wanting.
-fn four_threads<R: Threads + Wait + Sync>(
+// What four threads with a pass each leave.
+fn four_threads<R: Threads + Wait + Abort + Sync>(
     rt: &R,
     lock: &TurnLock<Notes>,
     root: &mut TurnPass<Notes>,
-) -> Option<()>
+)
     requires { MayLock lock.now root.old × (root.old.admits ≡ true) }
     ensures { MayLock lock.now root.new }
 {
-    let zero = admit(rt, lock, root, 0)?;
-    let one = admit(rt, lock, root, 1)?;
-    let two = admit(rt, lock, root, 2)?;
-    let three = admit(rt, lock, root, 3)?;
+    let zero = admit(rt, lock, root, 0);
+    let one = admit(rt, lock, root, 1);
+    let two = admit(rt, lock, root, 2);
+    let three = admit(rt, lock, root, 3);
     let ((zero, one), (two, three)) = join(
         rt,
         || -> (TurnPass<Notes>, TurnPass<Notes>)
@@ -161,7 +170,6 @@ fn four_threads<R: Threads + Wait + Sync>(
     lock.join(root, one);
     lock.join(root, two);
     lock.join(root, three);
-    Some(())
 }
 
 fn two_threads<R: Threads + Wait + Sync>(
@@ -191,16 +199,16 @@ fn two_threads<R: Threads + Wait + Sync>(
 }
 
 #[test]
-fn four_threads_act_once_each_and_in_order(rt: HostRuntime) -> Result<(), Fail> {
-    let (lock, mut root) = TurnLock::new(rt.alloc(), empty(rt.alloc()))?;
-    let through = four_threads(&rt, &lock, &mut root);
-    assert!(rt; through.is_some());
+fn four_threads_act_once_each_and_in_order(rt: HostRuntime) {
+    let Ok((lock, mut root)) = TurnLock::new(rt.alloc(), empty(rt.alloc())) else {
+        panic!(rt; "memory for a lock")
+    };
+    four_threads(&rt, &lock, &mut root);
     let notes = lock.close(&rt, root);
     assert!(rt; notes.events.len() == 100_004);
     for seat in 0..SEATS {
         assert!(rt; are_acts(notes.events.as_slice(), seat, SECTIONS));
     }
-    Ok(())
 }
 
 // Notes that can be seen to be dropped.
@@ -224,12 +232,12 @@ impl Grown for Marked {
 
 // It takes three blocks of memory: where the second or the third is refused, nothing of them stays.
 #[test]
-fn want_of_memory_drops_the_value(rt: HostRuntime) -> Result<(), Fail> {
+fn want_of_memory_drops_the_value(rt: HostRuntime) {
     let Ok(mark) = Arc::new(rt.alloc(), 7) else {
-        return Ok(());
+        return;
     };
     let Ok(copy) = Arc::try_clone(&mark) else {
-        return Ok(());
+        return;
     };
     let notes = empty(rt.alloc());
     match TurnLock::new(rt.alloc(), Marked { notes, mark: copy }) {
@@ -241,5 +249,4 @@ fn want_of_memory_drops_the_value(rt: HostRuntime) -> Result<(), Fail> {
         Err(NoMemory) => {}
     }
     assert!(rt; Arc::strong_count(&mark) == 1);
-    Ok(())
 }

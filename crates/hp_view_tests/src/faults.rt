@@ -1,28 +1,28 @@
 //! A read and a write that fail.
 
-use crate::caller::{ample_sink, run_with, source_of};
+use crate::caller::run;
 use std::test::*;
 
-const NO_EVENTS: &[u8] = b"cpuhp journal 2\ncpus 1\nabsent -\nevents\nend 0\n";
+const NO_EVENTS: &str = "cpuhp journal 2\ncpus 1\nabsent -\nevents\nend 0\n";
+
+/// The read and the write that fail, the status, how many failed of each, and how many bytes are written.
+const ROWS: [(
+    &'static str,
+    (Option<u64>, Option<u64>),
+    u8,
+    (u64, u64),
+    usize,
+); 2] = [
+    ("a read", (Some(3), None), 3, (1, 0), 0),
+    ("a write", (None, Some(2)), 4, (0, 1), 100),
+];
 
 #[test]
-fn a_failing_read_is_told(rt: HostRuntime) -> Result<(), Fail> {
-    let mut source = source_of(rt.alloc(), NO_EVENTS)?;
-    source.step = 10;
-    source.fails.push(3)?;
-    let mut sink = ample_sink(rt.alloc())?;
-    let status = run_with(&rt, rt.alloc(), &[], &mut source, &mut sink)?;
-    assert!(rt; (status, source.faults, sink.calls) == (3, 1, 0));
-    Ok(())
-}
-
-#[test]
-fn a_failing_write_is_told(rt: HostRuntime) -> Result<(), Fail> {
-    let mut source = source_of(rt.alloc(), NO_EVENTS)?;
-    let mut sink = ample_sink(rt.alloc())?;
-    sink.step = 100;
-    sink.fails.push(2)?;
-    let status = run_with(&rt, rt.alloc(), &[], &mut source, &mut sink)?;
-    assert!(rt; (status, sink.faults, sink.bytes.len()) == (4, 1, 100));
+fn what_fails_is_told(rt: HostRuntime) -> Result<(), Fail> {
+    for &(name, fails, status, faults, len) in ROWS.iter() {
+        let ran = run(rt.alloc(), &[], NO_EVENTS, fails)?;
+        assert!(rt; ran.status == status && ran.faults == faults, "row {name}");
+        assert!(rt; ran.written.len() == len, "row {name}");
+    }
     Ok(())
 }

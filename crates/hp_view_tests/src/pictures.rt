@@ -2,49 +2,15 @@
 
 use crate::caller::run;
 use hp_samples::first_difference;
-use std::alloc::Global;
-use std::process::Abort;
 use std::test::*;
 
-/// Asserts that the picture of a journal begins with one text and ends with another.
-fn check(
-    rt: &impl Abort,
-    alloc: Global,
-    words: &[&str],
-    journal: &str,
-    first: &str,
-    last: &str,
-) -> Result<(), Fail> {
-    let (status, written) = run(rt, alloc, words, journal.as_bytes())?;
-    assert!(rt; status == 0, "status {status}");
-    assert!(rt; written.starts_with(first.as_bytes()), "another size");
-    assert!(rt; written.len() >= last.len(), "too short");
-    if let Some(line) = first_difference(&written[written.len() - last.len()..], last.as_bytes()) {
-        panic!(rt; "line {line} of the end");
-    }
-    Ok(())
-}
-
-#[test]
-fn one_operation(rt: HostRuntime) -> Result<(), Fail> {
-    let alloc = rt.alloc();
-    check(
-        &rt,
-        alloc,
-        &[],
-        "cpuhp journal 2\ncpus 1\nabsent -\nevents\nadmit 0 ap 0\nadmit 1 client\nshown 1 1 state 0 200\nend 3\n",
-        "<svg xmlns='http://www.w3.org/2000/svg' width='900' height='210' viewBox='0 0 2700 630' ",
-        "<g transform='translate(0 180)'><path class='box' d='M450 0h108v220H450z'/>\
-<path class='half' d='M450 109h108'/><text class='end' x='348' y='120'>cpu 0</text>\
-<text class='small' x='372' y='21'>200</text><text class='small' x='372' y='119'>101</text>\
-<text class='small' x='402' y='217'>0</text></g>
-<text class='end' x='348' y='483'>seat 1</text>
-<svg x='525' y='432' width='30' height='78'><title>3: shown 1 1 state 0 200
-</title><rect class='bar ok' width='100%' height='100%'/></svg>
-<path class='track' d='M450 190H558'/>
-</svg>
-",
-    )
+/// The words, the journal, and a text that its picture begins with and one that it ends with.
+struct Row {
+    name: &'static str,
+    words: &'static [&'static str],
+    journal: &'static str,
+    first: &'static str,
+    last: &'static str,
 }
 
 /// A walk that is turned back at 160, and one that ends well.
@@ -86,16 +52,29 @@ const ROLLBACK: &str = "cpuhp journal 2\n\
     done 2 5 ok 0\n\
     end 28\n";
 
-#[test]
-fn two_events_of_a_rollback(rt: HostRuntime) -> Result<(), Fail> {
-    let alloc = rt.alloc();
-    check(
-        &rt,
-        alloc,
-        &["--from", "17", "--to=18"],
-        ROLLBACK,
-        "<svg xmlns='http://www.w3.org/2000/svg' width='900' height='290' viewBox='0 0 2700 870' ",
-        "<text class='end' x='348' y='723'>seat 2</text>
+const ROWS: [Row; 2] = [
+    Row {
+        name: "one operation",
+        words: &[],
+        journal: "cpuhp journal 2\ncpus 1\nabsent -\nevents\nadmit 0 ap 0\nadmit 1 client\nshown 1 1 state 0 200\nend 3\n",
+        first: "<svg xmlns='http://www.w3.org/2000/svg' width='900' height='210' viewBox='0 0 2700 630' ",
+        last: "<g transform='translate(0 180)'><path class='box' d='M450 0h108v220H450z'/>\
+<path class='half' d='M450 109h108'/><text class='end' x='348' y='120'>cpu 0</text>\
+<text class='small' x='372' y='21'>200</text><text class='small' x='372' y='119'>101</text>\
+<text class='small' x='402' y='217'>0</text></g>
+<text class='end' x='348' y='483'>seat 1</text>
+<svg x='525' y='432' width='30' height='78'><title>3: shown 1 1 state 0 200
+</title><rect class='bar ok' width='100%' height='100%'/></svg>
+<path class='track' d='M450 190H558'/>
+</svg>
+",
+    },
+    Row {
+        name: "two events of a rollback",
+        words: &["--from", "17", "--to=18"],
+        journal: ROLLBACK,
+        first: "<svg xmlns='http://www.w3.org/2000/svg' width='900' height='290' viewBox='0 0 2700 870' ",
+        last: "<text class='end' x='348' y='723'>seat 2</text>
 <svg x='453' y='420' width='66' height='220'><title>14: walk 2 1 0 200
 </title><rect class='walk going' width='100%' height='100%'/></svg>
 <svg x='453' y='672' width='66' height='78'><title>13: enter 2 4 up 1
@@ -108,5 +87,23 @@ fn two_events_of_a_rollback(rt: HostRuntime) -> Result<(), Fail> {
 </title></path>
 </svg>
 ",
-    )
+    },
+];
+
+#[test]
+fn pictures_come_out_as_worked(rt: HostRuntime) -> Result<(), Fail> {
+    for row in ROWS.iter() {
+        let name = row.name;
+        let ran = run(rt.alloc(), row.words, row.journal, (None, None))?;
+        assert!(rt; ran.status == 0, "row {name}");
+        assert!(rt;
+            ran.written.starts_with(row.first.as_bytes()),
+            "row {name}: another size"
+        );
+        let last = row.last.as_bytes();
+        assert!(rt; ran.written.len() >= last.len(), "row {name}: too short");
+        let found = first_difference(&ran.written[ran.written.len() - last.len()..], last);
+        assert!(rt; found == None, "row {name}: line {found:?} of the end");
+    }
+    Ok(())
 }

@@ -2,8 +2,6 @@
 
 use crate::caller::run;
 use hp_samples::first_difference;
-use std::alloc::Global;
-use std::process::Abort;
 use std::test::*;
 
 /// A journal of three events.
@@ -12,108 +10,105 @@ const THREE: &str = "cpuhp journal 2\ncpus 1\nabsent -\nevents\nadmit 0 ap 0\nad
 
 /// The words, what is read, and what is to come of it.
 #[derive(Clone, Copy)]
-struct Row<'a> {
-    words: &'a [&'a str],
-    input: &'a str,
+struct Row {
+    words: &'static [&'static str],
+    input: &'static str,
     status: u8,
-    output: &'a str,
+    output: &'static str,
 }
-
-/// Runs each row, and compares its status and what is written.
-fn check(rt: &impl Abort, alloc: Global, rows: &[Row]) -> Result<(), Fail> {
-    for row in rows {
-        let (status, written) = run(rt, alloc, row.words, row.input.as_bytes())?;
-        let output = row.output;
-        assert!(rt; status == row.status, "wanted {output}status {status}");
-        if let Some(line) = first_difference(&written, output.as_bytes()) {
-            panic!(rt; "wanted {output}line {line}");
-        }
-    }
-    Ok(())
-}
-
-const USAGE: &str = "usage: hpview [--from N] [--to M]\n";
-
-const NO_WINDOW: &str = "error: 3 events: choose a window of at most 20000 with --from and --to\n";
 
 /// Words that are none of the program's.
-fn usage<'a>(words: &'a [&'a str]) -> Row<'a> {
-    Row {
-        words,
-        input: THREE,
-        status: 1,
-        output: USAGE,
-    }
-}
+const USAGE: Row = Row {
+    words: &["--help"],
+    input: THREE,
+    status: 1,
+    output: "usage: hpview [--from N] [--to M]\n",
+};
 
 /// A window that three events don't have.
-fn no_window<'a>(words: &'a [&'a str]) -> Row<'a> {
+const NO_WINDOW: Row = Row {
+    words: &["--from", "0"],
+    input: THREE,
+    status: 2,
+    output: "error: 3 events: choose a window of at most 20000 with --from and --to\n",
+};
+
+/// A journal that is refused.
+const BAD_JOURNAL: Row = Row {
+    words: &[],
+    input: "",
+    status: 6,
+    output: "error: line 1: missing\n",
+};
+
+const ROWS: [Row; 16] = [
+    USAGE,
     Row {
-        words,
-        input: THREE,
-        status: 2,
-        output: NO_WINDOW,
-    }
-}
-
-/// A journal that is refused so.
-fn bad_journal<'a>(input: &'a str, output: &'a str) -> Row<'a> {
+        words: &["--from"],
+        ..USAGE
+    },
     Row {
-        words: &[],
-        input,
-        status: 6,
-        output,
+        words: &["--from", "01"],
+        ..USAGE
+    },
+    Row {
+        words: &["--from", "1", "--from", "2"],
+        ..USAGE
+    },
+    Row {
+        words: &["--to=x"],
+        ..USAGE
+    },
+    Row {
+        words: &["--", "--from", "1"],
+        ..USAGE
+    },
+    Row {
+        words: &["3"],
+        ..USAGE
+    },
+    NO_WINDOW,
+    Row {
+        words: &["--from=3", "--to=2"],
+        ..NO_WINDOW
+    },
+    Row {
+        words: &["--from", "4"],
+        ..NO_WINDOW
+    },
+    Row {
+        words: &["--to", "4"],
+        ..NO_WINDOW
+    },
+    Row {
+        words: &["--to", "0"],
+        ..NO_WINDOW
+    },
+    Row {
+        words: &["--to", "18446744073709551615"],
+        ..NO_WINDOW
+    },
+    BAD_JOURNAL,
+    Row {
+        input: "cpuhp journal 1\n",
+        output: "error: line 1: header\n",
+        ..BAD_JOURNAL
+    },
+    Row {
+        input: "cpuhp journal 2\ncpus 1\nabsent -\nevents\nadmit 1 client\n",
+        output: "error: line 5: unlawful\n",
+        ..BAD_JOURNAL
+    },
+];
+
+#[test]
+fn others_are_refused(rt: HostRuntime) -> Result<(), Fail> {
+    for row in ROWS.iter() {
+        let ran = run(rt.alloc(), row.words, row.input, (None, None))?;
+        let (words, output) = (row.words, row.output);
+        assert!(rt; ran.status == row.status, "row {words:?}, {output}");
+        let line = first_difference(&ran.written, output.as_bytes());
+        assert!(rt; line == None, "row {words:?}, {output}: line {line:?}");
     }
-}
-
-#[test]
-fn other_words(rt: HostRuntime) -> Result<(), Fail> {
-    let alloc = rt.alloc();
-    check(
-        &rt,
-        alloc,
-        &[
-            usage(&["--help"]),
-            usage(&["--from"]),
-            usage(&["--from", "01"]),
-            usage(&["--from", "1", "--from", "2"]),
-            usage(&["--to=x"]),
-            usage(&["--", "--from", "1"]),
-            usage(&["3"]),
-        ],
-    )
-}
-
-#[test]
-fn other_windows(rt: HostRuntime) -> Result<(), Fail> {
-    let alloc = rt.alloc();
-    check(
-        &rt,
-        alloc,
-        &[
-            no_window(&["--from", "0"]),
-            no_window(&["--from=3", "--to=2"]),
-            no_window(&["--from", "4"]),
-            no_window(&["--to", "4"]),
-            no_window(&["--to", "0"]),
-            no_window(&["--to", "18446744073709551615"]),
-        ],
-    )
-}
-
-#[test]
-fn other_journals(rt: HostRuntime) -> Result<(), Fail> {
-    let alloc = rt.alloc();
-    check(
-        &rt,
-        alloc,
-        &[
-            bad_journal("", "error: line 1: missing\n"),
-            bad_journal("cpuhp journal 1\n", "error: line 1: header\n"),
-            bad_journal(
-                "cpuhp journal 2\ncpus 1\nabsent -\nevents\nadmit 1 client\n",
-                "error: line 5: unlawful\n",
-            ),
-        ],
-    )
+    Ok(())
 }
