@@ -1,5 +1,5 @@
 -- What comes next of a seat and an operation decides whether an event of it can stand.
-use Rattle.std.proofs.Common.{◌≡◌, ℕ, Bool, true, false, IsTrue, ◌↔◌, Option, Some, None, List, refl, sym, ap, ◌∙◌, subst}
+use Rattle.std.proofs.Common.{◌≡◌, ℕ, Bool, true, false, IsTrue, ◌↔◌, Some, None, List, refl, sym, ap, ◌∙◌, subst}
 use Rattle.std.proofs.lemmas.Bool.{true≢false}
 use Rattle.hp_states.proofs.Basics.{none_some, same_some}
 use Rattle.hp_states.specs.declared.dir.Dir.{Dir}
@@ -18,11 +18,14 @@ use Rattle.hp_model.proofs.DueGives.{due_exactly}
 use Rattle.hp_machine.specs.declared.next.Next.{Next}
 use Rattle.hp_machine.specs.declared.next.Next.TheVariants as answer
 use Rattle.hp_machine.proofs.FullNone.{full_none}
+use Rattle.std.specs.Bool.{then_some}
+use Rattle.hp_account.specs.declared.under_way.Entry.{Entry}
 use Rattle.hp_account.specs.Entries.{entry_event}
 use Rattle.hp_machine.specs.Next.{IsNext}
 use Rattle.hp_model.specs.Subsystems.{names_sub}
 use Rattle.hp_model.proofs.NextStands.{next_stands}
 use Rattle.hp_law.specs.Asked.{asked_by, IsOfOperation}
+use Rattle.hp_law.specs.EntryOf.{IsEntryOf}
 use Rattle.hp_law.proofs.ClientEvents.{asked_for}
 
 -- what comes next is no event of the operation's own, where it is answered otherwise
@@ -42,22 +45,29 @@ of_operation (event.Leave seat) a l c = absurd (l seat refl)
 of_operation (event.Call seat cpu state inst dir how) a l c = absurd (c seat cpu state inst dir how refl)
 of_operation e a l c = tt
 
--- an entry stands where it is the one that is due from its seat
-pub by_due : (head : Head) (es : List Event) (k : ℕ) (e : Event) (due : Option Event) → IsLawful head es → is_call e ≡ true →
-    seat_of e ≡ k → due ≡ due_entry head es k → (due ≡ Some e) ↔ Stands head es e
-by_due head es k e due lawful call by is =
-    let x = due_exactly head es k e lawful in (λ h. (x.0 (sym is ∙ h)).0, λ s. is ∙ x.1 (s, call, by))
+-- an entry that is due from a seat is of that seat
+pub of_seat : (head : Head) (es : List Event) (k : ℕ) (e entry : Event) → IsLawful head es → seat_of e ≡ k →
+    due_entry head es k ≡ Some entry → seat_of e ≡ seat_of entry
+of_seat head es k e entry lawful by due = by ∙ sym ((due_exactly head es k entry lawful).0 due).2
 
-pub some_due : (head : Head) (es : List Event) (k : ℕ) (e entry : Event) (same : Bool) → IsLawful head es → is_call e ≡ true →
-    seat_of e ≡ k → Some entry ≡ due_entry head es k → IsTrue same ↔ (entry ≡ e) → IsTrue same ↔ Stands head es e
-some_due head es k e entry same lawful call by is decides =
-    let x = by_due head es k e (Some entry) lawful call by is in
-    (λ h. x.0 (ap Some (decides.0 h)), λ s. decides.1 (same_some entry e (x.1 s)))
+-- a call stands where it is the one that is due from its seat
+pub by_due : (head : Head) (es : List Event) (k : ℕ) (e : Event) → IsLawful head es → is_call e ≡ true → seat_of e ≡ k →
+    (due_entry head es k ≡ Some e) ↔ Stands head es e
+by_due head es k e lawful call by =
+    let x = due_exactly head es k e lawful in (λ h. (x.0 h).0, λ s. x.1 (s, call, by))
 
-pub none_due : (head : Head) (es : List Event) (k : ℕ) (e : Event) → IsLawful head es → is_call e ≡ true →
-    seat_of e ≡ k → None ≡ due_entry head es k → IsTrue false ↔ Stands head es e
-none_due head es k e lawful call by is =
-    let x = by_due head es k e None lawful call by is in (λ h. absurd (true≢false (sym h)), λ s. absurd (none_some e (x.1 s)))
+-- so its entry is the one that is due, where a test decides that it is that one's event
+pub entry_by : (head : Head) (es : List Event) (k : ℕ) (e : Event) (entry : Entry) (same : Bool) → IsLawful head es → is_call e ≡ true →
+    seat_of e ≡ k → due_entry head es k ≡ Some (entry_event head es entry) → IsTrue same ↔ (entry_event head es entry ≡ e) →
+    IsEntryOf head es e (then_some same entry)
+entry_by head es k e entry true lawful call by due decides =
+    let is = decides.0 refl in ((by_due head es k e lawful call by).0 (due ∙ ap Some is), is)
+entry_by head es k e entry false lawful call by due decides = λ s.
+    true≢false (sym (decides.1 (same_some (entry_event head es entry) e (sym due ∙ (by_due head es k e lawful call by).1 s))))
+
+pub no_entry : (head : Head) (es : List Event) (k : ℕ) (e : Event) → IsLawful head es → is_call e ≡ true → seat_of e ≡ k →
+    due_entry head es k ≡ None → Stands head es e → ⊥
+no_entry head es k e lawful call by due stands = none_some e (sym due ∙ (by_due head es k e lawful call by).1 stands)
 
 -- what the machine says comes next decides
 pub comes_event : (head : Head) (es : List Event) (k : ℕ) (op : Op) (e next : Event) (takes : ℕ) (same : Bool) → IsLawful head es →

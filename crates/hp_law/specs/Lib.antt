@@ -1,3 +1,4 @@
 pub mod Law
 pub mod Asked
 pub mod RoomOf
+pub mod EntryOf

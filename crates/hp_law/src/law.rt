@@ -3,11 +3,13 @@
 ghost use Rattle.std.specs.Prelude.{◌≡◌, ◌↔◌, ◌++◌, ◌∷◌, ◌≤◌, [], true, false, IsTrue, IfOk, OnOk, OnErr, length, is_some};
 ghost use Rattle.hp_account.specs.TableChanges.{brings_hook};
 ghost use Rattle.hp_model.specs.Heads.{IsHead};
+ghost use Rattle.hp_account.specs.Entries.{entry_event};
+ghost use Rattle.hp_model.specs.Events.{is_call, seat_of};
 ghost use Rattle.hp_model.specs.How.{answer_at};
 ghost use Rattle.hp_model.specs.Lawful.{IsLawful, Stands};
 ghost use Rattle.hp_model.specs.Needs.{need as room_need, taken};
-ghost use Rattle.hp_model.specs.NextEvent.{due_entry};
 ghost use Rattle.hp_law.specs.Asked.{IsOfOperation};
+ghost use Rattle.hp_law.specs.EntryOf.{IsEntryOf};
 ghost use Rattle.hp_law.specs.RoomOf.{IsRoomOf};
 ghost use Rattle.hp_states.specs.declared.limits.TheConstants.{MAX_EVENTS};
 
@@ -76,8 +78,17 @@ impl Law {
             ≡ record { head = self.old.head; events = self.old.events ++ event.now ∷ [] }) }
         ensures err { OnErr result (self.new ≡ self.old) }
     {
-        let need = self.machine.need(event);
-        self.take_with_room(event, need)
+        match *event {
+            Event::Call { seat, .. } => {
+                // it can stand, so it is taken where it is offered
+                self.offer_call(seat, event);
+                Ok(())
+            }
+            _ => {
+                let need = self.machine.need(event);
+                self.take_with_room(event, need)
+            }
+        }
     }
 
     /// Takes an event more if it can stand next, and answers whether it can.
@@ -94,12 +105,15 @@ impl Law {
         ensures lawful { OnErr result (Stands self.old.head self.old.events event.now) }
         ensures err { OnErr result (self.new ≡ self.old) }
     {
-        match self.room_of(event) {
-            Some(need) => {
-                self.take_with_room(event, need)?;
-                Ok(true)
-            }
-            None => Ok(false),
+        match *event {
+            Event::Call { seat, .. } => Ok(self.offer_call(seat, event)),
+            _ => match self.room_of(event) {
+                Some(need) => {
+                    self.take_with_room(event, need)?;
+                    Ok(true)
+                }
+                None => Ok(false),
+            },
         }
     }
 
@@ -131,25 +145,34 @@ impl Law {
         journal
     }
 
-    /// Takes an event more, which can stand next and takes so much room of its own.
+    /// Takes a call more of this seat if it can stand next, and answers whether it can.
+    fn offer_call(&mut self, seat: u32, event: &Event) -> bool
+        requires call { is_call event.now ≡ true }
+        requires seat { seat_of event.now ≡ seat }
+        ensures stands { IsTrue result ↔ Stands self.old.head self.old.events event.now }
+        ensures taken { IsTrue result → self.new
+            ≡ record { head = self.old.head; events = self.old.events ++ event.now ∷ [] } }
+        ensures refused { result ≡ false → self.new ≡ self.old }
+    {
+        match self.entry_of(seat, event) {
+            Some(entry) => {
+                self.machine.make_entry(&entry);
+                true
+            }
+            None => false,
+        }
+    }
+
+    /// Takes an event more that is no call, which can stand next and takes so much room of its own.
     fn take_with_room(&mut self, event: &Event, need: u32) -> Result<(), NoMemory>
         requires stands { Stands self.old.head self.old.events event.now }
+        requires no_call { is_call event.now ≡ false }
         requires need { need ≡ taken (room_need self.old.head self.old.events event.now) }
         ensures ok { OnOk result (self.new
             ≡ record { head = self.old.head; events = self.old.events ++ event.now ∷ [] }) }
         ensures err { OnErr result (self.new ≡ self.old) }
     {
-        self.machine.sound();
-        match *event {
-            Event::Call { seat, .. } => match self.machine.due(seat) {
-                Some(entry) => {
-                    self.machine.make_entry(&entry);
-                    Ok(())
-                }
-                None => unreachable!(),
-            },
-            _ => self.machine.make(event, need, &mut hook_for(event)),
-        }
+        self.machine.make(event, need, &mut hook_for(event))
     }
 
     /// The room that an event takes of its own, where it can stand next. None where it can't.
@@ -160,21 +183,45 @@ impl Law {
         match *event {
             Event::Admit { seat, role } => self.machine.can_admit(seat, role).then_some(2),
             Event::Leave { seat } => self.machine.can_leave(seat).then_some(0),
-            Event::Call { seat, .. } => match self.due(seat) {
-                Some(entry) => same(&entry, event).then_some(0),
-                None => None,
-            },
+            Event::Call { seat, .. } => self.entry_of(seat, event).is_some().then_some(0),
             _ => self.comes_next(event),
         }
     }
 
-    /// The entry that is due from a seat, as it is made.
-    fn due(&self, seat: u32) -> Option<Event>
-        ensures { result ≡ due_entry self.now.head self.now.events seat }
+    /// The entry that a call of this seat makes, where it can stand next. None where it can't.
+    fn entry_of(&self, seat: u32, event: &Event) -> Option<Entry>
+        requires call { is_call event.now ≡ true }
+        requires seat { seat_of event.now ≡ seat }
+        ensures { IsEntryOf self.now.head self.now.events event.now result }
     {
+        self.machine.sound();
         match self.machine.due(seat) {
-            Some(entry) => Some(entry.event(entry.how(self.answer_to(&entry)))),
+            Some(entry) => self.makes(&entry, event).then_some(entry),
             None => None,
+        }
+    }
+
+    /// Whether an event is that of an entry of its seat: a call at its place, made as the entry is.
+    fn makes(&self, entry: &Entry, event: &Event) -> bool
+        requires { seat_of event.now ≡ entry.now.seat }
+        ensures { IsTrue result ↔ (entry_event self.now.head self.now.events entry.now ≡ event.now) }
+    {
+        match *event {
+            Event::Call {
+                cpu,
+                state,
+                inst,
+                dir,
+                how,
+                ..
+            } => {
+                cpu == entry.cpu
+                    && state == entry.key.state
+                    && inst == entry.key.inst
+                    && dir == entry.dir
+                    && how == entry.how(self.answer_to(entry))
+            }
+            _ => false,
         }
     }
 

@@ -1,5 +1,4 @@
 use Rattle.std.proofs.Common.{None, ◌∙◌, ap, sym, subst}
-use Rattle.hp_model.specs.FirstEvent.{is_client}
 use Rattle.hp_model.specs.Subsystems.{names_sub}
 use Rattle.hp_machine.specs.Next.{IsNext}
 use Rattle.hp_law.specs.Law.{Taken}

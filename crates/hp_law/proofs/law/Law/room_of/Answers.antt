@@ -1,12 +1,10 @@
 use Rattle.std.proofs.Common.{◌∙◌, ap, sym, subst, refl}
+use Rattle.std.specs.Bool.{then_some}
 use Rattle.hp_event.specs.declared.event.Event.TheVariants.{Admit, Leave}
-use Rattle.hp_model.specs.Events.{seat_of, is_call}
-use Rattle.hp_model.specs.Lawful.{IsLawful}
-use Rattle.hp_model.specs.Needs.{need, taken}
+use Rattle.hp_model.specs.Events.{is_call}
 use Rattle.hp_law.specs.Law.{Taken}
 use Rattle.hp_law.specs.RoomOf.{IsRoomOf}
-use Rattle.hp_law.proofs.Comes.{some_due, none_due}
-use Rattle.hp_law.proofs.Rooms.{room_by, no_room}
+use Rattle.hp_law.proofs.Rooms.{room_by, room_of_entry}
 use Rattle.hp_law.proofs.law.Law.room_of.Goals as goal
 
 pub returns-in-Admit : goal.returns-in-Admit
@@ -27,21 +25,10 @@ returns-in-Leave c =
     (subst (λ x. IsRoomOf l.head l.events x c.then_some-in-Leave.result) (sym c.in-Leave.is)
     (subst (IsRoomOf l.head l.events e) (sym c.then_some-in-Leave.ensures) room))
 
-pub returns-in-Some : goal.returns-in-Some
-returns-in-Some c =
+pub returns-in-Call : goal.returns-in-Call
+returns-in-Call c =
     let t = c.args.self.now in
     let e = c.args.event.now in
-    let lawful = subst (λ (t : Taken). IsLawful t.head t.events) c.self.view_is c.sound.ensures.lawful in
-    let stands = some_due t.head t.events c.in-Call.seat e c.in-Some.entry c.same.result lawful (ap is_call c.in-Call.is) (ap seat_of c.in-Call.is)
-    (sym c.in-Some.is ∙ c.due.ensures) c.same.ensures in
-    let room = room_by t.head t.events e c.same.result 0 stands (λ _. sym (ap (λ x. taken (need t.head t.events x)) c.in-Call.is)) in
-    subst (IsRoomOf t.head t.events e) (sym c.then_some-in-Some.ensures) room
-
-pub returns-in-None : goal.returns-in-None
-returns-in-None c =
-    let t = c.args.self.now in
-    let e = c.args.event.now in
-    let lawful = subst (λ (t : Taken). IsLawful t.head t.events) c.self.view_is c.sound.ensures.lawful in
-    no_room t.head t.events e
-    (none_due t.head t.events c.in-Call.seat e lawful (ap is_call c.in-Call.is) (ap seat_of c.in-Call.is)
-    (sym c.in-None.is ∙ c.due.ensures))
+    let room = room_of_entry t.head t.events e c.entry_of.result (ap is_call c.in-Call.is) c.entry_of.ensures in
+    let some = ap (λ b. then_some b 0) c.is_some.ensures in
+    subst (IsRoomOf t.head t.events e) (sym (c.then_some-in-Call.ensures ∙ some)) room
