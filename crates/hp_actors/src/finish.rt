@@ -54,6 +54,7 @@ impl<H: Hook> Run<H> {
         match board.retire(rack) {
             Ok(_) => given,
             Err((error, board)) => {
+                // Lets the board go with its hooks, by a call that is proved once.
                 board.into_journal();
                 Err(error)
             }

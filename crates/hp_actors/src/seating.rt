@@ -32,6 +32,7 @@ pub fn seated_board<H: Hook>(alloc: Global, head: &Head, clients: u32) -> Result
     match seat_all(&mut board, head, clients) {
         Ok(()) => Ok(board),
         Err(error) => {
+            // Lets the board go with its hooks, by a call that is proved once.
             board.into_journal();
             Err(error)
         }

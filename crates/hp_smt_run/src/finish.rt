@@ -47,6 +47,7 @@ impl<H: Hook> SmtRun<H> {
         match smt.into_board().retire(rack) {
             Ok(journal) => Ok(journal),
             Err((error, board)) => {
+                // Lets the board go with its hooks, by a call that is proved once.
                 board.into_journal();
                 Err(error)
             }
