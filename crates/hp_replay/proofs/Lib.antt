@@ -24,7 +24,7 @@ mod LineExamples
 mod InputExamples
 pub mod CodeForms
 mod WordForms
-mod DigitWord
+mod ShortNumbers
 mod Rows
 mod FirstWordLaws
 mod LineForms

@@ -41,6 +41,33 @@ fn behind_digit(text: &[u8]) -> Option<(u32, &[u8])>
     }
 }
 
+/// The number that the first word of a text says, and what stands behind the space that ends it, where
+/// that word is two or three digits, of which the first isn't 0. Most states are.
+fn behind_digits(text: &[u8]) -> Option<(u32, &[u8])>
+    ensures said { IfSome result (λ r. Some r.0 ≡ first_says number_at (pieces text.now)) }
+    ensures rest { IfSome result (λ r. pieces r.1.now ≡ others_of (pieces text.now)) }
+{
+    match text {
+        [tens @ b'1'..=b'9', ones @ b'0'..=b'9', b' ', others @ ..] => {
+            let number = (*tens - b'0') as u32 * 10 + (*ones - b'0') as u32;
+            Some((number, others))
+        }
+        [
+            hundreds @ b'1'..=b'9',
+            tens @ b'0'..=b'9',
+            ones @ b'0'..=b'9',
+            b' ',
+            others @ ..,
+        ] => {
+            let number = (*hundreds - b'0') as u32 * 100
+                + (*tens - b'0') as u32 * 10
+                + (*ones - b'0') as u32;
+            Some((number, others))
+        }
+        _ => None,
+    }
+}
+
 /// What stands behind the first word of a text and the space that ends it, where that word is `call`.
 fn behind_call(text: &[u8]) -> Option<&[u8]>
     ensures { IfSome result (λ others. pieces text.now ≡ codes "call" ∷ pieces others.now) }
@@ -106,7 +133,13 @@ impl<'a> Words<'a> {
         ensures said { result ≡ first_says number_at self.old }
         ensures rest { IsSome result → self.new ≡ others_of self.old }
     {
-        number(self.next()?).ok()
+        match behind_digits(self.left?) {
+            Some((number, others)) => {
+                self.left = Some(others);
+                Some(number)
+            }
+            None => number(self.next()?).ok(),
+        }
     }
 
     /// Takes the next word where it is `call` and words follow, and answers whether it did.

@@ -1,5 +1,5 @@
 use Rattle.std.proofs.Common.{rules}
-use Rattle.hp_replay.proofs.DigitWord.{digit_said}
+use Rattle.hp_replay.proofs.ShortNumbers.{digit_said}
 use Rattle.hp_replay.proofs.words.behind_digit.Goals as goal
 
 pub returns-in-32-clause-said : goal.returns-in-32-clause-said
