@@ -32,6 +32,18 @@ fn overruled(words: &mut Words<'_>) -> Option<How>
 pub fn how(words: &mut Words<'_>) -> Option<How>
     ensures { result ≡ how_at words.old }
 {
+    // Most entries ran, and `ok` ends their lines.
+    if words.are_ok() {
+        return Some(How::RanOk);
+    }
+    any_how(words)
+}
+
+/// How an entry was made, by the table of the words.
+#[tactic(auto, unfolding(crate::specs::EventAt::how))]
+fn any_how(words: &mut Words<'_>) -> Option<How>
+    ensures { result ≡ how_at words.old }
+{
     match words.next()? {
         b"ok" => words.done(How::RanOk),
         b"fault" => ran_fault(words),

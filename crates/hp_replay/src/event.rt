@@ -11,7 +11,7 @@ use crate::first_word::{EventWord, event_word};
 use crate::line::Line;
 use crate::words::Words;
 use hp_event::{Event, File, Role, Version};
-use hp_text::{dir_of, integer, read_op};
+use hp_text::{integer, read_op};
 
 /// An event as its line says it.
 #[derive(Clone, Copy, Debug, PartialEq, Eq)]
@@ -102,7 +102,7 @@ fn call(words: &mut Words<'_>) -> Option<NumberedEvent>
     let cpu = words.number()?;
     let state = words.number()?;
     let inst = words.number()?;
-    let dir = dir_of(words.next()?)?;
+    let dir = words.dir()?;
     let how = how(words)?;
     let event = Event::Call {
         seat,

@@ -1,12 +1,14 @@
 //! The words of a line, one after another.
 
-ghost use Rattle.std.specs.Prelude.{◌≡◌, ◌∷◌, ℕ, List, false, IsTrue, IsSome, IfSome, Some, codes, option_map};
+ghost use Rattle.std.specs.Prelude.{◌≡◌, [], ◌∷◌, ℕ, List, false, IsTrue, IsSome, IfSome, Some, codes, option_map};
 ghost use Rattle.hp_model.specs.Lists.{is_empty};
+ghost use Rattle.hp_text.specs.Choices.{dir_of as dir_at};
 ghost use Rattle.hp_replay.specs.WordsLeft.{first_of, others_of, first_says, pieces};
 ghost use Rattle.hp_replay.specs.Numbers.{number as number_at};
 ghost use Rattle.hp_replay.specs.Readers.{done as done_at};
 
-use hp_text::number;
+use hp_states::Dir;
+use hp_text::{dir_of, number};
 use std::marker::Model;
 
 /// The words of a line that are left to be read. Contracts see the list of them.
@@ -64,6 +66,21 @@ fn behind_digits(text: &[u8]) -> Option<(u32, &[u8])>
                 + (*ones - b'0') as u32;
             Some((number, others))
         }
+        _ => None,
+    }
+}
+
+/// The direction that the first word of a text says, and what stands behind the space that ends it, where
+/// it says one and a space does.
+#[inline(always)]
+#[tactic(auto, unfolding(hp_text::specs::Choices::dir_of))]
+fn behind_dir(text: &[u8]) -> Option<(Dir, &[u8])>
+    ensures said { IfSome result (λ r. Some r.0 ≡ first_says dir_at (pieces text.now)) }
+    ensures rest { IfSome result (λ r. pieces r.1.now ≡ others_of (pieces text.now)) }
+{
+    match text {
+        [b'u', b'p', b' ', others @ ..] => Some((Dir::Up, others)),
+        [b'd', b'o', b'w', b'n', b' ', others @ ..] => Some((Dir::Down, others)),
         _ => None,
     }
 }
@@ -142,6 +159,31 @@ impl<'a> Words<'a> {
         }
     }
 
+    /// The direction that the next word says, which is then no longer left. None where it says none, or
+    /// where no word is left.
+    #[inline(always)]
+    pub fn dir(&mut self) -> Option<Dir>
+        ensures said { result ≡ first_says dir_at self.old }
+        ensures rest { IsSome result → self.new ≡ others_of self.old }
+    {
+        match behind_dir(self.left?) {
+            Some((dir, others)) => {
+                self.left = Some(others);
+                Some(dir)
+            }
+            None => self.any_dir(),
+        }
+    }
+
+    /// The direction that the next word says, whether or not a word follows.
+    #[inline(never)]
+    fn any_dir(&mut self) -> Option<Dir>
+        ensures said { result ≡ first_says dir_at self.old }
+        ensures rest { IsSome result → self.new ≡ others_of self.old }
+    {
+        dir_of(self.next()?)
+    }
+
     /// Takes the next word where it is `call` and words follow, and answers whether it did.
     pub fn takes_call(&mut self) -> bool
         ensures taken { IsTrue result → self.old ≡ codes "call" ∷ self.new }
@@ -157,6 +199,13 @@ impl<'a> Words<'a> {
             }
             None => false,
         }
+    }
+
+    /// Whether `ok` is all that is left.
+    pub fn are_ok(&self) -> bool
+        ensures { IsTrue result → self.now ≡ codes "ok" ∷ [] }
+    {
+        matches!(self.left, Some(b"ok"))
     }
 
     /// The value that is given, where no word is left.

@@ -2,7 +2,7 @@ use Rattle.std.proofs.Common.{rules, arith}
 use Rattle.std.specs.Prelude.{codes}
 use Rattle.hp_replay.specs.EventAt.{how_rows, how}
 use Rattle.hp_replay.proofs.Rows.{at_row}
-use Rattle.hp_replay.proofs.answer.how.Goals as goal
+use Rattle.hp_replay.proofs.answer.any_how.Goals as goal
 
 pub returns-in-injected : goal.returns-in-injected
 unfolding how
