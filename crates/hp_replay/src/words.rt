@@ -30,7 +30,7 @@ impl<'a> Model for Words<'a> {
 }
 
 /// The number that the first word of a text says, and what stands behind the space that ends it, where
-/// that word is one digit. Most numbers are.
+/// that word is one digit.
 fn behind_digit(text: &[u8]) -> Option<(u32, &[u8])>
     ensures said { IfSome result (λ r. Some r.0 ≡ first_says number_at (pieces text.now)) }
     ensures rest { IfSome result (λ r. pieces r.1.now ≡ others_of (pieces text.now)) }
@@ -44,7 +44,8 @@ fn behind_digit(text: &[u8]) -> Option<(u32, &[u8])>
 }
 
 /// The number that the first word of a text says, and what stands behind the space that ends it, where
-/// that word is two or three digits, of which the first isn't 0. Most states are.
+/// that word is two or three digits, of which the first isn't 0.
+#[inline(always)]
 fn behind_digits(text: &[u8]) -> Option<(u32, &[u8])>
     ensures said { IfSome result (λ r. Some r.0 ≡ first_says number_at (pieces text.now)) }
     ensures rest { IfSome result (λ r. pieces r.1.now ≡ others_of (pieces text.now)) }
@@ -67,6 +68,19 @@ fn behind_digits(text: &[u8]) -> Option<(u32, &[u8])>
             Some((number, others))
         }
         _ => None,
+    }
+}
+
+/// The number that the first word of a text says, and what stands behind the space that ends it, where
+/// that word is one to three digits. Most numbers are.
+#[inline(always)]
+fn behind_short_number(text: &[u8]) -> Option<(u32, &[u8])>
+    ensures said { IfSome result (λ r. Some r.0 ≡ first_says number_at (pieces text.now)) }
+    ensures rest { IfSome result (λ r. pieces r.1.now ≡ others_of (pieces text.now)) }
+{
+    match behind_digit(text) {
+        Some(said) => Some(said),
+        None => behind_digits(text),
     }
 }
 
@@ -135,10 +149,10 @@ impl<'a> Words<'a> {
         ensures said { result ≡ first_says number_at self.old }
         ensures rest { IsSome result → self.new ≡ others_of self.old }
     {
-        match behind_digit(self.left?) {
-            Some((digit, others)) => {
+        match behind_short_number(self.left?) {
+            Some((number, others)) => {
                 self.left = Some(others);
-                Some(digit)
+                Some(number)
             }
             None => self.long_number(),
         }
@@ -150,13 +164,7 @@ impl<'a> Words<'a> {
         ensures said { result ≡ first_says number_at self.old }
         ensures rest { IsSome result → self.new ≡ others_of self.old }
     {
-        match behind_digits(self.left?) {
-            Some((number, others)) => {
-                self.left = Some(others);
-                Some(number)
-            }
-            None => number(self.next()?).ok(),
-        }
+        number(self.next()?).ok()
     }
 
     /// The direction that the next word says, which is then no longer left. None where it says none, or
