@@ -1,10 +1,11 @@
 -- The words that are left, in the forms that code has them: the first word ends at the first space, and without a space
 -- there is one word.
 use Rattle.std.proofs.Common.{◌≡◌, ◌≢◌, ℕ, zero, suc, ◌+◌, ◌-◌, ◌<◌, length, get_or, take, drop, arith, Bool, true, false, cond, eqb, List, [], ◌∷◌, None, refl, sym, ap, ◌∙◌, length-drop}
-use Rattle.std.specs.List.{onto_first, slice_split}
+use Rattle.std.specs.List.{join_with_byte, onto_first, slice_split}
 use Rattle.hp_model.specs.Lists.{is_empty}
 use Rattle.std.proofs.lemmas.Bool.{eq-eqb, ne_eqb}
 use Rattle.std.proofs.lemmas.List.{take_all}
+use Rattle.std.proofs.lemmas.List.Splits.{join_with_byte-slice_split}
 use Rattle.hp_replay.specs.Readers.{done}
 use Rattle.hp_replay.proofs.CodeForms.{is_space}
 
@@ -57,3 +58,7 @@ more_words (b ∷ bs) = by_test (eqb b 32)
     by_test : (t : Bool) → false ≡ is_empty (cond t ([] ∷ slice_split is_space bs) (onto_first b (slice_split is_space bs)))
     by_test true = refl
     by_test false = onto_more b (slice_split is_space bs)
+
+-- where a text is one word, the text is that word
+pub lone_word : (bs w : List ℕ) → slice_split is_space bs ≡ w ∷ [] → length bs ≡ length w
+lone_word bs w e = ap length (sym (join_with_byte-slice_split 32 bs) ∙ ap (λ (ws : List (List ℕ)). join_with_byte 32 ws) e)

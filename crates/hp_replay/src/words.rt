@@ -1,6 +1,6 @@
 //! The words of a line, one after another.
 
-ghost use Rattle.std.specs.Prelude.{◌≡◌, [], ◌∷◌, ℕ, List, false, IsTrue, IsSome, IfSome, Some, codes, option_map};
+ghost use Rattle.std.specs.Prelude.{◌≡◌, ◌↔◌, [], ◌∷◌, ℕ, List, false, IsTrue, IsSome, IfSome, Some, codes, option_map};
 ghost use Rattle.hp_model.specs.Lists.{is_empty};
 ghost use Rattle.hp_text.specs.Choices.{dir_of as dir_at};
 ghost use Rattle.hp_replay.specs.WordsLeft.{first_of, others_of, first_says, pieces};
@@ -211,7 +211,7 @@ impl<'a> Words<'a> {
 
     /// Whether `ok` is all that is left.
     pub fn are_ok(&self) -> bool
-        ensures { IsTrue result → self.now ≡ codes "ok" ∷ [] }
+        ensures { IsTrue result ↔ (self.now ≡ codes "ok" ∷ []) }
     {
         matches!(self.left, Some(b"ok"))
     }
