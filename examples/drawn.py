@@ -1,0 +1,354 @@
+"""What examples/compare draws: scripts, lawful journals, words of the command line, and changes of texts."""
+from rules import lawful_journals, what_comes_next
+from rules.journals_and_seats import Event, Head, Journal, in_flight, is_client, roles, seats_in
+from texts.the_script import operation, rule, subsystem
+
+STATES = [1, 10, 30, 40, 41, 42, 55, 61, 65, 70, 90, 99, 103, 110, 120, 140, 141, 142, 150, 160, 171, 172, 180, 198]
+ONLINE = [104, 105, 115, 130, 145, 155, 165, 170, 173, 175, 185, 190]
+EDGES = [0, 62, 63, 64, 100, 101, 102, 199, 200, 201, 65535]
+NUMBERS = ["0", "1", "2", "3", "7", "8", "9", "31", "32", "40", "41", "62", "63", "64", "65", "95", "96", "99", "100", "101", "128", "129",
+           "141", "198", "199", "200", "201", "255", "256", "257", "319", "320", "4095", "4096", "65535", "65536", "1000000", "1000001",
+           "1048576", "1048577", "2147483647", "2147483648", "4294967295", "4294967296", "18446744073709551615", "18446744073709551616",
+           "9" * 30, "-1", "-2", "-0", "-2147483648", "-2147483649", "00", "01", "007", "+1", "1e3", "*", "-", ""]
+VOCABULARY = """cpus absent sub rule schedule rounds turns mix actor up down both none single multi upmany target fail show state states
+    setup remove add del nocalls locked lock unlock boot disable enable thaw wakeup freeze # net:a admit client ap leave enter refused
+    walk call walked done reg regged armed shown ok fault injected empty presumed overruled stuck full end events cpuhp journal cpu
+    present keys disabled frozen made faults instances ops""".split()
+
+
+class Machine:
+    """What a drawn script is about: processors, subsystems, states and instances that its operations mostly name."""
+
+    def __init__(self, draw, cpus, subs, walks=False):
+        self.draw, self.cpus, self.subs = draw, cpus, subs
+        self.weights = WALKS if walks else WEIGHTS
+        edges = draw.sample(EDGES, 0 if walks else draw.choice([0, 0, 0, 1, 1, 2]))
+        self.states = draw.sample(STATES + ONLINE * walks, draw.randint(3 if walks else 1, 6)) + edges
+        self.multis = [number for number, sub in enumerate(subs, 1) if sub.split(" ")[-1] == "multi"]
+        self.few = draw.choice([2, 4, 9, 300])
+
+    def cpu(self):
+        beyond = self.draw.random() < 0.03
+        return self.draw.choice([self.cpus, self.cpus + 1, 255, 256, 4095]) if beyond else self.draw.randrange(self.cpus)
+
+    def state(self):
+        return self.draw.choice(self.states) if self.draw.random() < 0.95 else self.draw.choice(STATES + EDGES)
+
+    def inst(self):
+        return self.draw.choice([0, 65535]) if self.draw.random() < 0.03 else self.draw.randint(1, self.few)
+
+    def flags(self, reading):
+        locked = reading if self.draw.random() < 0.95 else not reading
+        return " nocalls" * (self.draw.random() < 0.15) + " locked" * locked
+
+    def some(self):
+        return sorted(self.draw.sample(range(self.cpus), self.draw.randint(1, min(self.cpus, 12))))
+
+    def operation(self, reading):
+        """One operation, and whether the actor reads after it."""
+        draw = self.draw
+        word = draw.choices(*zip(*self.weights.items()))[0]
+        if word in ("up", "down"):
+            return f"{word} {self.cpu()}"
+        if word == "target":
+            return f"target {self.cpu()} {draw.choice([self.state(), self.state(), 0, 200, 199, -1, 201])}"
+        if word == "fail":
+            return f"fail {self.cpu()} {draw.choice([self.state()] * 12 + [-1, -1, 201, -2147483648])}"
+        if word == "show":
+            return draw.choice([f"show {draw.choice(['state', 'target', 'fail'])} {self.cpu()}"] * 3 + ["show states"])
+        if word == "setup":
+            return f"setup {self.state()} {draw.randint(1, len(self.subs))}{self.flags(reading)}" if self.subs else "show states"
+        if word == "remove":
+            return f"remove {self.state()}{self.flags(reading)}"
+        if word in ("add", "del"):
+            return f"{word} {self.state()} {self.inst()}{self.flags(reading)}"
+        if word == "boot":
+            return f"boot {draw.choice([draw.randint(0, self.cpus), self.cpus, 4095])}"
+        if word == "freeze":
+            return f"freeze {draw.choice([-1, 0, self.cpu()])}"
+        if word == "upmany":
+            return "upmany " + " ".join(map(str, self.some() + [255] * (draw.random() < 0.03 and self.cpus < 255)))
+        return word
+
+    def actor(self, size, setups):
+        """The operations of an actor, which mostly ends unlocked."""
+        lines, reading = list(setups), False
+        for _ in range(size):
+            word = self.operation(reading)
+            if word == "lock" and self.draw.random() < 0.9:
+                word = "unlock" if reading else "lock"
+            reading = word == "lock" or reading and word != "unlock"
+            lines.append(word)
+        return lines + ["unlock"] * (reading and self.draw.random() < 0.99)
+
+    def first_setups(self):
+        """Setups of the first actor, some with instances, before or behind a boot."""
+        early = self.draw.random()
+        if early < 0.4:
+            yield f"boot {self.cpus}"
+        for state in self.states[:self.draw.choice([0, 1, 2, 3, 4, 6, 6])] if self.subs else []:
+            number = self.draw.randint(1, len(self.subs))
+            yield f"setup {state} {number}{self.draw.choice(['', '', ' nocalls'])}"
+            if number in self.multis:
+                yield from (f"add {state} {self.inst()}" for _ in range(self.draw.randint(0, 3)))
+        if early > 0.7:
+            yield f"boot {self.cpus}"
+
+
+WEIGHTS = {"up": 12, "down": 12, "target": 8, "fail": 7, "show": 5, "setup": 6, "remove": 4, "add": 6, "del": 3, "lock": 4, "boot": 3,
+           "disable": 1, "enable": 1, "freeze": 3, "thaw": 3, "wakeup": 1, "upmany": 4, "unlock": 0.3}
+WATCHES = {"show": 20, "fail": 3, "lock": 1, "wakeup": 1}
+WALKS = {"up": 20, "down": 25, "target": 12, "fail": 12, "boot": 3, "freeze": 5, "thaw": 5, "upmany": 8, "add": 5, "setup": 2, "show": 4}
+
+
+def draw_rule(draw, cpus):
+    cpu = draw.choice(["*", "*", "*", "0", "255"] + [str(draw.randrange(cpus)) for _ in range(7)])
+    inst = draw.choice(["*"] * 6 + ["0", "1", "2", "65535"])
+    nth = draw.choice(["*"] * 4 + ["1", "1", "2", "2", "3", "4", str(draw.randint(1, 12)), "1048576"])
+    return f"rule {draw.choice(['up', 'down'])} {cpu} {inst} {nth} {draw.choice([1, 5, 11, draw.randint(1, 4095)])}"
+
+
+def draw_subs(draw, count):
+    for number in range(1, count + 1):
+        name = draw.choice([f"net:{number}"] * 8 + ["a", "-", "x" * 32, "A/b_c.d-9", "--"])
+        yield f"sub {name} {draw.choice(['both'] * 5 + ['up', 'down', 'none'])} {draw.choice(['single', 'single', 'multi'])}"
+
+
+def draw_schedule(draw, seats):
+    kind = draw.randrange(5)
+    if kind == 0:
+        return ["schedule rounds"]
+    if kind == 1:
+        return ["schedule turns " + " ".join(str(draw.choice([draw.randrange(seats)] * 20 + [319, seats % 320])) for _ in range(draw.randint(1, 150)))]
+    return [f"schedule mix {draw.choice([draw.randrange(100), 2 ** 64 - 1, draw.getrandbits(64)])} {draw.choice([0, 50, 200, 500, 1000])}"] if kind < 4 else []
+
+
+def draw_sizes(draw):
+    """How many processors, subsystems, actors, and operations of each."""
+    kind = draw.random()
+    if kind < 0.9:
+        return draw.randint(1, 6), draw.randint(0, 6), draw.choice([1, 1, 2, 2, 3, 4]), draw.choice([3, 6, 10, 15])
+    if kind < 0.95:
+        return draw.randint(7, 40), draw.randint(1, 12), draw.randint(1, 6), draw.choice([5, 20])
+    if kind < 0.97:
+        return draw.choice([63, 64, 65, 100, 255, 256]), draw.randint(0, 4), draw.randint(1, 3), 3
+    if kind < 0.99:
+        return draw.randint(1, 4), draw.choice([3, 127, 128, 129]), draw.choice([20, 31, 32, 33]), 3
+    return draw.randint(1, 4), 4, 1, 300
+
+
+def draw_script(draw):
+    """A script of the whole language, which is refused now and then."""
+    if draw.random() < 0.004:
+        return draw.choice([full_of_instances, full_of_slots, full_of_setups, full_of_operations])(draw)
+    cpus, subs, actors, size = draw_sizes(draw)
+    walks = draw.random() < 0.5
+    if walks:  # mostly walks that fault, or get stuck
+        cpus, subs, actors, size = draw.randint(2, 4), draw.randint(2, 6), draw.choice([1, 1, 2, 3]), draw.choice([6, 10, 15])
+    lines = [f"cpus {cpus}"]
+    absent = sorted(draw.sample(range(1, cpus), draw.choice([0, 0, 0, min(1, cpus - 1), (cpus - 1) // 2])))
+    lines += ["absent " + " ".join(map(str, absent))] * bool(absent)
+    named = list(draw_subs(draw, subs))
+    rules = [1, 1, 2, 3] if walks else draw.choice([[0], [0, 0, 0, 1], [0, 1, 1, 2, 3], [0, 1, 2, 3, 8], [2, 3]] * 9 + [[0, 8, 9]])
+    for sub in named:
+        lines.append(sub)
+        lines += [draw_rule(draw, cpus) for _ in range(draw.choice(rules))]
+    watches = walks and draw.random() < 0.4
+    lines += draw_schedule(draw, cpus - len(absent) + actors + watches)
+    machine = Machine(draw, cpus, named, walks)
+    for actor in range(actors):
+        lines.append(f"actor {draw.choice('abc')}{actor}")
+        lines += machine.actor(draw.randint(0, size), machine.first_setups() if actor == 0 else [])
+    if watches:
+        machine.weights = WATCHES
+        lines += ["actor watch", *machine.actor(draw.choice([10, 30]), [])]
+    if draw.random() < 0.1:
+        lines = dressed(draw, lines)
+    return "\n".join(lines) + "\n" * (draw.random() < 0.98)
+
+
+def dressed(draw, lines):
+    """The same with comments, empty lines, and more spaces."""
+    for line in lines:
+        yield from draw.choice([[], [], [], [], ["# net"], [""], ["  "], ["#"], ["   #x y"]])
+        yield draw.choice([line, line, line.replace(" ", "  "), f" {line} "])
+
+
+def full_of_instances(draw):
+    """A state with 256 instances, or with one more; or 4,096 in all and one more."""
+    states = [103 + at for at in range(draw.choice([1, 1, 1, 17]))]
+    adds = [f"add {state} {inst}" for state in states for inst in range(1, (258 if len(states) == 1 else 242))]
+    lines = ["cpus 2", "sub net:q both multi", "actor a", *(f"setup {state} 1" for state in states), *adds[:4000]]
+    return "\n".join(lines + ["actor b", *adds[4000:], "up 1", "down 1"]) + "\n"
+
+
+def full_of_slots(draw):
+    """More dynamic setups than a range has slots, with removes between."""
+    first, slots = draw.choice([(41, 21), (141, 31)])
+    lines = [f"setup {first} 1"] * (slots + 1) + [f"remove {first + draw.randrange(slots)}" for _ in range(3)] + [f"setup {first} 1"] * 3
+    return "\n".join(["cpus 2", "sub net:a both single", "actor a", f"setup {first + draw.randrange(slots)} 1", *lines, "up 1"]) + "\n"
+
+
+def full_of_setups(draw):
+    lines = [f"setup {state} {draw.randint(1, 128)}" for state in draw.sample(range(1, 199), draw.choice([127, 128, 129]))]
+    return "\n".join(["cpus 3", *(f"sub s{at} both single" for at in range(1, 129)), "actor a", *lines, "up 1", "down 1", "boot 3"]) + "\n"
+
+
+def full_of_operations(draw):
+    lines = ["up 1", "down 1"] * 2047 + ["show state 1"] * draw.choice([1, 2, 3])
+    return "\n".join(["cpus 2", "sub net:a both single", "actor a", "setup 120 1", *lines]) + "\n"
+
+
+def draw_small_script(draw):
+    """A script with few interleavings."""
+    cpus = draw.randint(1, 3)
+    subs = list(draw_subs(draw, draw.randint(1, 2)))
+    lines = [f"cpus {cpus}"]
+    for sub in subs:
+        lines += [sub] + [draw_rule(draw, cpus)] * draw.choice([0, 0, 1])
+    machine = Machine(draw, cpus, subs)
+    for actor in range(draw.randint(1, 3)):
+        setups = list(machine.first_setups())[:2] if actor == 0 else []
+        lines += [f"actor a{actor}", *machine.actor(draw.randint(1, 4), setups)]
+    lines += ["unlock"] * (sum(line in ("lock", "unlock") for line in lines) > 0 and [line for line in lines if line in ("lock", "unlock")][-1] == "lock")
+    return "\n".join(lines) + "\n"
+
+
+def draw_journal(draw):
+    """A lawful journal, mostly of operations in flight, in which seats come in and leave as they like."""
+    cpus, subs, actors, size = draw_sizes(draw)
+    cpus = cpus if cpus < 60 or draw.random() < 0.1 else 5
+    absent = tuple(sorted(draw.sample(range(1, cpus), draw.choice([0, 0, min(1, cpus - 1)]))))
+    named = list(draw_subs(draw, min(subs, 12)))
+    heads = [subsystem(sub.split(" ")[1:]) for sub in named]
+    heads = [sub._replace(rules=tuple(rule(draw_rule(draw, cpus).split(" ")[1:]) for _ in range(draw.choice([0, 0, 1, 2])))) for sub in heads]
+    journal, machine = Journal(Head(cpus, absent, tuple(heads))), Machine(draw, cpus, named)
+    for cpu in journal.present[:draw.choice([cpus, cpus, cpus // 2])]:
+        journal = journal.then(Event("admit", journal.length, role=cpu))
+    for _ in range(draw.choice([20, 60, 60, 150])):
+        event = draw_event(draw, journal, machine)
+        if event and lawful_journals.stands(journal, event):
+            journal = journal.then(event)
+    return journal
+
+
+def draw_full_journal(draw):
+    """A lawful journal that gets full by the limit that the model has, and events that could stand next if it had room."""
+    head = Head(3, (), tuple(subsystem(sub.split(" ")[1:]) for sub in draw_subs(draw, 3)))
+    journal, machine = Journal(head), Machine(draw, 3, list(draw_subs(draw, 3)), walks=True)
+    for role in (0, 1, 2, None, None):
+        journal = journal.then(Event("admit", journal.length, role=role))
+    left_out = {}
+    for _ in range(600):
+        event = draw_event(draw, journal, machine)
+        if event and lawful_journals.stands(journal, event):
+            journal, left_out = journal.then(event), {}
+        elif event and all(holds for words, holds in lawful_journals.conditions(journal, event) if words != "it has room"):
+            left_out[event] = True
+    return journal, list(left_out)
+
+
+def draw_tail(draw):
+    """Operations for where a journal gets full."""
+    some = ["setup 150 3", "setup 160 2", "add 160 1", "add 160 2", "remove 150", "up 3", "down 3", "down 4", "up 4", "lock", "unlock", "freeze 0", "thaw",
+            "upmany 3 4", "boot 256", "fail 3 104", "fail 3 -1", "show state 3", "wakeup", "disable", "enable", "target 3 104", "target 3 200"]
+    return draw.choices(some, k=draw.randint(10, 40)) + ["show states"] * draw.randint(0, 40) + ["up 3", "lock", "wakeup", "unlock"]
+
+
+def draw_event(draw, journal, machine):
+    """An event that may come next: an entry of a thread, what comes next of a client, an admission, a leave."""
+    kind, seats = draw.random(), sorted(seats_in(journal))
+    if kind < 0.06 or not seats:
+        return Event("admit", len(roles(journal)), role=draw.choice([None, None, draw.randrange(machine.cpus)]))
+    if kind < 0.09:
+        return Event("leave", draw.choice(seats))
+    if kind < 0.4 and what_comes_next.due_entries(journal):
+        return draw.choice(list(what_comes_next.due_entries(journal).values()))
+    clients = [seat for seat in seats if is_client(journal, seat)]
+    if not clients:
+        return Event("admit", len(roles(journal)))
+    seat = draw.choice(clients)
+    op = in_flight(journal).get(seat) or operation(machine.operation(draw.random() < 0.3).split(" "))
+    found, *more = what_comes_next.turn(journal, seat, op)
+    return more[0] if found == "event" else None
+
+
+def alter_text(draw, text):
+    """A text with some lines, words or bytes changed."""
+    for _ in range(draw.choice([1, 1, 1, 2, 3])):
+        text = draw.choice([alter_lines, alter_words, alter_words, alter_numbers, alter_bytes])(draw, text)
+    return text
+
+
+def alter_lines(draw, text):
+    lines = text.split("\n")
+    at, to = draw.randrange(len(lines)), draw.randrange(len(lines))
+    kind = draw.randrange(6)
+    if kind == 0:
+        del lines[at]
+    elif kind == 1:
+        lines.insert(to, lines[at])
+    elif kind == 2:
+        lines[at], lines[to] = lines[to], lines[at]
+    elif kind == 3:
+        lines.insert(to, lines.pop(at))
+    elif kind == 4:
+        del lines[at:at + draw.randint(1, 5)]
+    else:
+        lines = lines[:at]
+    return "\n".join(lines)
+
+
+def alter_words(draw, text):
+    lines = text.split("\n")
+    at = draw.randrange(len(lines))
+    words = lines[at].split(" ")
+    place = draw.randrange(len(words))
+    kind = draw.randrange(5)
+    if kind == 0:
+        del words[place]
+    elif kind == 1:
+        words.insert(place, draw.choice(VOCABULARY + NUMBERS))
+    elif kind == 2:
+        words[place] = draw.choice(VOCABULARY)
+    elif kind == 3:
+        words[place] = draw.choice(NUMBERS)
+    else:
+        words.insert(place, words[draw.randrange(len(words))])
+    lines[at] = " ".join(words)
+    return "\n".join(lines)
+
+
+def alter_numbers(draw, text):
+    """One number of a line becomes another, mostly a near one."""
+    lines = text.split("\n")
+    places = [(at, place) for at, line in enumerate(lines) for place, word in enumerate(line.split(" ")) if word.isdigit()]
+    if not places:
+        return text
+    at, place = draw.choice(places)
+    words = lines[at].split(" ")
+    near = int(words[place]) + draw.choice([-1, 1, 1, 2])
+    words[place] = draw.choice([str(near), str(near), str(draw.randrange(6)), draw.choice(NUMBERS)])
+    lines[at] = " ".join(words)
+    return "\n".join(lines)
+
+
+def alter_bytes(draw, text):
+    at = draw.randint(0, len(text))
+    byte = draw.choice([chr(draw.randrange(256)), chr(draw.randrange(32, 127)), " ", "\n", "\r", "\t", "\0", "0", "-"])
+    return draw.choice([text[:at] + byte + text[at + 1:], text[:at] + byte + text[at:], text[:at] + text[at + 1:], text[:at]])
+
+
+def draw_words(draw):
+    """Words of the command line, mostly near those of a command."""
+    number = lambda high: draw.choice([str(draw.randint(0, high)), str(draw.randint(0, high)), *draw.sample(NUMBERS, 1)])
+    options = [["--size", str(draw.randint(1, 4))], [f"--size={draw.randint(1, 4)}"], ["--seed", number(9)], [f"--seed={number(9)}"],
+               ["--size", draw.choice(["0", "1001", "01", ""])], ["--seed"], ["--"], ["--help"], ["-s", "1"], ["--see=1"], [""]]
+    words = draw.choice([["play"], ["states"], ["report"], ["replay"], ["migrate"], ["gen"], ["gen"], ["bench", "--size=2"], ["bench", "--size", "1"],
+                         ["count", number(199), number(1000001)], ["smt", number(9), draw.choice(["off", "forceoff", "on", "", "Off"])],
+                         ["count"], ["smt", "2"], ["--help"], ["help"], [""], [], ["play", "play"], ["\xff"], ["play\0x"[:4] + "\xc3"]])
+    if words[:1] in (["gen"], ["bench"]):
+        words = words + sum(draw.sample(options, draw.choice([0, 1, 1, 2])), [])
+    if draw.random() < 0.2:
+        words.insert(draw.randint(0, len(words)), draw.choice(["--", "", "1", "--seed", "off", "\xff\xfe", "é"]))
+    return words
