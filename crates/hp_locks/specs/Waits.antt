@@ -1,7 +1,7 @@
 -- What keeps a seat from a lock: the first of the waits in their order, if there is one. The write side waits for readers
 -- and then for a registration, a registration for the writer and then for another registration. After `cpus_read_lock` and
--- `cpus_write_lock` of `kernel/cpu.c`; that a registration and a walk keep each other out, and the order, are this
--- project's own.
+-- `cpus_write_lock` of `kernel/cpu.c`, where a registration reads, and so keeps a walk out; the order is this project's
+-- own, and so it is that a walk which waits keeps no reader and no registration out: there it does.
 use Rattle.std.specs.Prelude.{ℕ, zero, suc, Option, Some, None, option_map}
 use Rattle.hp_locks.specs.declared.why.Why.{Why}
 use Rattle.hp_locks.specs.declared.why.Why.TheVariants.{MapsHeld, WriterIn, ReadersIn, RegIn}

@@ -144,7 +144,8 @@ impl Locks {
     /// - `WriterIn` with its holder, where the write side is held;
     /// - `RegIn` with its seat, where a registration is in flight, by whatever seat.
     ///
-    /// Takes no memory. After `cpus_read_lock` and `cpuhp_state_mutex` of `kernel/cpu.c`.
+    /// Takes no memory. After `cpus_read_lock` and `cpuhp_state_mutex` of `kernel/cpu.c`; there it
+    /// waits behind a walk that waits too.
     pub fn begin_reg(&mut self, seat: u32) -> Result<(), Why>
         requires { seat < length self.old.reading }
         ensures ok { OnOk result (TakesRegistration seat self.old self.new) }
@@ -170,7 +171,8 @@ impl Locks {
     /// Lets a seat read, which doesn't yet.
     ///
     /// `WriterIn` with its holder exactly where the write side is held; then nothing has changed. A
-    /// registration keeps no reader out. Takes no memory. After `cpus_read_lock` of `kernel/cpu.c`.
+    /// registration keeps no reader out. Takes no memory. After `cpus_read_lock` of `kernel/cpu.c`;
+    /// there a reader waits behind a walk that waits too.
     #[tactic(auto, using(crate::proofs::Readers::one_more))]
     pub fn read_lock(&mut self, seat: u32) -> Result<(), Why>
         requires seat { seat < length self.old.reading }

@@ -19,7 +19,8 @@ impl<H: Hook> Machine<H> {
     ///
     /// For `states` no registration is in flight. Takes no memory, and for `states` time for the states. After
     /// `state_show`, `target_show`, `fail_show` and `states_show` of `kernel/cpu.c`; what `state` and `target` show
-    /// in flight, and the number for `states`, are this project's own.
+    /// in flight, `target` after a stuck walk and before the boot processor's first, and the number for `states`,
+    /// are this project's own.
     pub(crate) fn file_value(&self, file: File, cpu: u32) -> i32
         requires { CanShow self.now.head self.now.events file cpu }
         ensures { result ≡ file_value self.now.head self.now.events file cpu }
@@ -49,8 +50,8 @@ impl<H: Hook> Machine<H> {
     }
 
     /// The state that a possible processor's `target` file shows: that where it stands, and in a walk that
-    /// to which it goes. Takes no memory. After `target_show` of `kernel/cpu.c`; what it shows in flight is
-    /// this project's own.
+    /// to which it goes. Takes no memory. After `target_show` of `kernel/cpu.c`; what it shows in flight, after
+    /// a stuck walk, and of the boot processor before its first walk, which is 0 there, is this project's own.
     fn shown_target(&self, cpu: u32) -> u32
         requires { cpu < self.now.head.possible }
         ensures { result ≡ shown_target cpu self.now.events }

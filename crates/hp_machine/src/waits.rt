@@ -17,8 +17,8 @@ impl<H: Hook> Machine<H> {
     /// also keeps out the arming of a fault and the `states` file; a read section waits for the
     /// writer, and a registration for the writer and then for another one. Everything else begins at
     /// once. There is no condition. Takes no memory, and a time that doesn't grow with the journal.
-    /// After `cpu_add_remove_lock` and `cpu_hotplug_lock` of `kernel/cpu.c`; that a registration keeps
-    /// out a target, an arming and the `states` file is this project's own.
+    /// After `cpu_add_remove_lock`, `cpu_hotplug_lock` and `cpuhp_state_mutex` of `kernel/cpu.c`; that
+    /// nobody waits behind a walk that waits, as readers and registrations do there, is this project's own.
     #[tactic(auto, using(crate::proofs::LockWaits::read_said, crate::proofs::LockWaits::register_said))]
     pub(crate) fn wait_to_begin(&self, op: &Op) -> Option<Why>
         ensures { result ≡ option_map why_of (wait_to_begin self.now.events op.now) }
@@ -40,8 +40,8 @@ impl<H: Hook> Machine<H> {
     /// What a walk waits for before it begins, if anything keeps it: readers, and then a registration. The
     /// later walks of an upmany wait for nothing.
     ///
-    /// There is no condition. Takes no memory. After `cpus_write_lock` of `kernel/cpu.c`; that a
-    /// registration keeps it out is this project's own.
+    /// There is no condition. Takes no memory. After `cpus_write_lock` of `kernel/cpu.c`, for which a
+    /// registration is a reader; the order is this project's own.
     pub(crate) fn wait_to_walk(&self) -> Option<Why>
         ensures { result ≡ option_map why_of (wait_to_walk self.now.events) }
     {

@@ -1,5 +1,6 @@
 -- The state at which a processor is armed: there its next crossing fails once. After `fail_store`
--- and `st->fail` of `kernel/cpu.c`.
+-- and `st->fail` of `kernel/cpu.c`; that walks alone take it, and only at a state with a key, is this project's own:
+-- there registrations take it too, and states without instances.
 use Rattle.std.specs.Prelude.{ℕ, ℤ, pos, negsuc, Bool, false, ◌==◌, if◌then◌else◌, Option, Some, None, List}
 use Rattle.hp_event.specs.declared.how.How.{How}
 use Rattle.hp_event.specs.declared.how.How.TheVariants.{RanOk, RanFault, Injected, Empty, Presumed, Overruled}

@@ -1,5 +1,7 @@
 -- Who makes an entry: at an AP state the processor's own thread, else the seat whose operation it is. After
--- `cpuhp_invoke_ap_callback` of `kernel/cpu.c`.
+-- `cpuhp_kick_ap` and `cpuhp_invoke_ap_callback` of `kernel/cpu.c`; that a walk's in STARTING are the thread's, and those
+-- of a down in PREPARE the caller's, is this project's own: there the first run outside of the thread, on the processor,
+-- and the second in a worker.
 use Rattle.std.specs.Prelude.{ℕ, Bool, true, false, not, ◌&&◌, if◌then◌else◌, Option, Some, List}
 use Rattle.hp_states.specs.Sections.{is_ap_state}
 use Rattle.hp_event.specs.declared.how.How.{How}

@@ -1,5 +1,6 @@
 -- Crossings of a state: done, or failed at one of its keys. After `cpuhp_invoke_callback` of `kernel/cpu.c`;
--- that the instances of a state go in list order both ways is this project's own.
+-- the instances of a state go in list order both ways there too. That a fault in STARTING leaves the crossing as it is,
+-- and that a part is undone whatever that answers, is this project's own.
 use Rattle.std.specs.Prelude.{◌≡◌, ℕ, Bool, false, true, not, List, [], ◌∷◌, ◌++◌}
 use Rattle.std.specs.List.{AllZip}
 use Rattle.hp_states.specs.declared.dir.Dir.{Dir}

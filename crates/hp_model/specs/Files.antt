@@ -1,6 +1,7 @@
 -- What an event says that shows a file: of `state`, `target` and `fail` the number that the file has for a processor, and
 -- of `states` how many lines it has. After `state_show`, `target_show`, `fail_show` and `states_show` of `kernel/cpu.c`;
--- what `state` and `target` show in flight, and the number for `states`, are this project's own.
+-- what `state` and `target` show in flight, `target` after a stuck walk and before the boot processor's first, and the
+-- number for `states`, are this project's own.
 use Rattle.std.specs.Prelude.{ℕ, ◌+◌, ℤ, pos, negsuc, ◌≡◌, Option, Some, None, List, count_by}
 use Rattle.hp_states.specs.declared.limits.TheConstants.{ONLINE}
 use Rattle.hp_event.specs.declared.event.File.{File}

@@ -1,5 +1,6 @@
 -- How an entry is made: called, or not and why. After `cpuhp_invoke_callback` of `kernel/cpu.c`, which
--- skips an absent callback and takes an armed fault; which faults are overruled is this project's own.
+-- takes an armed fault; which faults are overruled, that walks alone take one, and that an absent callback, which
+-- `cpuhp_next_state` skips, has an entry, is this project's own.
 use Rattle.std.specs.Prelude.{ℕ, Bool, false, ◌&&◌, ◌||◌, if◌then◌else◌, List}
 use Rattle.hp_states.specs.declared.dir.Dir.{Dir}
 use Rattle.hp_states.specs.declared.place.Place.{Place}

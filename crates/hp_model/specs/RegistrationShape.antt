@@ -1,5 +1,6 @@
 -- Registrations: whole, or turned back at a fault. After `__cpuhp_setup_state_cpuslocked` of
--- `kernel/cpu.c`; that a removal never fails is this project's own.
+-- `kernel/cpu.c`; that a removal, and an adding in STARTING, never fails is this project's own: there the first is a
+-- BUG_ON in `cpuhp_issue_call`, and the second turns back.
 use Rattle.std.specs.Prelude.{◌≡◌, ℕ, Bool, true, false, if◌then◌else◌, pos, Option, Some, None, List, [], ◌∷◌, ◌++◌}
 use Rattle.hp_states.specs.declared.dir.Dir.{Dir}
 use Rattle.hp_states.specs.declared.dir.Dir.TheVariants.{Up, Down}

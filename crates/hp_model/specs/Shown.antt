@@ -1,6 +1,7 @@
 -- The state that the `state` file shows: at rest the settled state, during a walk that of the last done crossing, less 1
 -- if it went down. And where a walk is going, which the `target` file shows. After `state_show` and
--- `target_show` of `kernel/cpu.c`; what they show in flight is this project's own.
+-- `target_show` of `kernel/cpu.c`; what they show in flight, and `target` after a stuck walk and before the boot
+-- processor's first, is this project's own.
 use Rattle.std.specs.Prelude.{ℕ, Bool, false, ◌&&◌, ◌==◌, if◌then◌else◌, Option, Some, None, List, [], ◌∷◌, fold}
 use Rattle.hp_event.specs.declared.head.Head.{Head}
 use Rattle.hp_event.specs.declared.event.Event.{Event}

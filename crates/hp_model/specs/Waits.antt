@@ -1,6 +1,6 @@
--- What an operation waits for before it begins, and before a walk of it begins. After `cpu_add_remove_lock` and
--- `cpu_hotplug_lock` of `kernel/cpu.c`; that a registration keeps out a target, a fault's arming and the `states`
--- file is this project's own.
+-- What an operation waits for before it begins, and before a walk of it begins. After `cpu_add_remove_lock`,
+-- `cpu_hotplug_lock` and `cpuhp_state_mutex` of `kernel/cpu.c`; the order, and that nobody waits behind a walk that
+-- waits, as readers and registrations do there, is this project's own.
 use Rattle.std.specs.Prelude.{zero, suc, ℕ, ℤ, pos, negsuc, Bool, true, false, not, ◌&&◌, if◌then◌else◌, is_some, Option, Some, None, List, [], ◌∷◌, length}
 use Rattle.hp_event.specs.declared.op.Op.{Op}
 use Rattle.hp_event.specs.declared.op.Op.TheVariants.{Up, Down, Target, Arm, ShowStates, Setup, Remove, Add, Del, Lock, Boot, Disable, Enable, Freeze, Thaw, UpMany}

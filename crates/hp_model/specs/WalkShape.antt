@@ -1,6 +1,7 @@
 -- Walks: whole, turned back at a fault, or stuck at a second fault on the way back. The order and the
 -- way back are those of `core-api/cpu_hotplug.rst`; what a fault on the way back does is this
--- project's own.
+-- project's own: `kernel/cpu.c` stops at it too, but for a bring-up from `cpu:bringup` or below,
+-- whose rollback `cpuhp_up_callbacks` goes on with, past the state that faulted.
 use Rattle.std.specs.Prelude.{◌≡◌, ℕ, pos, List, [], ◌∷◌, ◌++◌, reverse}
 use Rattle.hp_states.specs.declared.dir.Dir.{Dir}
 use Rattle.hp_states.specs.declared.place.Place.{Place}

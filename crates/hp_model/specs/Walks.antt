@@ -1,5 +1,6 @@
 -- Walks in flight, one for each processor at most, and their entries. After `cpuhp_up_callbacks` and
--- `cpuhp_down_callbacks` of `kernel/cpu.c`, between `cpus_write_lock` and `cpus_write_unlock`.
+-- `cpuhp_down_callbacks` of `kernel/cpu.c`, between `cpus_write_lock` and `cpus_write_unlock`; what a second fault does
+-- is this project's own.
 use Rattle.std.specs.Prelude.{◌≡◌, ℕ, Bool, true, false, not, ◌==◌, if◌then◌else◌, is_some, Option, Some, None, List, [], ◌∷◌, ◌++◌}
 use Rattle.hp_event.specs.declared.event.Event.{Event}
 use Rattle.hp_event.specs.declared.event.Event.TheVariants.{WalkBegin, Call, WalkEnd}

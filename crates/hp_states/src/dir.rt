@@ -56,7 +56,7 @@ impl Dir {
     /// the state itself, downwards the one below.
     ///
     /// `state` may be any number; after 0 downwards stands 0. Takes no memory. After
-    /// `cpuhp_next_state` of `kernel/cpu.c`, which steps `st->state` by one.
+    /// `cpuhp_next_state` of `kernel/cpu.c`, which steps `st->state` by one, ahead of the callback.
     pub fn state_after(self, state: u32) -> u32
         ensures { result ≡ after self state }
     {

@@ -21,7 +21,8 @@ use hp_table::Table;
 /// A walk of a processor from a state to another: where it stands.
 ///
 /// It is a few numbers, and takes no memory. After `struct cpuhp_cpu_state`,
-/// `cpuhp_invoke_callback_range` and `cpuhp_reset_state` of `kernel/cpu.c`.
+/// `cpuhp_invoke_callback_range` and `cpuhp_reset_state` of `kernel/cpu.c`; that a fault on the way
+/// back always ends the walk is this project's own: there `cpuhp_up_callbacks` may go on past it.
 #[derive(Clone, Copy)]
 pub struct Walk {
     cpu: u32,
@@ -118,7 +119,7 @@ impl Walk {
     /// `next` asks for an entry, and `how` fits its place: the entry is done, or it is a fault
     /// where one may come. The keys of the table are those at `begin`. Takes no memory, and time
     /// for the states up to the next with a key. After `cpuhp_invoke_callback_range` of
-    /// `kernel/cpu.c`.
+    /// `kernel/cpu.c`, which steps `st->state` before the callback and not behind it.
     pub fn took<H: Hook>(&mut self, table: &Table<H>, how: How)
         requires within { IsWithin (keys_by table.now) self.old }
         requires asked { FitsStep (asked (keys_by table.now) self.old) how }
