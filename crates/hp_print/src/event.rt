@@ -1,9 +1,10 @@
 //! The line of an event.
 
-ghost use Rattle.std.specs.Prelude.{◌≡◌, ◌++◌, ◌∷◌, [], OnOk, IfOk, true, decimal};
+ghost use Rattle.std.specs.Prelude.{◌≡◌, ◌<◌, ◌++◌, ◌∷◌, [], OnOk, IfOk, true, decimal};
 ghost use Rattle.hp_event.specs.declared.answer.Answer.TheVariants as answer;
 ghost use Rattle.hp_event.specs.declared.event.Event.TheVariants as event;
-ghost use Rattle.hp_model.specs.Words.{spaced, joined, dir_word};
+ghost use Rattle.hp_event.specs.declared.how.How.TheVariants as how;
+ghost use Rattle.hp_model.specs.Words.{spaced, joined};
 ghost use Rattle.hp_model.specs.HasLine.{lists_one as lists_one_of, has_line as has_line_of};
 ghost use Rattle.hp_model.specs.EventLine.{how_words, answer_words, walk_answer_words, role_words, file_words, event_line as line_of};
 ghost use Rattle.hp_event.specs.declared.version.Version.TheVariants.{Two};
@@ -11,7 +12,10 @@ ghost use Rattle.hp_print.specs.Appends.{Appends, AppendsWords};
 
 use hp_event::{Answer, Event, File, How, Key, Op, Role};
 use hp_states::{Dir, NoMemory};
-use hp_text::{append, append_dir, append_number, append_of, append_op, append_signed, end_line};
+use hp_text::{
+    FEW, FEW_DIGITS, append, append_dir, append_number, append_of, append_op, append_signed,
+    end_line, push, push_number, put_back, take_out,
+};
 use std::alloc::{AllocError, Global};
 
 /// Appends how an entry was made.
@@ -158,6 +162,39 @@ fn append_walk(out: &mut Vec<u8>, seat: u32, cpu: u32, from: u32, to: u32) -> Re
     append_number(out, to)
 }
 
+/// The most bytes of the words of an entry with short numbers that ran and was ok: `call`, four numbers behind spaces, and
+/// ` down ok`.
+const SHORT_CALL: usize = 4 + 4 * (1 + FEW_DIGITS) + 8;
+
+/// Appends the words of an entry of a key that ran and was ok, whose numbers are short: most are, and go in one piece.
+fn append_call_ok(
+    out: &mut Vec<u8>,
+    seat: u32,
+    cpu: u32,
+    key: Key,
+    dir: Dir,
+) -> Result<(), AllocError>
+    requires seat { seat < FEW }
+    requires cpu { cpu < FEW }
+    requires state { key.state < FEW }
+    requires inst { key.inst < FEW }
+    ensures { OnOk result (AppendsWords out.old out.new 0 (event.Call seat cpu key.state key.inst dir how.RanOk)) }
+{
+    out.reserve(SHORT_CALL)?;
+    let mut text = take_out(out);
+    push(&mut text, b"call");
+    push_number(&mut text, seat);
+    push_number(&mut text, cpu);
+    push_number(&mut text, key.state);
+    push_number(&mut text, key.inst);
+    match dir {
+        Dir::Up => push(&mut text, b" up ok"),
+        Dir::Down => push(&mut text, b" down ok"),
+    }
+    put_back(out, text);
+    Ok(())
+}
+
 /// Appends the words of an entry of a key.
 fn append_call(
     out: &mut Vec<u8>,
@@ -169,26 +206,17 @@ fn append_call(
 ) -> Result<(), AllocError>
     ensures { OnOk result (AppendsWords out.old out.new 0 (event.Call seat cpu key.state key.inst dir how)) }
 {
+    if let How::RanOk = how {
+        if seat < FEW && cpu < FEW && key.state < FEW && key.inst < FEW {
+            return append_call_ok(out, seat, cpu, key, dir);
+        }
+    }
     append_of(out, b"call", seat)?;
     append_number(out, cpu)?;
     append_number(out, key.state)?;
     append_number(out, key.inst)?;
-    append_made(out, dir, how)
-}
-
-/// Appends the direction of an entry, and how it was made. Most ran and were ok, and those go in
-/// one piece.
-fn append_made(out: &mut Vec<u8>, dir: Dir, how: How) -> Result<(), AllocError>
-    ensures { OnOk result (Appends out.old out.new (32 ∷ dir_word dir ++ spaced (how_words how))) }
-{
-    match (dir, how) {
-        (Dir::Up, How::RanOk) => append(out, b" up ok"),
-        (Dir::Down, How::RanOk) => append(out, b" down ok"),
-        _ => {
-            append_dir(out, dir)?;
-            append_how(out, how)
-        }
-    }
+    append_dir(out, dir)?;
+    append_how(out, how)
 }
 
 /// Appends the words of a walk that ends.

@@ -7,7 +7,7 @@ pub mod ListLoop
 pub mod OpLaws
 pub mod SubLaws
 pub mod ListLaws
-pub mod SmallDecimals
+pub mod Pairs
 pub mod SpacedWords
 pub mod SetText
 mod OpCases

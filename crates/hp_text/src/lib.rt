@@ -19,6 +19,7 @@ mod flags;
 mod lists;
 mod numbers;
 mod op;
+mod pieces;
 mod set;
 mod spell;
 mod spell_op;
@@ -34,6 +35,9 @@ pub use fits::{integer_fits, number_fits, op_fits};
 pub use lists::{number_list, number_list_or_dash, rise_from};
 pub use numbers::{integer, long_number, number, number_from};
 pub use op::{read_op, read_op_behind};
+pub use pieces::{
+    FEW, FEW_DIGITS, push, push_few, push_first, push_number, push_pair, put_back, take_out,
+};
 pub use spell::{
     append, append_behind_dot, append_count, append_dir, append_name, append_number,
     append_numbers, append_of, append_signed, end_line,

@@ -5,83 +5,32 @@ ghost use Rattle.std.specs.Fmt.{signed_decimal};
 ghost use Rattle.hp_model.specs.Words.{spaced, dir_word, name_word, any_word, list_words};
 ghost use Rattle.hp_text.specs.Appends.{Appends};
 
+use crate::pieces::{FEW, FEW_DIGITS, push, push_number, put_back, take_out};
 use hp_states::Dir;
 use itoa::Buffer;
 use std::alloc::AllocError;
 
-/// The byte of a digit.
-fn digit(value: u32) -> u8
-    requires { value < 10 }
-    ensures { result ≡ 48 + value }
-{
-    b'0' + value as u8
-}
-
-/// Appends some bytes as they are, one by one: the words of a line are short, and known where they
-/// are written, so that this takes less than to copy them as a slice.
+/// Appends some bytes as they are, in one piece.
 ///
-/// Takes memory; where it is wanting, the buffer may have a part of that. This project's own.
+/// Takes memory; where it is wanting, the buffer stays as it was. This project's own.
 #[inline(always)]
 pub fn append(out: &mut Vec<u8>, bytes: &[u8]) -> Result<(), AllocError>
     ensures { OnOk result (Appends out.old out.new bytes.now) }
 {
     out.reserve(bytes.len())?;
-    for byte in bytes {
-        out.push_reserved(*byte);
-    }
+    let mut text = take_out(out);
+    push(&mut text, bytes);
+    put_back(out, text);
     Ok(())
 }
 
-/// Appends a number of one digit, behind a space.
-#[tactic(auto, using(std::proofs::lemmas::Fmt::decimal_digit))]
-fn append_one_digit(out: &mut Vec<u8>, number: u32) -> Result<(), AllocError>
-    requires { number < 10 }
-    ensures { OnOk result (Appends out.old out.new (32 ∷ decimal number)) }
-{
-    append(out, &[b' ', digit(number)])
-}
-
-/// Appends a number of two digits, behind a space.
-#[tactic(auto, using(crate::proofs::SmallDecimals::two_digits))]
-fn append_two_digits(out: &mut Vec<u8>, number: u32) -> Result<(), AllocError>
-    requires from { 10 ≤ number }
-    requires below { number < 100 }
-    ensures { OnOk result (Appends out.old out.new (32 ∷ decimal number)) }
-{
-    append(out, &[b' ', digit(number / 10), digit(number % 10)])
-}
-
-/// Appends a number of three digits, behind a space.
-#[tactic(auto, using(crate::proofs::SmallDecimals::three_digits))]
-fn append_three_digits(out: &mut Vec<u8>, number: u32) -> Result<(), AllocError>
-    requires from { 100 ≤ number }
-    requires below { number < 1000 }
-    ensures { OnOk result (Appends out.old out.new (32 ∷ decimal number)) }
-{
-    append(
-        out,
-        &[
-            b' ',
-            digit(number / 100),
-            digit(number / 10 % 10),
-            digit(number % 10),
-        ],
-    )
-}
-
-/// Appends a number, behind a space. Most numbers of a journal have up to three digits, and these
-/// go in one piece.
+/// Appends a number, behind a space. Most numbers of a journal are short, and these go in one piece.
 ///
-/// Takes memory; where it is wanting, the buffer may have a part of that. This project's own.
+/// Takes memory; where it is wanting, the buffer stays as it was. This project's own.
 pub fn append_number(out: &mut Vec<u8>, number: u32) -> Result<(), AllocError>
     ensures { OnOk result (Appends out.old out.new (32 ∷ decimal number)) }
 {
-    match number {
-        0..=9 => append_one_digit(out, number),
-        10..=99 => append_two_digits(out, number),
-        100..=999 => append_three_digits(out, number),
-        _ => append_count(out, number as usize),
-    }
+    append_of(out, b"", number)
 }
 
 /// Appends a number, behind a dot. Most instances are 0.
@@ -92,7 +41,7 @@ pub fn append_behind_dot(out: &mut Vec<u8>, number: u32) -> Result<(), AllocErro
     ensures { OnOk result (Appends out.old out.new (46 ∷ decimal number)) }
 {
     if number < 10 {
-        return append(out, &[b'.', digit(number)]);
+        return append(out, &[b'.', b'0' + number as u8]);
     }
     let mut buffer = Buffer::new();
     out.push(b'.')?;
@@ -105,8 +54,16 @@ pub fn append_behind_dot(out: &mut Vec<u8>, number: u32) -> Result<(), AllocErro
 pub fn append_of(out: &mut Vec<u8>, word: &[u8], number: u32) -> Result<(), AllocError>
     ensures { OnOk result (Appends out.old out.new (word.now ++ 32 ∷ decimal number)) }
 {
-    append(out, word)?;
-    append_number(out, number)
+    if number >= FEW {
+        append(out, word)?;
+        return append_count(out, number as usize);
+    }
+    out.reserve(word.len() + (1 + FEW_DIGITS))?;
+    let mut text = take_out(out);
+    push(&mut text, word);
+    push_number(&mut text, number);
+    put_back(out, text);
+    Ok(())
 }
 
 /// Appends a signed number, behind a space.

@@ -1,6 +1,5 @@
 pub mod Numbers
 pub mod Pieces
-pub mod Pairs
 pub mod OperationNumbers
 pub mod RanMarks
 pub mod LastKey

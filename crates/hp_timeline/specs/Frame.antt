@@ -1,6 +1,6 @@
 -- What stands round the lanes: the sheet, its heading, its legend, the numbers of events, and the lanes' own boxes and
 -- names. This project's own.
-use Rattle.std.specs.Prelude.{ℕ, ◌+◌, ◌-◌, ◌*◌, ◌/◌, Bool, if◌then◌else◌, List, [], ◌∷◌, ◌++◌, codes, decimal}
+use Rattle.std.specs.Prelude.{ℕ, ◌+◌, ◌-◌, ◌*◌, ◌/◌, ◌==◌, Bool, if◌then◌else◌, List, [], ◌∷◌, ◌++◌, codes, decimal}
 use Rattle.std.specs.List.{flat_map}
 use Rattle.hp_event.specs.declared.head.Head.{Head}
 use Rattle.hp_model.specs.Lists.{numbers}
@@ -45,14 +45,15 @@ mark_style =
     ++ (codes "path.empty,path.presumed{fill:#fff;stroke:#888}path{stroke-width:3}</style>\n"
     ++ codes "<rect width='100%' height='100%' fill='#fff'/>\n"))
 
+-- the numbers of the first event that is shown and of the last, if one is
+unfoldable pub range_text : Window → List ℕ
+range_text w = if w.before == w.until then codes "none" else decimal (w.before + 1) ++ (codes " to " ++ decimal w.until)
+
 unfoldable pub heading_text : Sheet → (many : ℕ) → List ℕ
 heading_text sheet many =
     codes "<text x='450' y='60' font-size='42' font-weight='bold'>processors: "
     ++ (decimal sheet.possible
-    ++ (codes ", events: "
-    ++ (decimal (sheet.window.before + 1)
-    ++ (codes " to "
-    ++ (decimal sheet.window.until ++ (codes " of " ++ (decimal many ++ codes "</text>\n")))))))
+    ++ (codes ", events: " ++ (range_text sheet.window ++ (codes " of " ++ (decimal many ++ codes "</text>\n")))))
 
 -- what the shapes of entries mean
 unfoldable pub mark_legend : List ℕ
@@ -72,7 +73,7 @@ span_legend =
     ++ (codes "<path class='bar stuck' d='M1995 93h36v30h-36z'/><text x='2043' y='120'>stuck</text>"
     ++ (codes "<path class='bar refused' d='M2160 93h36v30h-36z'/><text x='2208' y='120'>refused</text>"
     ++ (codes "<path class='bar going' d='M2355 93h36v30h-36z'/><text x='2403' y='120'>in flight</text>"
-    ++ codes "\n"))))
+    ++ (codes "<path class='bar full' d='M2565 93h36v30h-36z'/><text x='2613' y='120'>full</text>" ++ codes "\n")))))
 
 -- ---- the numbers of events
 

@@ -3,19 +3,21 @@ use Rattle.std.specs.Prelude.{◌≡◌, ℕ, ◌+◌, ◌-◌, ◌<◌, ◌≤�
 use Rattle.std.specs.List.{flat_map, AllPass}
 use Rattle.hp_states.specs.declared.limits.TheConstants.{ONLINE}
 use Rattle.hp_states.specs.Names.{is_name_byte}
-use Rattle.hp_event.specs.declared.answer.Answer.{Answer}
 use Rattle.hp_event.specs.declared.head.Sub.{Sub}
 use Rattle.hp_event.specs.declared.head.Head.{Head}
 use Rattle.hp_event.specs.declared.event.Event.{Event}
-use Rattle.hp_event.specs.declared.event.Event.TheVariants.{OpEnd, RegEnd}
-use Rattle.hp_model.specs.MapLock.{Operation, operation}
-use Rattle.hp_model.specs.Registrations.{Registration, registration}
+use Rattle.hp_event.specs.declared.event.Event.TheVariants.{WalkEnd, OpEnd, RegEnd, ReadUnlock}
+use Rattle.hp_model.specs.Lists.{occurs}
+use Rattle.hp_model.specs.MapLock.{operation}
+use Rattle.hp_model.specs.Readers.{reading_since}
+use Rattle.hp_model.specs.Registrations.{registration}
 use Rattle.hp_model.specs.Shown.{shown}
+use Rattle.hp_model.specs.Walks.{Walk, walk}
 use Rattle.hp_timeline.specs.declared.mark.Mark.{Mark}
 use Rattle.hp_timeline.specs.declared.window.Window.{Window}
 use Rattle.hp_timeline.specs.declared.span.Span.{Span}
 use Rattle.hp_timeline.specs.Windows.{IsWindow, places}
-use Rattle.hp_timeline.specs.Sheet.{middle, height}
+use Rattle.hp_timeline.specs.Sheet.{clients, middle, height}
 use Rattle.hp_timeline.specs.Spans.{ended_at, going, spans}
 use Rattle.hp_timeline.specs.Tracks.{level_at}
 use Rattle.hp_timeline.specs.Marks.{marked, marks}
@@ -48,32 +50,49 @@ pub record DrawsSpans (head : Head) (events : List Event) (w : Window) : Type 0 
   pub others_go : filter (λ s. not s.is_over) (spans head events w) ≡ going head (take w.until events) (w.until - 1)
   pub within : All (λ s. s.is_over ≡ true → IsIn w s.last) (spans head events w)
 
--- the operation ends at a place from one on, below another
-pub record OperationEnds (events : List Event) (from until : ℕ) (of : Operation) : Type 0 where
+-- the event ends the operation in flight, the registration, the walk of a processor, the read section of a seat
+abbrev pub EndsOperation : Event → Type 0
+EndsOperation (OpEnd seat answer) = Unit {0}
+EndsOperation _ = ⊥
+
+abbrev pub EndsRegistration : Event → Type 0
+EndsRegistration (RegEnd seat answer) = Unit {0}
+EndsRegistration _ = ⊥
+
+abbrev pub EndsWalk : (cpu : ℕ) → Event → Type 0
+EndsWalk c (WalkEnd seat cpu answer) = cpu ≡ c
+EndsWalk c _ = ⊥
+
+abbrev pub EndsSection : (seat : ℕ) → Event → Type 0
+EndsSection k (ReadUnlock seat) = seat ≡ k
+EndsSection k _ = ⊥
+
+-- it is in flight before a place from one on, below another, and the event of that place ends it
+pub record Ends {X : Type 0} (in_flight : List Event → Option X) (IsEnd : Event → Type 0) (events : List Event) (from until : ℕ) (of : X) : Type 0 where
   pub place : ℕ
   pub at_least : from ≤ place
   pub below : place < until
-  pub seat : ℕ
-  pub answer : Answer
-  pub event : slice_get events place ≡ Some (OpEnd seat answer)
-  pub held : operation (take place events) ≡ Some of
+  pub event : Event
+  pub at : slice_get events place ≡ Some event
+  pub is_end : IsEnd event
+  pub held : in_flight (take place events) ≡ Some of
 
-pub record RegistrationEnds (events : List Event) (from until : ℕ) (of : Registration) : Type 0 where
-  pub place : ℕ
-  pub at_least : from ≤ place
-  pub below : place < until
-  pub seat : ℕ
-  pub answer : Answer
-  pub event : slice_get events place ≡ Some (RegEnd seat answer)
-  pub held : registration (take place events) ≡ Some of
+-- what is in flight at a place up to the window's end ends in the window from there on, or is in flight at its end
+abbrev pub EachEndsOrGoes : {X : Type 0} → (in_flight : List Event → Option X) → (IsEnd : Event → Type 0) → List Event → Window → Type 0
+EachEndsOrGoes {X} in_flight IsEnd events w =
+    (k : ℕ) (of : X) → k ≤ w.until → in_flight (take k events) ≡ Some of →
+    Ends in_flight IsEnd events k w.until of ⊎ (in_flight (take w.until events) ≡ Some of)
 
--- An operation that is in flight at a place up to the window's end ends in the window from there on, or is in flight
--- at its end. So does a registration.
-pub record EndsOrGoes (events : List Event) (w : Window) : Type 0 where
-  pub operations : (k : ℕ) (of : Operation) → k ≤ w.until → operation (take k events) ≡ Some of →
-      OperationEnds events k w.until of ⊎ (operation (take w.until events) ≡ Some of)
-  pub registrations : (k : ℕ) (of : Registration) → k ≤ w.until → registration (take k events) ≡ Some of →
-      RegistrationEnds events k w.until of ⊎ (registration (take w.until events) ≡ Some of)
+-- So do an operation, a registration, a walk and a read section; and a walk that is in flight at the window's end is of a
+-- possible processor, and a section of a client's seat that came in once, so that each is drawn once.
+pub record EndsOrGoes (head : Head) (events : List Event) (w : Window) : Type 0 where
+  pub operations : EachEndsOrGoes operation EndsOperation events w
+  pub registrations : EachEndsOrGoes registration EndsRegistration events w
+  pub walks : (cpu : ℕ) → EachEndsOrGoes (walk cpu) (EndsWalk cpu) events w
+  pub sections : (seat : ℕ) → EachEndsOrGoes (reading_since seat) (EndsSection seat) events w
+  pub walk_drawn : (cpu : ℕ) (of : Walk) → walk cpu (take w.until events) ≡ Some of → cpu < head.possible
+  pub section_drawn : (seat : ℕ) (since : List Event) → reading_since seat (take w.until events) ≡ Some since →
+      occurs seat (clients (take w.until events)) ≡ 1
 
 -- ---- points
 

@@ -3,7 +3,8 @@ use Rattle.std.specs.Prelude.{ℕ, ◌<◌, List, ◌++◌, codes, decimal}
 use Rattle.hp_event.specs.declared.how.How.TheVariants.{RanOk}
 use Rattle.hp_model.specs.Words.{dir_word}
 use Rattle.hp_timeline.specs.declared.mark.Ran.{Ran}
-use Rattle.hp_timeline.specs.declared.text.TheConstants.{LONG, FEW}
+use Rattle.hp_text.specs.declared.pieces.TheConstants.{FEW}
+use Rattle.hp_timeline.specs.declared.text.TheConstants.{LONG}
 use Rattle.hp_timeline.specs.Marks.{shape, how_word}
 
 pub record IsShort (r : Ran) : Type 0 where

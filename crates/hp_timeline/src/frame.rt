@@ -4,10 +4,10 @@ ghost use Rattle.std.specs.Prelude.{◌≡◌, ◌<◌, OnOk};
 ghost use Rattle.hp_model.specs.Processors.{is_present};
 ghost use Rattle.hp_text.specs.Appends.{Appends};
 ghost use Rattle.hp_timeline.specs.Sheet.{HasFewClients};
-ghost use Rattle.hp_timeline.specs.Frame.{size_text, lane_style, span_style, mark_style, heading_text, mark_legend, span_legend, tick_count as tick_count_of, tenth as tenth_of, tick_line, tick_name, tick_text, ticks_text, lane_box, absence, lane_name, lane_text, seat_text, opening_text, lanes_text, frame_text};
+ghost use Rattle.hp_timeline.specs.Frame.{size_text, lane_style, span_style, mark_style, range_text, heading_text, mark_legend, span_legend, tick_count as tick_count_of, tenth as tenth_of, tick_line, tick_name, tick_text, ticks_text, lane_box, absence, lane_name, lane_text, seat_text, opening_text, lanes_text, frame_text};
 
 use crate::sheet::{Sheet, lane_top};
-use crate::text::{append, append_before, append_two_before, append_with};
+use crate::text::{append, append_before, append_two, append_two_before, append_with};
 use crate::window::Window;
 use hp_event::Head;
 use std::alloc::AllocError;
@@ -88,6 +88,23 @@ fn append_mark_style(out: &mut Vec<u8>) -> Result<(), AllocError>
     append(out, b"<rect width='100%' height='100%' fill='#fff'/>\n")
 }
 
+/// Appends the numbers of the first event that is shown and of the last, if one is.
+#[tactic(auto, unfolding(crate::specs::Frame::range_text))]
+fn append_range(out: &mut Vec<u8>, window: Window) -> Result<(), AllocError>
+    ensures { OnOk result (Appends out.old out.new (range_text window)) }
+{
+    if window.before == window.until {
+        return append(out, b"none");
+    }
+    append_two(
+        out,
+        b"",
+        window.before as usize + 1,
+        b" to ",
+        window.until as usize,
+    )
+}
+
 /// Appends the heading: how many processors there are, and which events are shown.
 #[tactic(auto, unfolding(crate::specs::Frame::heading_text))]
 fn append_heading(out: &mut Vec<u8>, sheet: &Sheet, many: usize) -> Result<(), AllocError>
@@ -98,8 +115,8 @@ fn append_heading(out: &mut Vec<u8>, sheet: &Sheet, many: usize) -> Result<(), A
         b"<text x='450' y='60' font-size='42' font-weight='bold'>processors: ",
         sheet.possible as usize,
     )?;
-    append_with(out, b", events: ", sheet.window.before as usize + 1)?;
-    append_with(out, b" to ", sheet.window.until as usize)?;
+    append(out, b", events: ")?;
+    append_range(out, sheet.window)?;
     append_with(out, b" of ", many)?;
     append(out, b"</text>\n")
 }
@@ -159,6 +176,10 @@ fn append_span_legend(out: &mut Vec<u8>) -> Result<(), AllocError>
     append(
         out,
         b"<path class='bar going' d='M2355 93h36v30h-36z'/><text x='2403' y='120'>in flight</text>",
+    )?;
+    append(
+        out,
+        b"<path class='bar full' d='M2565 93h36v30h-36z'/><text x='2613' y='120'>full</text>",
     )?;
     append(out, b"\n")
 }

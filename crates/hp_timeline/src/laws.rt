@@ -28,9 +28,10 @@ pub fn spans_are_drawn_once(head: &Head, events: &[Event], window: Window)
 {}
 
 /// In a lawful journal what is in flight at a place up to the window's end ends in the window from there on, or is in
-/// flight at its end. So each operation, and each registration, that the window touches has one bar.
+/// flight at its end and drawn there: an operation, a registration, a walk, a read section. So each operation that the
+/// window touches has one bar, each registration too, each walk one shade, and each read section one bar.
 pub fn ends_or_goes(head: &Head, events: &[Event], window: Window)
-    ensures { IsLawful head.now events.now → IsWindow window (length events.now) → EndsOrGoes events.now window }
+    ensures { IsLawful head.now events.now → IsWindow window (length events.now) → EndsOrGoes head.now events.now window }
 {}
 
 /// No two states, of one processor or of two, stand at one height, and no two places of the window in one column.

@@ -9,14 +9,12 @@ ghost use Rattle.hp_timeline.specs.Marks.{IsEntry, marked, shape, how_word, mark
 ghost use Rattle.hp_timeline.specs.Ran.{IsShort, spot_text, ran_line};
 
 use crate::sheet::height;
-use crate::text::{
-    FEW, LONG, append, append_before, append_two, push, push_with, push_with_few, put_back,
-    take_out,
-};
+use crate::text::{LONG, append, append_before, append_two, push_with, push_with_few};
 use crate::window::Window;
 use hp_event::{Event, How};
 use hp_print::append_event;
 use hp_states::Dir;
+use hp_text::{FEW, push, put_back, take_out};
 use std::alloc::AllocError;
 
 /// So many bytes the two parts of a mark take at most whose numbers are short.

@@ -8,11 +8,11 @@ ghost use Rattle.hp_timeline.specs.Spans.{row_top as row_top_of, row_height, row
 
 use crate::sheet::{Sheet, lane_top};
 use crate::span::{Class, Row, Span};
-use crate::text::{append, append_before, append_two_before, push, put_back, take_out};
+use crate::text::{append, append_before, append_two_before};
 use crate::window::Window;
 use hp_event::{Event, Op};
 use hp_print::append_event;
-use hp_text::append_op;
+use hp_text::{append_op, push, put_back, take_out};
 use std::alloc::AllocError;
 
 impl Row {

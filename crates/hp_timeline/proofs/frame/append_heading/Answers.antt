@@ -6,9 +6,9 @@ pub returns : goal.returns
 unfolding heading_text
 returns c =
     simp (
-      c.in_ok-append_with-4.ensures,
-      c.in_ok-append_with-3.ensures,
       c.in_ok-append_with-2.ensures,
+      c.in_ok-append_range.ensures,
+      c.in_ok-append.ensures,
       c.in_ok-append_with.ensures,
       append_assoc,
-    ) at c.append.ensures
+    ) at c.append-2.ensures

@@ -1,7 +1,7 @@
 use Rattle.std.proofs.Common.{arith}
 use Rattle.std.proofs.lemmas.Fmt.{decimal_digit}
 use Rattle.hp_timeline.specs.Spans.{row_height}
-use Rattle.hp_timeline.proofs.Pairs.{two_digits, two_more}
+use Rattle.hp_text.proofs.Pairs.{two_digits, two_more}
 use Rattle.hp_timeline.proofs.span_text.append_size.Goals as goal
 
 pub returns-in-Processor : goal.returns-in-Processor

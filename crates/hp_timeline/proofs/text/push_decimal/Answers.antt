@@ -1,5 +1,5 @@
 use Rattle.std.proofs.Common.{append_assoc, arith}
-use Rattle.hp_timeline.proofs.Pairs.{four_more}
+use Rattle.hp_text.proofs.Pairs.{four_more}
 use Rattle.hp_timeline.proofs.text.push_decimal.Goals as goal
 
 pub returns-else-number-lt-FEW-clause-text : goal.returns-else-number-lt-FEW-clause-text

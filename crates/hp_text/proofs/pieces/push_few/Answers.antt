@@ -1,6 +1,6 @@
 use Rattle.std.proofs.Common.{append_assoc, arith}
-use Rattle.hp_timeline.proofs.Pairs.{two_more}
-use Rattle.hp_timeline.proofs.text.push_few.Goals as goal
+use Rattle.hp_text.proofs.Pairs.{two_more}
+use Rattle.hp_text.proofs.pieces.push_few.Goals as goal
 
 pub returns-else-number-lt100-clause-text : goal.returns-else-number-lt100-clause-text
 returns-else-number-lt100-clause-text c =

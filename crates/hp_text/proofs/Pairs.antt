@@ -2,7 +2,7 @@
 use Rattle.std.proofs.Common.{◌≡◌, ℕ, zero, suc, ◌+◌, ◌*◌, ◌/◌, ◌%◌, ◌^◌, ◌<◌, ◌≤◌, Bool, true, ◌&&◌, ◌==◌, [], ◌∷◌, ◌++◌, List, decimal, get_or, false, refl, ⊎_elim, arith, append_assoc}
 use Rattle.std.proofs.lemmas.Bool.{cases_lt, eqb-true, false≢true}
 use Rattle.std.proofs.lemmas.Fmt.{decimal_digit, decimal_step}
-use Rattle.hp_timeline.specs.declared.text.TheConstants.{PAIRS}
+use Rattle.hp_text.specs.declared.pieces.TheConstants.{PAIRS}
 
 -- the two digits of a number below 100, of which the first may be 0
 abbrev pub pair : ℕ → List ℕ
