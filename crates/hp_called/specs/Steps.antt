@@ -92,7 +92,17 @@ abbrev pub IsOnSomeCpu : Event → Type 0
 IsOnSomeCpu (Call seat cpu state inst dir how) = cpu < MAX_CPU_SET
 IsOnSomeCpu _ = Unit {0}
 
--- a registration begins
-abbrev pub Begins : Event → Type 0
-Begins (RegBegin seat state op) = Unit {0}
-Begins _ = ⊥
+-- what it adds gets a row
+abbrev pub AddsRow : Option Ending → Type 0
+AddsRow None = ⊥
+AddsRow (Some e) = e.adds ≡ true
+
+-- a registration begins that adds a key: a setup of a state without instances, or an add
+abbrev pub AddsKey : Head → Op → Type 0
+AddsKey head (Setup asked sub form) = is_multi head sub ≡ false
+AddsKey head (Add state inst form) = Unit {0}
+AddsKey head _ = ⊥
+
+abbrev pub BringsRow : Head → Event → Type 0
+BringsRow head (RegBegin seat state op) = AddsKey head op
+BringsRow head _ = ⊥

@@ -7,7 +7,7 @@ ghost use Rattle.hp_event.specs.declared.key.Key.{Key as AKey};
 ghost use Rattle.hp_model.specs.Lawful.{IsLawful, Stands};
 ghost use Rattle.hp_called.specs.Rows.{has_row, is_on};
 ghost use Rattle.hp_model.specs.Net.{is_key_in_force};
-ghost use Rattle.hp_called.specs.Steps.{row_after, on_after, ending_after, row_begun, on_begun, left, HasRoomIf, HasRoomFor, IsOnSomeCpu, Begins};
+ghost use Rattle.hp_called.specs.Steps.{row_after, on_after, ending_after, row_begun, on_begun, left, HasRoomIf, HasRoomFor, IsOnSomeCpu, AddsRow, BringsRow};
 ghost use Rattle.hp_called.specs.Called.{IsCalled};
 
 use crate::ending::Ending;
@@ -49,7 +49,7 @@ impl Called {
     pub fn make_room(&mut self, head: &Head, event: &Event) -> Result<(), NoMemory>
         ensures stays { (h : AHead) (events : List AnEvent) → IsCalled h events self.old → IsCalled h events self.new }
         ensures room { OnOk result (HasRoomFor head.now event.now self.new) }
-        ensures begins { OnErr result (Begins event.now) }
+        ensures brings { OnErr result (BringsRow head.now event.now) }
     {
         match event {
             Event::RegBegin { state, op, .. } => self.make_room_for(Ending::of(head, op, *state)),
@@ -108,6 +108,7 @@ impl Called {
     fn make_room_for(&mut self, ending: Option<Ending>) -> Result<(), NoMemory>
         ensures stays { (h : AHead) (events : List AnEvent) → IsCalled h events self.old → IsCalled h events self.new }
         ensures room { OnOk result (HasRoomIf ending self.new) }
+        ensures adds { OnErr result (AddsRow ending) }
     {
         match ending {
             Some(Ending { adds: true, .. }) => self.rows.reserve(),

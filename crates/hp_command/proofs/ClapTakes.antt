@@ -1,5 +1,5 @@
 -- Clap takes the words of the two options, where no text begins with a dash.
-use Rattle.std.proofs.Common.{◌≡◌, ℕ, Bool, true, false, cond, eqb, ◌||◌, Option, Some, None, List, [], ◌∷◌, ◌++◌, inl, inr, refl, sym, ap, subst, ◌∙◌}
+use Rattle.std.proofs.Common.{◌≡◌, ℕ, ◌≤◌, Bool, true, false, cond, eqb, ◌||◌, Option, Some, None, List, [], ◌∷◌, ◌++◌, length, length-append, codes, inl, inr, refl, sym, ap, subst, ◌∙◌, arith}
 use Rattle.std.specs.Prelude.{fold}
 use Rattle.std.specs.Str.{bytes_eq}
 use Rattle.std.proofs.lemmas.Bool.{ne_eqb}
@@ -13,7 +13,7 @@ use Rattle.clap.specs.declared.error.kind.ErrorKind.TheVariants as kind
 use Rattle.clap.specs.Faults.{check_fault, default_fault, defaults_fault, fault_of, given_default_fault, settle_fault, turn_fault, walk_fault}
 use Rattle.clap.specs.Walk.{nothing_held}
 use Rattle.clap.proofs.FaultLemmas.{leaf_fault}
-use Rattle.hp_command.specs.Options.{AreWordsOf, AreWordsOfBoth, BeginsPlain}
+use Rattle.hp_command.specs.Options.{AreWordsOf, AreWordsOfBoth, BeginsPlain, CanBeOptions}
 use Rattle.hp_command.proofs.Reading.{Word}
 use Rattle.hp_command.proofs.ClapRules.{Flag, seed, size, name, rule, rules, top, app}
 use Rattle.hp_command.proofs.ClapWords.{joined}
@@ -185,6 +185,24 @@ no_dashes words s z h ps pz =
       | inl e ↦ subst (λ (ws : List Word). has_dashes ws ≡ false) (sym e) (clear_both h.seed_words h.size_words cs cz)
       | inr e ↦ subst (λ (ws : List Word). has_dashes ws ≡ false) (sym e) (clear_both h.size_words h.seed_words cz cs)
     ]
+
+-- and they are few
+few_of : (name : Word) (text : Option Word) (words : List Word) → AreWordsOf name text words → length words ≤ 2
+few_of name None words h = rw h (omega arith)
+few_of name (Some text) words (inl h) = rw h (omega arith)
+few_of name (Some text) words (inr h) = rw h (omega arith)
+
+pub can_be : (words : List Word) (s z : Option Word) → AreWordsOfBoth words s z → BeginsPlain s → BeginsPlain z → CanBeOptions words
+can_be words s z h ps pz =
+    let few_s = few_of (codes "--seed") s h.seed_words h.of_seed in
+    let few_z = few_of (codes "--size") z h.size_words h.of_size in
+    record {
+      few = elim h.any_order [
+        | inl e ↦ let both = ap length e ∙ length-append h.seed_words h.size_words in omega (arith, few_s, few_z, both)
+        | inr e ↦ let both = ap length e ∙ length-append h.size_words h.seed_words in omega (arith, few_s, few_z, both)
+      ];
+      none_ends = no_dashes words s z h ps pz;
+    }
 
 -- where there is no fault, memory is wanting
 pub only_memory : (kinds : Kinds) (e : Error) → kinds ≡ [] → HasKind kinds e → kind_of e ≡ kind.OutOfMemory

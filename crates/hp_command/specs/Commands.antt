@@ -1,6 +1,6 @@
 -- The commands, by the words that ask for them. This project's own.
 use Rattle.std.specs.Prelude.{◌≡◌, ◌≢◌, ◌⊎◌, ℕ, List, [], ◌∷◌, codes}
-use Rattle.hp_command.specs.Options.{AreOptions}
+use Rattle.hp_command.specs.Options.{AreOptions, CanBeOptions}
 use Rattle.hp_command.specs.Controlling.{AreControlling}
 use Rattle.hp_command.specs.Counting.{AreCounting}
 use Rattle.hp_command.specs.declared.command.Command.{Command}
@@ -32,10 +32,11 @@ pub record IsCommand (words : List (List ℕ)) (command : Command) : Type 0 wher
   pub begins : words ≡ word_of command ∷ rest
   pub goes_on : AreRest command rest
 
--- the first word is that of a command which takes options
+-- the first word is that of a command which takes options, and the others can be options
 pub record HasOptions (words : List (List ℕ)) : Type 0 where
   pub rest : List (List ℕ)
   pub begins : (words ≡ codes "gen" ∷ rest) ⊎ (words ≡ codes "bench" ∷ rest)
+  pub can_be : CanBeOptions rest
 
 -- the words are those of no command
 abbrev pub AreNoCommand : (words : List (List ℕ)) → Type 0

@@ -1,5 +1,7 @@
 -- The options of a command: which words they are, and what they say. This project's own.
-use Rattle.std.specs.Prelude.{◌≡◌, ◌≢◌, ◌⊎◌, ⊤, ℕ, ◌≤◌, ◌<◌, ◌^◌, Option, Some, None, List, [], ◌∷◌, ◌++◌, codes, decimal}
+use Rattle.std.specs.Prelude.{◌≡◌, ◌≢◌, ◌⊎◌, ⊤, ℕ, ◌≤◌, ◌<◌, ◌^◌, Option, Some, None, false, List, [], ◌∷◌, ◌++◌, length, codes, decimal}
+use Rattle.std.specs.List.{list_any}
+use Rattle.std.specs.Str.{bytes_eq}
 use Rattle.hp_states.specs.declared.limits.TheConstants.{MAX_GENERATED_SIZE}
 use Rattle.hp_command.specs.declared.options.Options.{Options}
 
@@ -16,6 +18,11 @@ pub record AreWordsOfBoth (words : List (List ℕ)) (seed size : Option (List �
   pub of_seed : AreWordsOf (codes "--seed") seed seed_words
   pub of_size : AreWordsOf (codes "--size") size size_words
   pub any_order : (words ≡ seed_words ++ size_words) ⊎ (words ≡ size_words ++ seed_words)
+
+-- words can be those of two options: there are at most four, and none is two dashes
+pub record CanBeOptions (words : List (List ℕ)) : Type 0 where
+  pub few : length words ≤ 4
+  pub none_ends : list_any (λ word. bytes_eq word (codes "--")) words ≡ false
 
 -- a text that is there begins with another byte than a dash
 abbrev pub BeginsPlain : (text : Option (List ℕ)) → Type 0

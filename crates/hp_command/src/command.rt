@@ -65,7 +65,8 @@ fn lone(word: &str) -> Option<Command>
 /// decimal digits, without a sign and without a zero before others. All other words ask for nothing, `--help` too, and so does a list with a word that
 /// is exactly `--`. This is the project's own.
 ///
-/// Takes memory for the options, which `clap` reads; where there is none: `NoMemory`.
+/// Takes memory for the options, which `clap` reads, of words that begin with `gen` or `bench` and go on with what can
+/// be options; where there is none: `NoMemory`.
 pub fn command_of(alloc: Global, words: &[String]) -> Result<Option<Command>, NoMemory>
     ensures some { IfOk result (λ found. IfSome found (IsCommand (map string_bytes words.now))) }
     ensures none { IfOk result (λ found. IfNone found (AreNoCommand (map string_bytes words.now))) }

@@ -21,3 +21,4 @@ pub use counting::Counting;
 pub use law::words_determine_the_command;
 pub use number::number_of;
 pub use options::Options;
+pub use texts::can_be_options;

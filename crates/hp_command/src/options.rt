@@ -1,8 +1,8 @@
 //! The options of a command, as numbers.
 
-ghost use Rattle.std.specs.Prelude.{IfOk, IfSome, IfNone, map, string_bytes};
+ghost use Rattle.std.specs.Prelude.{IfOk, IfErr, IfSome, IfNone, map, string_bytes};
 ghost use Rattle.std.specs.Option.{option_copied};
-ghost use Rattle.hp_command.specs.Options.{AreNoOptions, AreOptions, Says, SaysNoNumber};
+ghost use Rattle.hp_command.specs.Options.{AreNoOptions, AreOptions, CanBeOptions, Says, SaysNoNumber};
 ghost use Rattle.hp_command.specs.TextsFound.{SayNoOptions, SayOptions};
 
 use crate::number::number_of;
@@ -51,11 +51,12 @@ fn said_by(texts: &Texts<'_>) -> Option<Options>
     })
 }
 
-/// The options that the words are, if they are options. Takes memory for what `clap` keeps; where
-/// there is none: `NoMemory`.
+/// The options that the words are, if they are options. Takes memory for what `clap` keeps, of words
+/// that can be options; where there is none: `NoMemory`.
 pub fn options_of(alloc: Global, words: &[String]) -> Result<Option<Options>, NoMemory>
     ensures some { IfOk result (λ found. IfSome found (AreOptions (map string_bytes words.now))) }
     ensures none { IfOk result (λ found. IfNone found (AreNoOptions (map string_bytes words.now))) }
+    ensures no_memory { IfErr result (λ _. CanBeOptions (map string_bytes words.now)) }
 {
     match texts_of(alloc, words)? {
         Some(texts) => Ok(said_by(&texts)),

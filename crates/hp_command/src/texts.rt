@@ -1,9 +1,9 @@
 //! The texts of the options, before they are read as numbers.
 
-ghost use Rattle.std.specs.Prelude.{◌≡◌, map, string_bytes, codes, IfOk, IfSome, IfNone};
+ghost use Rattle.std.specs.Prelude.{◌≡◌, ◌↔◌, map, string_bytes, codes, IsTrue, IfOk, IfErr, IfSome, IfNone};
 ghost use Rattle.std.specs.List.{list_any};
 ghost use Rattle.std.specs.Str.{bytes_eq};
-ghost use Rattle.hp_command.specs.Options.{HaveNoPlainTexts};
+ghost use Rattle.hp_command.specs.Options.{CanBeOptions, HaveNoPlainTexts};
 ghost use Rattle.hp_command.specs.TextsFound.{AreTextsIn};
 
 use clap::error::ErrorKind;
@@ -18,6 +18,15 @@ fn ends_options(words: &[String]) -> bool
     words.iter().any(|word| word.as_str() == "--")
 }
 
+/// Whether the words can be those of two options: there are at most four, and none is exactly `--`.
+///
+/// Takes no memory.
+pub fn can_be_options(words: &[String]) -> bool
+    ensures { IsTrue result ↔ CanBeOptions (map string_bytes words.now) }
+{
+    words.len() <= 4 && !ends_options(words)
+}
+
 /// The texts that stand for the values of the options, each where the option is given.
 #[derive(Clone, Copy)]
 pub struct Texts<'a> {
@@ -29,14 +38,16 @@ pub struct Texts<'a> {
 
 /// The texts of the options, where the words are those of the two options.
 ///
-/// A word that is exactly `--` is refused here, since `clap` would end the options at it. A text
-/// that is a word of its own and begins with a dash may be refused: no number does. Takes memory for
-/// what `clap` keeps; where there is none: `NoMemory`.
+/// A word that is exactly `--` is refused here, since `clap` would end the options at it, and so are
+/// more than four words. A text that is a word of its own and begins with a dash may be refused: no
+/// number does. Takes memory for what `clap` keeps, of words that can be those of two options; where
+/// there is none: `NoMemory`.
 pub fn texts_of(alloc: Global, words: &[String]) -> Result<Option<Texts<'_>>, NoMemory>
     ensures some { IfOk result (λ found. IfSome found (AreTextsIn (map string_bytes words.now))) }
     ensures none { IfOk result (λ found. IfNone found (HaveNoPlainTexts (map string_bytes words.now))) }
+    ensures no_memory { IfErr result (λ _. CanBeOptions (map string_bytes words.now)) }
 {
-    if ends_options(words) {
+    if !can_be_options(words) {
         return Ok(None);
     }
     let parser = Command::new(alloc, "hp")

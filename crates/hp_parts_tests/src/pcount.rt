@@ -151,3 +151,18 @@ fn counters_have_these_numbers(rt: HostRuntime) {
         }
     }
 }
+
+/// No number above 255 is a processor's: it has no part, and isn't open.
+#[test]
+fn a_number_above_255_has_no_part(rt: HostRuntime) {
+    let mut counters = Counters::new(120, 10);
+    for cpu in [0u32, 255] {
+        assert!(rt; !counters.is_open(cpu) && counters.part(cpu) == 0);
+        assert!(rt; acts(&rt, &mut counters, cpu, Enters(120, 0, Dir::Up, How::RanOk)));
+        assert!(rt; acts(&rt, &mut counters, cpu, Adds(-3, true)));
+        assert!(rt; counters.is_open(cpu) && counters.part(cpu) == -3);
+    }
+    for cpu in [256u32, 257, 511, u32::MAX] {
+        assert!(rt; !counters.is_open(cpu) && counters.part(cpu) == 0, "{cpu}");
+    }
+}

@@ -189,27 +189,31 @@ impl Counters {
         self.base
     }
 
-    /// What was added on a processor, which is at most 255, and isn't in the base: between 1 - batch and
-    /// batch - 1, and 0 where the processor isn't open.
+    /// What was added on a processor and isn't in the base: between 1 - batch and batch - 1, and 0 where the
+    /// processor isn't open.
     ///
-    /// Takes no memory. This project's own.
+    /// Any number may be asked for: one above 255 is no processor's, and its part is 0. Takes no memory. This
+    /// project's own.
     pub fn part(&self, cpu: u32) -> i64
-        requires { cpu < MAX_CPU_SET_OF }
         ensures exactly { result ≡ part self.now cpu }
         ensures within { IsWithin (self.now.batch - 1) result }
         ensures closed { is_open self.now cpu ≡ false → result ≡ pos 0 }
     {
-        self.parts[cpu as usize]
+        if cpu < MAX_CPU_SET {
+            self.parts[cpu as usize]
+        } else {
+            0
+        }
     }
 
-    /// Whether a processor, which is at most 255, is open.
+    /// Whether a processor is open.
     ///
-    /// Takes no memory. This project's own.
+    /// Any number may be asked for: one above 255 is no processor's, and isn't open. Takes no memory. This
+    /// project's own.
     pub fn is_open(&self, cpu: u32) -> bool
-        requires { cpu < MAX_CPU_SET_OF }
         ensures { result ≡ is_open self.now cpu }
     {
-        self.opened.has(cpu)
+        cpu < MAX_CPU_SET && self.opened.has(cpu)
     }
 
     /// The lowest open processor whose number is at least `from`. None where there is none.

@@ -4,6 +4,7 @@ use Rattle.hp_io.specs.declared.source.Source as Source
 use Rattle.hp_io.specs.declared.sink.Sink as Sink
 use Rattle.hp_hook.specs.declared.hook.Hook as Hook
 use Rattle.hp_hook.specs.declared.rack.Rack.{Rack}
+use Rattle.hp_command.specs.Commands.{IsCommand, HasOptions}
 use Rattle.hp_command.specs.declared.command.Command.{Command}
 use Rattle.hp_command.specs.declared.controlling.Controlling.{Controlling}
 use Rattle.hp_event.specs.declared.version.Version.{Version}
@@ -73,6 +74,12 @@ abbrev pub EndsHalfWritten : {H : Type 0} → Call H → Type 0
 EndsHalfWritten c =
     (c.write_faults_now ≡ c.write_faults + 1)
     × WritesPart c.words c.rack c.left c.left_now c.taken c.taken_now
+
+-- memory was wanting for a command, or for words that can be one with options, and nothing was written
+abbrev pub EndsWanting : {H : Type 0} → Call H → Type 0
+EndsWanting c =
+    (((command : Command) × IsCommand c.words command) ⊎ HasOptions c.words)
+    × (c.taken_now ≡ c.taken)
 
 -- ---- one command, by a source and a rack before and now
 

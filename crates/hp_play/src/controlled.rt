@@ -32,7 +32,8 @@ fn control_of(mode: ControlMode) -> Control
 ///
 /// There is a seat more than for the script's threads and actors, a core has 2 to 8 threads, and the rack has at least as
 /// many hooks as the script has setups, each of which takes one of its own. After the run the rack has as many hooks as
-/// before (`specs/Racks.antt`). Where memory is wanting, some hooks of the rack are lost: `NoMemory`. This project's own.
+/// before (`specs/Racks.antt`), and of each that came back it is known what turns made of it (`specs/Controlled.antt`).
+/// Where memory is wanting, some hooks of the rack are lost: `NoMemory`. This project's own.
 pub fn text_controlled<H: Hook>(
     alloc: Global,
     controlling: Controlling,

@@ -2,7 +2,7 @@
 
 ghost use Rattle.std.specs.Prelude.{◌≡◌, ◌≢◌, ◌<◌, ◌≤◌};
 ghost use Rattle.hp_play.specs.Main.{Answer, PlaysNothing};
-ghost use Rattle.hp_play.specs.Calls.{AskedIn, call, IsDoneIfFine, EndsWith, EndsUnread, EndsHalfWritten};
+ghost use Rattle.hp_play.specs.Calls.{AskedIn, call, IsDoneIfFine, EndsWith, EndsUnread, EndsHalfWritten, EndsWanting};
 
 use crate::commands::output_of;
 use crate::stop::Stop;
@@ -43,7 +43,7 @@ const USAGE: &[u8] =
 /// | 2 | exactly where the script is refused; of `bench`, where the rack has fewer than twelve hooks | its first refused line and the cause: `error: line 3: bad word` |
 /// | 3 | only where a read failed, so never of `gen` and `bench` | nothing |
 /// | 4 | only where a write failed | the first bytes of what was to be written |
-/// | 5 | memory was wanting | nothing |
+/// | 5 | memory was wanting; only where the words are one of these, or are `gen` or `bench` and can go on as these do: by at most four words, none of them `--` | nothing |
 /// | 6 | exactly where the journal is refused, of `replay` and `migrate` alone | its first line that can't stand, and the cause |
 ///
 /// The text of a journal is in version 2, but where version 1 is named. A script, and the text of a lawful
@@ -88,7 +88,8 @@ pub fn hp_main<S: Source, K: Sink, H: Hook>(
         (call S.Source K.Sink H.Hook words.now source.old source.new sink.old sink.new rack.old rack.new) }
     ensures write_fault { result ≡ WRITE_FAULT → EndsHalfWritten
         (call S.Source K.Sink H.Hook words.now source.old source.new sink.old sink.new rack.old rack.new) }
-    ensures no_memory { result ≡ NO_MEMORY → K.taken sink.new ≡ K.taken sink.old }
+    ensures no_memory { result ≡ NO_MEMORY → EndsWanting
+        (call S.Source K.Sink H.Hook words.now source.old source.new sink.old sink.new rack.old rack.new) }
     ensures source_faults { result ≢ READ_FAULT → S.faults source.new ≡ S.faults source.old }
     ensures sink_faults { result ≢ WRITE_FAULT → K.faults sink.new ≡ K.faults sink.old }
 

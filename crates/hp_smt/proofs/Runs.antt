@@ -65,7 +65,7 @@ asking_lawful head n k i (Some op) at h = go (is_denied_by at.run.events n at.se
   where
     go : (b : Bool) →
         IsLawful head
-        (cond b (without i at)
+        (cond b (without k i at)
         (with_run at (after_event i (next_event head at.run.events k op) (is_full head at.run.events k op) at.run))).run.events
     go true = h
     go false = event_lawful head k i op (is_full head at.run.events k op) at.run h (next_event head at.run.events k op) refl

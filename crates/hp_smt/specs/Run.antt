@@ -26,12 +26,12 @@ pub record Written : Type 0 where
   pub online : List ℕ
 
 -- how far a run is: the events, and how many operations of each actor are answered or denied; the setting; the writes that are answered;
--- and how many operations were denied
+-- and of each operation that was denied its seat, in their order
 pub record SmtState : Type 0 where
   pub run : RunState
   pub setting : Setting
   pub written : List Written
-  pub denied : ℕ
+  pub denied : List ℕ
 
 -- ---- turns
 
@@ -39,20 +39,20 @@ abbrev pub with_run : SmtState → RunState → SmtState
 with_run at run = record { run = run; setting = at.setting; written = at.written; denied = at.denied }
 
 -- an operation that is denied makes no event, and has ended
-abbrev pub without : (actor : ℕ) → SmtState → SmtState
-without i at =
+abbrev pub without : (seat actor : ℕ) → SmtState → SmtState
+without k i at =
     record {
       run = record { events = at.run.events; answers = counted i true at.run.answers };
       setting = at.setting;
       written = at.written;
-      denied = at.denied + 1;
+      denied = at.denied ++ k ∷ [];
     }
 
 abbrev pub after_asking : Head → (threads seat actor : ℕ) → Option Op → SmtState → SmtState
 after_asking head n k i None at = at
 after_asking head n k i (Some op) at =
     if is_denied_by at.run.events n at.setting.mode k op
-    then without i at
+    then without k i at
     else with_run at (after_event i (next_event head at.run.events k op) (is_full head at.run.events k op) at.run)
 
 abbrev pub and_event : List Event → Option Event → List Event
@@ -99,7 +99,7 @@ smt_start head actors =
       run = record { events = admissions head (actors ++ [] ∷ []); answers = replicate (length actors) 0 };
       setting = at_rest mode.On (set_of []);
       written = [];
-      denied = 0;
+      denied = [];
     }
 
 abbrev pub is_over : (actors : List (List Op)) → SmtState → Bool

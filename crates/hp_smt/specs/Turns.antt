@@ -1,6 +1,7 @@
 -- What a turn of a seat makes of SMT control: for an operation, which is denied where it would bring a sibling up against the mode; and
 -- for a write of control. After `cpu_smt_allowed` and
--- `__store_smt_control` of `kernel/cpu.c`; that both go on by turns, and what they wait for, are this project's own.
+-- `__store_smt_control` of `kernel/cpu.c`; that both go on by turns, what they wait for, and that a target below online
+-- isn't denied, are this project's own.
 use Rattle.std.specs.Prelude.{◌≡◌, ℕ, Bool, true, false, not, ◌&&◌, is_some, Option, Some, None, length, List}
 use Rattle.hp_event.specs.declared.event.Event.{Event}
 use Rattle.hp_event.specs.declared.op.Op.{Op}

@@ -8,6 +8,7 @@ ghost use Rattle.hp_event.specs.declared.event.Role.TheVariants.{Client};
 ghost use Rattle.hp_smt.specs.declared.mode.Control.{Control as ControlOf};
 ghost use Rattle.hp_board.specs.HookLaws.{HasAsManyHooks};
 ghost use Rattle.hp_smt.specs.Brought.{BringsAllUp};
+ghost use Rattle.hp_smt.specs.Hooks.{KeepsEachHook};
 ghost use Rattle.hp_model.specs.Settled.{is_online};
 ghost use Rattle.hp_smt.specs.Siblings.{is_sibling as is_sibling_of, sibling_online as sibling_online_of};
 ghost use Rattle.hp_smt.specs.Sound.{CanGoOn, MayWrite};
@@ -48,12 +49,16 @@ impl<H: Hook> Smt<H> {
     ///
     /// A turn that makes an event of the write's own answers `Made`, unless the write is answered by that event.
     /// `Answered` with no place has no event of its own. `NoMemory` where memory was wanting for one: then all is as
-    /// before that turn, the mode too. The states keep their hooks. After `__store_smt_control` of `kernel/cpu.c`.
+    /// before that turn, the mode too. Each state keeps its hook, with its plan and what it has counted; where the event is
+    /// a call of it, that is counted too. After `__store_smt_control` of `kernel/cpu.c`;
+    /// the turns, the record and the refusal of a write of On are this project's own: there On brings up every
+    /// present processor, and nothing where an Off has failed.
     pub fn control(&mut self, by: u32, want: Control) -> Result<Turn, NoMemory>
         requires { MayWrite self.old.board self.old.setting by want }
         ensures turn { IfOk result (IsControl by want self.old self.new) }
         ensures brought { IfOk result (BringsAllUp (current_of self.old by want) self.new) }
         ensures hooks { OnOk result (HasAsManyHooks self.old.board self.new.board) }
+        ensures each { OnOk result (KeepsEachHook self.old.board self.new.board) }
         ensures err { OnErr result (self.new ≡ self.old) }
         ensures memory { OnErr result (WantsRoom self.old (current_of self.old by want)) }
     {
@@ -98,6 +103,7 @@ impl<H: Hook> Smt<H> {
         ensures turn { IfOk result (IsControl by want self.old self.new) }
         ensures brought { IfOk result (BringsAllUp (current_of self.old by want) self.new) }
         ensures hooks { OnOk result (HasAsManyHooks self.old.board self.new.board) }
+        ensures each { OnOk result (KeepsEachHook self.old.board self.new.board) }
         ensures err { OnErr result (self.new ≡ self.old) }
         ensures memory { OnErr result (WantsRoom self.old (current_of self.old by want)) }
     {
@@ -124,6 +130,7 @@ impl<H: Hook> Smt<H> {
             write self.old self.new) }
         ensures brought { IfOk result (BringsAllUp write self.new) }
         ensures hooks { OnOk result (HasAsManyHooks self.old.board self.new.board) }
+        ensures each { OnOk result (KeepsEachHook self.old.board self.new.board) }
         ensures err { OnErr result (self.new ≡ self.old) }
         ensures memory { OnErr result (WantsRoom self.old write) }
     {
@@ -144,6 +151,7 @@ impl<H: Hook> Smt<H> {
             (Some cpu) write self.old self.new) }
         ensures brought { IfOk result (BringsAllUp write self.new) }
         ensures hooks { OnOk result (HasAsManyHooks self.old.board self.new.board) }
+        ensures each { OnOk result (KeepsEachHook self.old.board self.new.board) }
         ensures err { OnErr result (self.new ≡ self.old) }
         ensures memory { OnErr result (OwnTakesRoom self.old.board write (Some cpu)) }
     {
@@ -169,6 +177,7 @@ impl<H: Hook> Smt<H> {
             None write self.old self.new result }
         ensures brought { BringsAllUp write self.new result }
         ensures hooks { HasAsManyHooks self.old.board self.new.board }
+        ensures each { KeepsEachHook self.old.board self.new.board }
     {
         let gone = self.finished(write);
         self.board.sound();

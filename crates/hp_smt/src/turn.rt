@@ -36,7 +36,8 @@ impl<H: Hook> Smt<H> {
     /// - `Board` with what the machine's turn did elsewhere.
     /// - `NoMemory` where memory was wanting for a first event or for the begin of a walk.
     ///
-    /// Where nothing was made nothing has changed, the ask neither. After `cpu_smt_allowed` of `kernel/cpu.c`.
+    /// Where nothing was made nothing has changed, the ask neither. After `cpu_smt_allowed` of `kernel/cpu.c`, which
+    /// denies a target below online too; in later releases of 6.1 it is `cpu_bootable`.
     pub fn turn(&mut self, by: u32, ask: &mut Ask<H>) -> Result<SmtTurn, NoMemory>
         requires allowed { MayAsk self.old.board by ask.old.op }
         requires hook { HasItsHook self.old.board by ask.old.op ask.old.hook }

@@ -105,10 +105,10 @@ not_true : (b : Bool) → not b ≡ true → b ≡ false
 not_true true h = absurd (true≢false (sym h))
 not_true false h = refl
 
-kept_denied : (head : Head) (n : ℕ) (ops : List (List Op)) (want : Control) (i : ℕ) (op : Op) (at : SmtState) →
+kept_denied : (head : Head) (n : ℕ) (ops : List (List Op)) (want : Control) (seat i : ℕ) (op : Op) (at : SmtState) →
     Kept head ops want at → unanswered ops at.run.answers i ≡ Some op →
-    is_denied_by at.run.events n at.setting.mode (length (present head) + i) op ≡ true → Kept head ops want (without i at)
-kept_denied head n ops want i op at g u denied =
+    is_denied_by at.run.events n at.setting.mode (length (present head) + i) op ≡ true → Kept head ops want (without seat i at)
+kept_denied head n ops want seat i op at g u denied =
     let k = length (present head) + i in
     let xs = at.run.events in
     let own = op_of_write at.setting.write in
@@ -166,9 +166,9 @@ kept_asking head n ops want k i at fits g is (Some op) u = go (is_denied_by at.r
   where
     go : (b : Bool) → is_denied_by at.run.events n at.setting.mode k op ≡ b →
         Kept head ops want
-        (cond b (without i at)
+        (cond b (without k i at)
         (with_run at (after_event i (next_event head at.run.events k op) (is_full head at.run.events k op) at.run)))
     go true e =
-        kept_denied head n ops want i op at g u
+        kept_denied head n ops want k i op at g u
         (subst (λ z. is_denied_by at.run.events n at.setting.mode z op ≡ true) is e)
     go false e = kept_asked head ops want k i op at fits g is u

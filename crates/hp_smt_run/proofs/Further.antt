@@ -58,7 +58,7 @@ asking_far head n k i (Some op) at = go (is_denied_by at.run.events n at.setting
     go : (b : Bool) →
         reach at
         ≤ reach
-        (cond b (without i at)
+        (cond b (without k i at)
         (with_run at (after_event i (next_event head at.run.events k op) (is_full head at.run.events k op) at.run)))
     go true = let s = sum_more i at.run.answers in omega (arith, s)
     go false =
@@ -137,9 +137,9 @@ asking_or head n ops k i at long (Some op) u = go (is_denied_by at.run.events n 
     go : (b : Bool) →
         (reach at
         < reach
-        (cond b (without i at)
+        (cond b (without k i at)
         (with_run at (after_event i (next_event head at.run.events k op) (is_full head at.run.events k op) at.run))))
-        ⊎ (cond b (without i at)
+        ⊎ (cond b (without k i at)
         (with_run at (after_event i (next_event head at.run.events k op) (is_full head at.run.events k op) at.run))
         ≡ at)
     go true = let s = sum_counted i at.run.answers below in inl (omega (arith, s))

@@ -342,13 +342,13 @@ turn_kept head n ops want at k fits g = go (ltb k P) refl
     go true e = kept_entry head ops want k at g (due_entry head at.run.events k) refl
     go false e = by_actor e (ltb k (P + A)) refl
 
-turns_kept : (head : Head) (n : ℕ) (ops : List (List Op)) (want : Control) (seats : List ℕ) (at : SmtState) → Fits head ops →
+pub turns_kept : (head : Head) (n : ℕ) (ops : List (List Op)) (want : Control) (seats : List ℕ) (at : SmtState) → Fits head ops →
     Kept head ops want at → Kept head ops want (fold (smt_turn head n ops want) at seats)
 turns_kept head n ops want [] at fits g = g
 turns_kept head n ops want (k ∷ ks) at fits g =
     turns_kept head n ops want ks (smt_turn head n ops want at k) fits (turn_kept head n ops want at k fits g)
 
-start_kept : (head : Head) (ops : List (List Op)) (want : Control) → Fits head ops → Kept head ops want (smt_start head ops)
+pub start_kept : (head : Head) (ops : List (List Op)) (want : Control) → Fits head ops → Kept head ops want (smt_start head ops)
 start_kept head ops want fits = record {
   going = start_beside head ops fits.script fits.seats;
   long = length-replicate (length ops) 0;

@@ -12,3 +12,5 @@ pub mod Stepped
 pub mod MayWrite
 pub mod Started
 pub mod Resting
+pub mod Ending
+pub mod HooksTurned

@@ -110,11 +110,11 @@ denied_or head n ops want at long (suc m) few = go (denied_or head n ops want at
       seat = P + m;
       is_seat = omega (arith, few);
       up =
-          let is : smt_turn head n ops want at (P + m) ≡ without m at =
+          let is : smt_turn head n ops want at (P + m) ≡ without (P + m) m at =
           actor_is head n ops want at (P + m) m refl (omega (arith, few))
           ∙ (ap (λ o. after_asking head n (P + m) m o at) u
           ∙ ap (λ b.
-          cond b (without m at)
+          cond b (without (P + m) m at)
           (with_run at (after_event m (next_event head at.run.events (P + m) op) (is_full head at.run.events (P + m) op) at.run)))
           d) in
           let s = sum_counted m at.run.answers (omega (arith, few, long)) in

@@ -105,7 +105,7 @@ turn_is head n ops want k at none below = go (ltb k P) refl
         asked i None u = refl
         asked i (Some op) u =
             ap (λ b.
-            cond b (without (k - P) at)
+            cond b (without k (k - P) at)
             (with_run at (after_event (k - P) (next_event head at.run.events k op) (is_full head at.run.events k op) at.run)))
             (ap (λ z. is_denied_by at.run.events n at.setting.mode z op) i ∙ none (k - P) op (omega (arith, i, below)) u)
 

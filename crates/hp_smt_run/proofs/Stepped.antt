@@ -66,10 +66,10 @@ not_true false h = refl
 
 -- one that is denied
 pub stepped_denied : {H : Type 0} (seen : H → Counts) (k : ℕ) (old new : Controlled) (actor now : Actor H) (ask ask_now : Ask H) (place : Option ℕ)
-    (answer : Answer) (r : SmtTurn) (d e : ℕ) → Asks k old actor ask → r ≡ Denied → IsSmtTurn k ask.op old new r →
-    LeavesHook seen k old ask ask_now r → now ≡ noted (with_ask actor ask_now) (Answered place answer) → e ≡ d + 1 →
+    (answer : Answer) (r : SmtTurn) (d e : List ℕ) → Asks k old actor ask → r ≡ Denied → IsSmtTurn k ask.op old new r →
+    LeavesHook seen k old ask ask_now r → now ≡ noted (with_ask actor ask_now) (Answered place answer) → e ≡ d ++ k ∷ [] →
     IsStepped k old new actor now d e
-stepped_denied {H} seen k old new actor now ask ask_now place answer r d e a is turn leaves now_is count = inl (record {
+stepped_denied {H} seen k old new actor now ask ask_now place answer r d e a is turn leaves now_is noted_is = inl (record {
   op = ask.op;
   asked_is = ap (option_map op_of) a.at;
   denied = t.1;
@@ -83,7 +83,7 @@ stepped_denied {H} seen k old new actor now ask ask_now place answer r d e a is 
   kept =
       ap (λ (z : Controlled). hook_count z.board.places + hooks_with now) t.0
       ∙ ap (λ (z : List (Ask H)). hook_count old.board.places + sum_by (λ x. held (is_some x.hook)) z) asks;
-  count_is = count;
+  denied_are = noted_is;
 })
   where
     t : (new ≡ old) × (is_denied old k ask.op ≡ true)
@@ -105,7 +105,7 @@ stepped_denied {H} seen k old new actor now ask ask_now place answer r d e a is 
 
 -- one that isn't
 pub stepped_board : {H : Type 0} (seen : H → Counts) (k : ℕ) (old new : Controlled) (actor now : Actor H) (ask ask_now : Ask H) (r : SmtTurn) (t : Turn)
-    (d : ℕ) → Asks k old actor ask → r ≡ Board t → IsSmtTurn k ask.op old new r → ask_now.op ≡ ask.op →
+    (d : List ℕ) → Asks k old actor ask → r ≡ Board t → IsSmtTurn k ask.op old new r → ask_now.op ≡ ask.op →
     LeavesHook seen k old ask ask_now r → HasHookAgain k new ask ask_now r → now ≡ noted (with_ask actor ask_now) t →
     IsStepped k old new actor now d d
 stepped_board {H} seen k old new actor now ask ask_now r t d a is turn op leaves again now_is =
@@ -125,7 +125,7 @@ stepped_board {H} seen k old new actor now ask ask_now r t d a is turn op leaves
       ops_are = made.ops_are;
       hook = made.hook;
       kept = made.kept;
-      count_is = refl;
+      denied_are = refl;
     })
 
 -- ---- what may be asked for

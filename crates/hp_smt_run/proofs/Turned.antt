@@ -118,15 +118,15 @@ asking_let head n k i None at through =
     ap (λ es. with_run at (record { events = es; answers = at.run.answers })) (sym (append-nil at.run.events))
 asking_let head n k i (Some op) at through =
     ap (λ b.
-    cond b (without i at)
+    cond b (without k i at)
     (with_run at (after_event i (next_event head at.run.events k op) (is_full head at.run.events k op) at.run))) (through op refl)
     ∙ ap (with_run at) (event_is i (next_event head at.run.events k op) (is_full head at.run.events k op) at.run)
 
 asking_denied : (head : Head) (n k i : ℕ) (op : Op) (at : SmtState) → is_denied_by at.run.events n at.setting.mode k op ≡ true →
-    after_asking head n k i (Some op) at ≡ without i at
+    after_asking head n k i (Some op) at ≡ without k i at
 asking_denied head n k i op at denied =
     ap (λ b.
-    cond b (without i at)
+    cond b (without k i at)
     (with_run at (after_event i (next_event head at.run.events k op) (is_full head at.run.events k op) at.run))) denied
 
 -- what an actor's turn leaves of the run
@@ -136,7 +136,7 @@ pub record IsActorsTurn {H : Type 0} (i : ℕ) (old new : SmtRun H) (actor now :
   pub seats_are : new.seats ≡ old.seats
   pub want_is : new.want ≡ old.want
   pub written_are : new.written.items ≡ old.written.items
-  pub stepped : IsStepped (old.seats + i) old.smt new.smt actor now (length old.denied.items) (length new.denied.items)
+  pub stepped : IsStepped (old.seats + i) old.smt new.smt actor now old.denied.items new.denied.items
 
 pub actor_turned : {H : Type 0} (i : ℕ) (old new : SmtRun H) (actor now : Actor H) → IsPlaying old → IsActorsTurn i old new actor now →
     SiblingsAreOff new.smt.threads (state_of new) → IsTurned (old.seats + i) old new
@@ -182,13 +182,13 @@ actor_turned {H} i old new actor now p t off = go t.stepped
         hooks_in new.smt.board.places new.actors.items ≡ hooks_in old.smt.board.places old.actors.items
     held h = ap (hooks_in new.smt.board.places) t.actors_are ∙ h
 
-    go : IsStepped k old.smt new.smt actor now (length old.denied.items) (length new.denied.items) → IsTurned k old new
+    go : IsStepped k old.smt new.smt actor now old.denied.items new.denied.items → IsTurned k old new
     go (inl d) =
         let board : new.smt.board ≡ old.smt.board = ap (λ (z : Controlled). z.board) d.same in
         let events : new.smt.board.events ≡ xs = ap (λ (z : Controlled). z.board.events) d.same in
         let answers = ap (map answered_of) t.actors_are ∙ answers_are old.actors.items i actor now true t.at d.answered_is in
-        let state : state_of new ≡ without i (state_of old) =
-        rw (d.same, answers, t.written_are, d.count_is) refl in
+        let state : state_of new ≡ without k i (state_of old) =
+        rw (d.same, answers, t.written_are, d.denied_are) refl in
         turned_by k old new p t.seats_are
         (setups d.ops_are (ap (λ (b : Contents). b.head) board) (ap (λ (z : Controlled). z.threads) d.same))
         (state
@@ -208,7 +208,7 @@ actor_turned {H} i old new actor now p t off = go t.stepped
           events = xs ++ option_to_list (event_for head xs k (asked actor));
           answers = counted i b (map answered_of old.actors.items);
         }) =
-        rw (setting, d.events_are, answers, t.written_are, d.count_is) refl in
+        rw (setting, d.events_are, answers, t.written_are, d.denied_are) refl in
         turned_by k old new p t.seats_are (setups d.ops_are d.head_is threads)
         (state ∙ sym (turn_is ∙ asking_let head old.smt.threads k i (asked actor) (state_of old) d.let_through))
         (hooks (asked_grows head xs new.smt.board.events k (asked actor) d.events_are) d.hook)

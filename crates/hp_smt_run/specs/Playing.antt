@@ -50,7 +50,7 @@ state_of run =
       run = run_of run;
       setting = run.smt.setting;
       written = map written_as run.written.items;
-      denied = length run.denied.items;
+      denied = run.denied.items;
     }
 
 -- Its script can be played, and there is a seat more; turns made it; each operation that comes next has its hook where the machine wants

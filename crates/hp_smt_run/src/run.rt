@@ -1,10 +1,12 @@
 //! The run of a script under SMT control, from its start to its end.
 
-ghost use Rattle.std.specs.Prelude.{◌≡◌, ◌+◌, ◌≤◌, IfOk, OnOk, length, sum_by};
+ghost use Rattle.std.specs.Prelude.{◌≡◌, ◌+◌, ◌≤◌, IfOk, OnOk, length, map, sum_by};
 ghost use Rattle.hp_model.specs.Processors.{present};
 ghost use Rattle.hp_model.specs.Scripts.{IsScript};
 ghost use Rattle.hp_script.specs.Playable.{setups_in};
 ghost use Rattle.hp_states.specs.declared.limits.TheConstants.{MAX_SEATS};
+ghost use Rattle.hp_actors.specs.Hooks.{OneForEachSetup, AreDealtFrom, hooks_among};
+ghost use Rattle.hp_actors.specs.Positions.{hooks_of};
 ghost use Rattle.hp_actors.specs.Racks.{TakesLast};
 ghost use Rattle.hp_smt.specs.Run.{smt_start};
 ghost use Rattle.hp_smt_run.specs.Playing.{IsPlaying, setup, setup_of, state_of};
@@ -31,7 +33,7 @@ pub struct SmtRun<H: Hook> {
     pub want: Control,
     /// The writes that are answered.
     pub written: Vec<Written>,
-    /// The seats whose operations were denied, for each of them.
+    /// Of each operation that was denied its seat, in the order of turns.
     pub denied: Vec<u32>,
 }
 
@@ -58,6 +60,8 @@ impl<H: Hook> SmtRun<H> {
         ensures of_script { IfOk result (λ run. setup_of run ≡ setup script.now.head threads script.now.actors want) }
         ensures started { IfOk result (λ run. state_of run ≡ smt_start script.now.head script.now.actors) }
         ensures rack { OnOk result (TakesLast rack.old rack.new (sum_by setups_in script.now.actors)) }
+        ensures loaded { IfOk result (λ run. OneForEachSetup script.now.actors (map (hooks_of H.counts) run.actors.items)) }
+        ensures hooks { IfOk result (λ run. AreDealtFrom H.counts rack.old rack.new (hooks_among H.counts run.actors.items)) }
     {
         let actors = actors_of(alloc, script, rack)?;
         let board = seated_board(alloc, script.head(), script.actors() + 1)?;

@@ -4,6 +4,7 @@ ghost use Rattle.std.specs.Prelude.{◌≡◌, OnOk, None, length};
 ghost use Rattle.hp_actors.specs.RunInvariant.{HasHook, MayAskNext};
 ghost use Rattle.hp_smt.specs.Writes.{write_by};
 ghost use Rattle.hp_smt_run.specs.Asked.{IsStepped};
+ghost use Rattle.hp_smt_run.specs.Hooks.{HasHooksUnder};
 
 use hp_actors::Actor;
 use hp_board::Turn;
@@ -19,7 +20,7 @@ const DENIED: Turn = Turn::Answered {
 };
 
 /// One turn of an actor's seat: a turn of the machine under SMT control for its first operation that isn't answered, and
-/// nothing where all are. One that is denied has ended, and its seat is noted.
+/// nothing where all are. One that is denied has ended, and its seat is noted. The other operations keep their hooks.
 ///
 /// Takes memory as the machine's turn does, and for what is noted.
 pub(crate) fn step<H: Hook>(
@@ -31,7 +32,8 @@ pub(crate) fn step<H: Hook>(
     requires allowed { MayAskNext smt.old.board seat actor.old }
     requires hook { HasHook smt.old.board.events seat actor.old }
     requires no_write { write_by seat smt.old.setting.write ≡ None }
-    ensures { OnOk result (IsStepped seat smt.old smt.new actor.old actor.new (length denied.old.items) (length denied.new.items)) }
+    ensures stepped { OnOk result (IsStepped seat smt.old smt.new actor.old actor.new denied.old.items denied.new.items) }
+    ensures hooks { OnOk result (HasHooksUnder H.counts smt.old seat actor.old actor.new) }
 {
     smt.sound();
     smt.board().sound();

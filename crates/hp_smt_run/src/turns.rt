@@ -2,6 +2,7 @@
 
 ghost use Rattle.std.specs.Prelude.{◌≡◌, ◌+◌, ◌<◌, OnOk, length, slice_get};
 ghost use Rattle.hp_smt.specs.Run.{writes};
+ghost use Rattle.hp_smt_run.specs.Hooks.{IsMadeLater, TurnsHooks};
 ghost use Rattle.hp_smt_run.specs.Playing.{IsPlaying, IsTurned, IsRounded};
 
 use crate::run::SmtRun;
@@ -19,7 +20,8 @@ impl<H: Hook> SmtRun<H> {
     /// Takes memory as turns do.
     pub(crate) fn round(&mut self, alloc: Global) -> Result<(), NoMemory>
         requires { IsPlaying self.old }
-        ensures { OnOk result (IsRounded self.old self.new) }
+        ensures rounded { OnOk result (IsRounded self.old self.new) }
+        ensures made { OnOk result (IsMadeLater H.counts self.old self.new) }
     {
         self.smt.sound();
         for seat in 0..self.seats {
@@ -35,7 +37,8 @@ impl<H: Hook> SmtRun<H> {
     fn serve(&mut self, seat: u32)
         requires playing { IsPlaying self.old }
         requires thread { seat < self.old.seats }
-        ensures { IsTurned seat self.old self.new }
+        ensures turned { IsTurned seat self.old self.new }
+        ensures hooks { TurnsHooks H.counts seat self.old self.new }
     {
         self.smt.sound();
         self.smt.serve(seat);
@@ -48,7 +51,8 @@ impl<H: Hook> SmtRun<H> {
     fn ask(&mut self, place: usize) -> Result<(), NoMemory>
         requires playing { IsPlaying self.old }
         requires actor { place < length self.old.actors.items }
-        ensures { OnOk result (IsTurned (self.old.seats + place) self.old self.new) }
+        ensures turned { OnOk result (IsTurned (self.old.seats + place) self.old self.new) }
+        ensures hooks { OnOk result (TurnsHooks H.counts (self.old.seats + place) self.old self.new) }
     {
         let seat = self.seats + place as u32;
         step(
@@ -66,7 +70,8 @@ impl<H: Hook> SmtRun<H> {
     /// Takes memory as a write of control does, and for what is answered.
     fn write(&mut self, alloc: Global) -> Result<(), NoMemory>
         requires { IsPlaying self.old }
-        ensures { OnOk result (IsTurned (self.old.seats + length self.old.actors.items) self.old self.new) }
+        ensures turned { OnOk result (IsTurned (self.old.seats + length self.old.actors.items) self.old self.new) }
+        ensures hooks { OnOk result (TurnsHooks H.counts (self.old.seats + length self.old.actors.items) self.old self.new) }
     {
         self.smt.sound();
         let Some(want) = self.next_write() else {

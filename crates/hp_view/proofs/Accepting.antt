@@ -12,7 +12,7 @@ use Rattle.hp_replay.specs.Verdict.{IsReplay}
 use Rattle.hp_replay.proofs.VerdictLaws.{one_outcome}
 use Rattle.hp_view.specs.declared.asked.Asked.{Asked}
 use Rattle.hp_view.specs.Options.{IsAsked}
-use Rattle.hp_view.specs.Chosen.{IsChosen, HasNone}
+use Rattle.hp_view.specs.Chosen.{IsChosen}
 use Rattle.hp_view.specs.Main.{Asks, HoldsWindow, IsBadWindow, IsBadJournal}
 use Rattle.hp_view.proofs.OptionLaws.{same_asked}
 

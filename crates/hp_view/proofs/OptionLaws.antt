@@ -1,13 +1,13 @@
 -- The words of options ask for one window at most, and a number begins with a digit.
-use Rattle.std.proofs.Common.{◌≡◌, ℕ, ◌<◌, ◌^◌, decimal, Option, Some, None, IfNone, List, refl, sym, ap, subst, ◌∙◌}
+use Rattle.std.proofs.Common.{◌≡◌, ℕ, Option, Some, None, IfNone, List, refl, sym, ap, subst, ◌∙◌}
 use Rattle.std.proofs.lemmas.Fmt.{decimal_injective}
 use Rattle.std.specs.Option.{option_copied}
-use Rattle.hp_command.specs.Options.{BeginsPlain, Says as SaysOr}
+use Rattle.hp_command.specs.Options.{BeginsPlain}
 use Rattle.hp_command.proofs.OptionLaws.{number_begins}
 use Rattle.hp_command.proofs.Reading.{Word}
 use Rattle.hp_view.specs.declared.asked.Asked.{Asked}
 use Rattle.hp_view.specs.declared.texts.Texts.{Texts}
-use Rattle.hp_view.specs.Options.{AreWordsOfBoth, Says, IsAsked, AsksNothing}
+use Rattle.hp_view.specs.Options.{Says, IsAsked, AsksNothing}
 use Rattle.hp_view.specs.TextsFound.{AreTextsIn, SayNothing}
 use Rattle.hp_view.proofs.Reading.{same_texts}
 

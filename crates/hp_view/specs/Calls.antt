@@ -3,6 +3,7 @@ use Rattle.std.specs.Prelude.{◌≡◌, ℕ, ◌+◌, ◌⊎◌, Option, List, 
 use Rattle.hp_io.specs.declared.source.Source as Source
 use Rattle.hp_io.specs.declared.sink.Sink as Sink
 use Rattle.hp_edge.specs.declared.status.TheConstants.{DONE, NO_MEMORY}
+use Rattle.hp_command.specs.Options.{CanBeOptions}
 use Rattle.hp_view.specs.declared.asked.Asked.{Asked}
 use Rattle.hp_view.specs.Options.{IsAsked}
 use Rattle.hp_view.specs.Main.{Answer, Asks, HoldsWindow, Writes, WritesPart}
@@ -53,3 +54,7 @@ EndsUnread c =
 abbrev pub EndsHalfWritten : Call → Type 0
 EndsHalfWritten c =
     (c.write_faults_now ≡ c.write_faults + 1) × WritesPart c.words c.left c.left_now c.taken c.taken_now
+
+-- memory was wanting for words that can be options, as all that ask for a window can, and nothing was written
+abbrev pub EndsWanting : Call → Type 0
+EndsWanting c = CanBeOptions c.words × (c.taken_now ≡ c.taken)

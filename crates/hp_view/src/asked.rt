@@ -1,6 +1,7 @@
 //! What the words of the command line ask for.
 
-ghost use Rattle.std.specs.Prelude.{IfOk, IfSome, IfNone, map, string_bytes};
+ghost use Rattle.std.specs.Prelude.{IfOk, IfErr, IfSome, IfNone, map, string_bytes};
+ghost use Rattle.hp_command.specs.Options.{CanBeOptions};
 ghost use Rattle.hp_view.specs.Options.{AsksNothing, IsAsked};
 ghost use Rattle.hp_view.specs.TextsFound.{SayAsked, SayNothing};
 
@@ -60,10 +61,12 @@ fn said_by(texts: &Texts<'_>) -> Option<Asked>
 /// N and M are decimal digits of a number below 2 ^ 64, without a sign and without a zero before others. All other words ask for nothing,
 /// `--help` too, and so does a list with a word that is exactly `--`. This is the project's own.
 ///
-/// Takes memory for the options, which `clap` reads; where there is none: `NoMemory`.
+/// Takes memory for the options, which `clap` reads, of words that can be those of two options; where there is none:
+/// `NoMemory`.
 pub fn asked_of(alloc: Global, words: &[String]) -> Result<Option<Asked>, NoMemory>
     ensures some { IfOk result (λ found. IfSome found (IsAsked (map string_bytes words.now))) }
     ensures none { IfOk result (λ found. IfNone found (AsksNothing (map string_bytes words.now))) }
+    ensures no_memory { IfErr result (λ _. CanBeOptions (map string_bytes words.now)) }
 {
     match texts_of(alloc, words)? {
         Some(texts) => Ok(said_by(&texts)),

@@ -2,7 +2,7 @@
 
 ghost use Rattle.std.specs.Prelude.{◌≡◌, ◌≢◌, ◌<◌, ◌≤◌};
 ghost use Rattle.hp_view.specs.Main.{Answer};
-ghost use Rattle.hp_view.specs.Calls.{call, IsDoneIfFine, EndsWith, EndsUnread, EndsHalfWritten};
+ghost use Rattle.hp_view.specs.Calls.{call, IsDoneIfFine, EndsWith, EndsUnread, EndsHalfWritten, EndsWanting};
 
 use crate::asked::asked_of;
 use crate::show::shown;
@@ -30,7 +30,7 @@ pub const BAD_WINDOW: u8 = 2;
 /// | 2 | exactly where the journal is accepted and has no such window: it doesn't lie within the journal, shows no event though there is one, or shows more than 20,000 | `error: 38400 events: choose a window of at most 20000 with --from and --to` |
 /// | 3 | only where a read failed | nothing |
 /// | 4 | only where a write failed | the first bytes of what was to be written |
-/// | 5 | memory was wanting | nothing |
+/// | 5 | memory was wanting; only where the words can be options: at most four, and none is `--` | nothing |
 /// | 6 | exactly where the journal is refused | its first line that can't stand, and the cause |
 ///
 /// A lawful journal that has the window is never refused: where no read and no write fails the status is 0, or 5. For
@@ -66,7 +66,8 @@ pub fn view_main<S: Source, K: Sink>(
         EndsUnread (call S.Source K.Sink words.now source.old source.new sink.old sink.new) }
     ensures write_fault { result ≡ WRITE_FAULT →
         EndsHalfWritten (call S.Source K.Sink words.now source.old source.new sink.old sink.new) }
-    ensures no_memory { result ≡ NO_MEMORY → K.taken sink.new ≡ K.taken sink.old }
+    ensures no_memory { result ≡ NO_MEMORY →
+        EndsWanting (call S.Source K.Sink words.now source.old source.new sink.old sink.new) }
     ensures source_faults { result ≢ READ_FAULT → S.faults source.new ≡ S.faults source.old }
     ensures sink_faults { result ≢ WRITE_FAULT → K.faults sink.new ≡ K.faults sink.old }
 {

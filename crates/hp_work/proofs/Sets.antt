@@ -1,5 +1,5 @@
 -- Which processors are in a set, by number: what a place says after a number was put into the set, or taken out; and the lowest.
-use Rattle.std.proofs.Common.{◌≡◌, ◌≢◌, ◌⊎◌, inl, inr, ℕ, zero, suc, ◌+◌, ◌<◌, Bool, true, false, not, cond, eqb, ltb, ◌&&◌, ◌||◌, List, [], ◌∷◌, length, get_or, replicate, refl, ap, sym, ◌∙◌, arith}
+use Rattle.std.proofs.Common.{◌≡◌, ◌≢◌, ◌⊎◌, inl, inr, ℕ, zero, suc, ◌+◌, ◌<◌, ◌≤◌, Bool, true, false, not, cond, eqb, ltb, ◌&&◌, ◌||◌, List, [], ◌∷◌, length, get_or, replicate, refl, ap, sym, ◌∙◌, arith}
 use Rattle.std.specs.Prelude.{Option, Some, None, IfSome, IfNone}
 use Rattle.std.proofs.Math.ListN.{set}
 use Rattle.std.proofs.lemmas.List.{length-set, length-replicate, ext_get_or, get_or-replicate, get_or_past, get_or-set_same, get_or-set_other}
@@ -20,6 +20,9 @@ length-places s = length-map-range_with_len (has s) 0 MAX_CPU_SET
 pub place_is : (s : CpuSet) (c : ℕ) → c < MAX_CPU_SET → get_or (places s) c false ≡ has s c
 unfolding places
 place_is s c h = get_or-map-range_with_len (has s) 0 MAX_CPU_SET c c false h (omega arith)
+
+pub place_past : (s : CpuSet) (c : ℕ) → MAX_CPU_SET ≤ c → get_or (places s) c false ≡ false
+place_past s c h = get_or_past (places s) c false (let l = length-places s in omega (arith, l, h))
 
 -- a set with one number more, or without one
 module _ (s z : CpuSet) (c : ℕ) (b : Bool) (h : c < MAX_CPU_SET) (same : (k : ℕ) → k ≢ c → has z k ≡ has s k) (here : has z c ≡ b) where
@@ -80,7 +83,7 @@ place_false s c h = go (ltb c MAX_CPU_SET) refl
   where
     go : (b : Bool) → ltb c MAX_CPU_SET ≡ b → get_or (places s) c false ≡ false
     go true e = place_is s c (ltb-true c MAX_CPU_SET e) ∙ h
-    go false e = get_or_past (places s) c false (let l = length-places s in let m = ltb-false c MAX_CPU_SET e in omega (arith, l, m))
+    go false e = place_past s c (ltb-false c MAX_CPU_SET e)
 
 -- what a set answers as its lowest is the lowest place that says so
 pub lowest_of : (s : CpuSet) (r : Option ℕ) → IfSome r (λ n. IsLowestFrom s 0 n) → IfNone r (HasNoneFrom s 0) → lowest_from 0 (places s) ≡ r

@@ -16,7 +16,7 @@ use crate::chains::{Chains, UNBOUND};
 use crate::drain::{Drain, drain_of};
 use crate::limits::{LAST_FOLLOWED, MAX_ITEMS};
 use hp_event::{Event, How};
-use hp_states::{CpuSet, Dir, NoMemory};
+use hp_states::{CpuSet, Dir, MAX_CPU_SET, NoMemory};
 use std::alloc::Global;
 use std::marker::Model;
 use std::thread::Threads;
@@ -58,7 +58,7 @@ impl Model for Queues {
 impl Queues {
     /// Queues that follow the callbacks of a state without instances: no item was put, and no processor is open.
     ///
-    /// The state is 1 to `LAST_FOLLOWED`. Takes memory for `MAX_ITEMS` items, so that no later call but `drain` takes any;
+    /// The state is 1 to `LAST_FOLLOWED`. Takes memory for `MAX_ITEMS` items, so that no later call of these queues but `drain` takes any;
     /// where there is none: `NoMemory`. After `init_worker_pool` of `kernel/workqueue.c`.
     pub fn new(alloc: Global, state: u32) -> Result<Queues, NoMemory>
         requires { (1 ≤ state) × (state ≤ LAST_FOLLOWED) }
@@ -182,12 +182,13 @@ impl Queues {
         self.ran.as_slice()
     }
 
-    /// Whether a processor, which is at most 255, is open. Takes no memory. This project's own.
+    /// Whether a processor is open. Any number may be asked for: one above 255 is no processor's, and isn't open.
+    ///
+    /// Takes no memory. This project's own.
     pub fn is_open(&self, cpu: u32) -> bool
-        requires { cpu < MAX_CPU_SET_OF }
         ensures { result ≡ is_open self.now cpu }
     {
-        self.opened.has(cpu)
+        cpu < MAX_CPU_SET && self.opened.has(cpu)
     }
 
     /// The lowest open processor whose number is at least `from`. None where there is none.

@@ -98,6 +98,21 @@ fn an_unbound_list_is_drained(rt: HostRuntime) -> Result<(), Fail> {
     Ok(())
 }
 
+/// No number above 255 is a processor's, and none is open.
+#[test]
+fn a_number_above_255_is_not_open(rt: HostRuntime) -> Result<(), Fail> {
+    let mut queues = Queues::new(rt.alloc(), 120)?;
+    for cpu in [0u32, 255] {
+        assert!(&rt; cpu < 256 && !queues.is_open(cpu));
+        queues.follow(&entry(cpu, Dir::Up));
+        assert!(&rt; queues.is_open(cpu));
+    }
+    for cpu in [256u32, 257, 511, u32::MAX] {
+        assert!(&rt; !queues.is_open(cpu), "{cpu}");
+    }
+    Ok(())
+}
+
 /// 4,096 items can be put, and no more, though all have run.
 #[test]
 fn one_item_too_many(rt: HostRuntime) -> Result<(), Fail> {
@@ -113,16 +128,16 @@ fn one_item_too_many(rt: HostRuntime) -> Result<(), Fail> {
     Ok(())
 }
 
-/// Eight queues are drained, each by a job of its own.
+/// Nine queues are drained, each by a job of its own.
 #[test]
-fn eight_queues_are_drained(rt: HostRuntime) -> Result<(), Fail> {
+fn nine_queues_are_drained(rt: HostRuntime) -> Result<(), Fail> {
     let mut queues = Queues::new(rt.alloc(), 120)?;
-    for cpu in 0..8u32 {
+    for cpu in 0..9u32 {
         queues.follow(&entry(cpu, Dir::Up));
         assert!(&rt; puts(&mut queues, cpu, 2 * cpu, 2));
     }
     let drain = queues.drain(&rt)?;
-    let wanted: [(u32, &[u32]); 8] = [
+    let wanted: [(u32, &[u32]); 9] = [
         (0, &[0, 1]),
         (1, &[2, 3]),
         (2, &[4, 5]),
@@ -131,6 +146,7 @@ fn eight_queues_are_drained(rt: HostRuntime) -> Result<(), Fail> {
         (5, &[10, 11]),
         (6, &[12, 13]),
         (7, &[14, 15]),
+        (8, &[16, 17]),
     ];
     assert!(&rt; holds(&drain, &wanted, &[]));
     Ok(())

@@ -43,10 +43,18 @@ pub returns-in_err-options-clause-no_memory : goal.returns-in_err-options-clause
 returns-in_err-options-clause-no_memory c =
     let word : c.as_str-word.result.now ≡ codes "gen" = (slice_eq-Decides Decides-eqb _ _ c.eq.result c.eq.ensures).0 c.if-eq.true in
     let all : map string_bytes c.args.words.now ≡ codes "gen" ∷ map string_bytes c.in-Some.rest.now = search rules in
-    err_by c.from_residual.result (record { rest = map string_bytes c.in-Some.rest.now; begins = inl all })
+    err_by c.from_residual.result (record {
+      rest = map string_bytes c.in-Some.rest.now;
+      begins = inl all;
+      can_be = c.in_err-options.ensures.no_memory;
+    })
 
 pub returns-in_err-options-2-clause-no_memory : goal.returns-in_err-options-2-clause-no_memory
 returns-in_err-options-2-clause-no_memory c =
     let word : c.as_str-word.result.now ≡ codes "bench" = (slice_eq-Decides Decides-eqb _ _ c.eq-2.result c.eq-2.ensures).0 c.if-eq-2.true in
     let all : map string_bytes c.args.words.now ≡ codes "bench" ∷ map string_bytes c.in-Some.rest.now = search rules in
-    err_by c.from_residual-in_err-options-2.result (record { rest = map string_bytes c.in-Some.rest.now; begins = inr all })
+    err_by c.from_residual-in_err-options-2.result (record {
+      rest = map string_bytes c.in-Some.rest.now;
+      begins = inr all;
+      can_be = c.in_err-options-2.ensures.no_memory;
+    })

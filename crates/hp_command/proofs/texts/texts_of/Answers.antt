@@ -13,12 +13,12 @@ use Rattle.hp_command.proofs.Reading.{Word}
 use Rattle.hp_command.proofs.ClapRules.{app, given, quiet, seed, size, is_free}
 use Rattle.hp_command.proofs.ClapWalk.{has_dashes}
 use Rattle.hp_command.proofs.ClapReads.{AreRead, clap_reads}
-use Rattle.hp_command.proofs.ClapTakes.{no_dashes, no_fault, only_memory}
+use Rattle.hp_command.proofs.ClapTakes.{can_be, no_fault, only_memory}
 use Rattle.hp_command.proofs.texts.texts_of.Goals as goal
 
-pub returns-then-ends_options-clause-none : goal.returns-then-ends_options-clause-none
-returns-then-ends_options-clause-none c s z h ps pz =
-    let clear : has_dashes (map string_bytes c.args.words.now) ≡ false = no_dashes _ s z h ps pz in cc
+pub returns-then-not-can_be_options-clause-none : goal.returns-then-not-can_be_options-clause-none
+returns-then-not-can_be_options-clause-none c s z h ps pz =
+    let can : c.can_be_options.result ≡ true = c.can_be_options.ensures.1 (can_be _ s z h ps pz) in cc
 
 -- the texts that the rows have are those that the matches give
 read_of : (words : List Word) (rows : List Row) (f : Found) (s z : Option Word) → AreRead words rows → rows_of f ≡ rows →
@@ -37,7 +37,7 @@ returns-in-Ok-clause-some c =
     ap app_of_fields c.disable_help_flag.ensures ∙ ap (λ f. app_of_fields (record f { disable_help_flag = true })) c.no_binary_name.ensures in
     let parser_is : app_of c.in_ok-parser.parser ≡ app = c.in_ok-parser.ensures.shape (search rules)
     ∙ ap₂ with_rule (c.in_ok-arg.ensures.shape (search rules) ∙ ap₂ with_rule (base ∙ ap quiet c.new.ensures.app) seed_is) size_is in
-    let clear : has_dashes words ≡ false = sym c.ends_options.ensures ∙ c.if-ends_options.false in
+    let clear : has_dashes words ≡ false = (c.can_be_options.ensures.0 c.if-not-can_be_options.false).none_ends in
     let none : fault_of app words ≡ [] = subst (λ (a : App). fault_of a words ≡ []) parser_is (c.in-Ok.ensures.kinds (ap is_simple_and_free parser_is ∙ is_free)) in
     let rows : rows_of (found_of c.in-Ok.matches) ≡ matches_of app words =
     (c.in-Ok.ensures.matches (ap is_simple parser_is)).0 ∙ ap (λ (a : App). matches_of a words) parser_is in
@@ -56,5 +56,6 @@ returns c =
     (c.in-Err.ensures.kinds (ap is_simple_and_free parser_is ∙ is_free)) in
     record {
       some = tt;
+      no_memory = tt;
       none = λ s z h ps pz. c.in_default.not-OutOfMemory (c.kind.ensures ∙ only_memory _ c.in-Err.error (no_fault words s z h ps pz) refused);
     }

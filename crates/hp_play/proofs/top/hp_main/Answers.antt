@@ -1,5 +1,5 @@
 -- What is written is an answer, whole or in part.
-use Rattle.std.proofs.Common.{map, string_bytes, length, ap, subst, refl, arith}
+use Rattle.std.proofs.Common.{map, string_bytes, length, inl, ap, subst, refl, arith}
 use Rattle.hp_command.specs.Commands.{IsCommand}
 use Rattle.hp_play.specs.Main.{usage, refusal, bad_journal, usage_line}
 use Rattle.hp_play.specs.Racks.{racks}
@@ -96,3 +96,13 @@ returns-in-Err-BadJournal-clause-accepted g c = λ has source_faults sink_faults
     (no_journal_refusal (map string_bytes c.args.words.now.items) c.in-Ok-Some.command (length c.args.rack.now.hooks.items)
     (g.S.Source.left c.args.source.now) (g.S.Source.left c.output_of.new.source) c.in-Err-BadJournal.line.items has
     (subst (λ z. IsCommand z c.in-Ok-Some.command) (ap (map string_bytes) c.deref.ensures.value) asked) stop.0)
+
+pub returns-in-Err-NoMemory-clause-no_memory : goal.returns-in-Err-NoMemory-clause-no_memory
+returns-in-Err-NoMemory-clause-no_memory g c = λ e.
+    let asked = rw c.in-Ok-Some.field-0-is at c.in-Ok-Some.ensures.some in (
+      inl (
+        c.in-Ok-Some.command,
+        subst (λ z. IsCommand z c.in-Ok-Some.command) (ap (map string_bytes) c.deref.ensures.value) asked,
+      ),
+      refl,
+    )

@@ -3,6 +3,8 @@ use Rattle.std.proofs.Common.{map, string_bytes, ap, subst, refl, arith}
 use Rattle.hp_view.specs.Options.{IsAsked}
 use Rattle.hp_view.specs.Main.{usage, bad_window, bad_journal, usage_line}
 use Rattle.hp_view.proofs.Accepting.{no_bad_journal, no_bad_window}
+use Rattle.hp_view.proofs.ClapTakes.{can_be}
+use Rattle.hp_view.proofs.OptionLaws.{begins}
 use Rattle.hp_view.proofs.Parts.{part_of, nothing_asked}
 use Rattle.hp_view.proofs.top.view_main.Goals as goal
 
@@ -79,3 +81,13 @@ returns-in-Err-BadJournal-clause-accepted g c = λ has source_faults sink_faults
     absurd
     (no_bad_journal (map string_bytes c.args.words.now.items) (g.S.Source.left c.args.source.now)
     (g.S.Source.left c.shown.new.source) c.in-Err-BadJournal.line.items has stop.0)
+
+pub returns-in-Err-NoMemory-clause-no_memory : goal.returns-in-Err-NoMemory-clause-no_memory
+returns-in-Err-NoMemory-clause-no_memory g c = λ e.
+    let asked = rw c.in-Ok-Some.field-0-is at c.in-Ok-Some.ensures.some in
+    let is : IsAsked (map string_bytes c.args.words.now.items) c.in-Ok-Some.asked =
+    subst (λ z. IsAsked z c.in-Ok-Some.asked) (ap (map string_bytes) c.deref.ensures.value) asked in (
+      can_be (map string_bytes c.args.words.now.items) is.start is.stop is.spelled (begins is.start c.in-Ok-Some.asked.start is.start_is)
+          (begins is.stop c.in-Ok-Some.asked.stop is.stop_is),
+      refl,
+    )

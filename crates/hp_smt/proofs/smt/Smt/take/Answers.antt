@@ -4,7 +4,8 @@ use Rattle.hp_board.specs.Turns.{IsTurn}
 use Rattle.hp_event.specs.declared.op.Op.{Op}
 use Rattle.hp_model.specs.Pending.{IsAllowed}
 use Rattle.hp_smt.specs.Contents.{Controlled}
-use Rattle.hp_smt.proofs.OwnHooks.{own_keeps_hooks}
+use Rattle.hp_smt.specs.Hooks.{KeepsEachHook}
+use Rattle.hp_smt.proofs.OwnHooks.{own_keeps_hooks, own_keeps_each}
 use Rattle.hp_smt.proofs.Taking.{ready, ready_allowed, take_sound, take_gone}
 use Rattle.hp_smt.proofs.smt.Smt.take.Goals as goal
 
@@ -46,6 +47,18 @@ returns-clause-hooks g c =
     subst (λ (s : Controlled). HasAsManyHooks s.board c.turn.new.self) c.self.view_is
     (own_keeps_hooks z.board c.turn.new.self w.seat w.want c.args.cpu c.in_ok-turn.turn c.sound.ensures.lawful c.sound.ensures.table
     c.sound.ensures.places
+    (subst (λ (o : Op). IsAllowed z.board.head z.board.events (record { seat = w.seat; op = o })) c.own_op.ensures
+    (ready_allowed z w c.args.cpu c.own_op.result c.sound.ensures.lawful r c.own_op.ensures))
+    (subst (λ (o : Op). IsTurn w.seat o z.board c.turn.new.self c.in_ok-turn.turn) c.own_op.ensures c.in_ok-turn.ensures.turn))
+
+pub returns-clause-each : goal.returns-clause-each
+returns-clause-each g c =
+    let z : Controlled = record { board = c.self.inside.board; threads = c.self.inside.threads; setting = c.self.inside.setting } in
+    let w = c.args.write in
+    let r = ready z c.args.self.now w c.args.cpu c.self.view_is c.sound.ensures.lawful c.set_is_of_its_numbers.ensures.words
+    c.requires.going c.requires.own in
+    subst (λ (s : Controlled). KeepsEachHook s.board c.turn.new.self) c.self.view_is
+    (own_keeps_each z.board c.turn.new.self w.seat w.want c.args.cpu c.in_ok-turn.turn c.sound.ensures.lawful
     (subst (λ (o : Op). IsAllowed z.board.head z.board.events (record { seat = w.seat; op = o })) c.own_op.ensures
     (ready_allowed z w c.args.cpu c.own_op.result c.sound.ensures.lawful r c.own_op.ensures))
     (subst (λ (o : Op). IsTurn w.seat o z.board c.turn.new.self c.in_ok-turn.turn) c.own_op.ensures c.in_ok-turn.ensures.turn))

@@ -1,5 +1,7 @@
 -- The run is at its start.
-use Rattle.std.proofs.Common.{◌+◌, [], length, replicate, refl, ap, subst, ◌∙◌}
+use Rattle.std.proofs.Common.{◌+◌, [], length, map, replicate, refl, ap, subst, ◌∙◌}
+use Rattle.hp_account.specs.TableChanges.{is_setup}
+use Rattle.hp_actors.proofs.Loading.{actors_loaded}
 use Rattle.hp_model.specs.Admissions.{admissions}
 use Rattle.hp_model.specs.MapLock.{operation}
 use Rattle.hp_model.specs.Processors.{present}
@@ -87,3 +89,8 @@ returns-clause-started g c =
       none_yet = ap (λ (b : Contents). hook_count b.places) c.over-smt.ensures.board ∙ c.in_ok-board.ensures.none;
     } in
     started_state run head c.args.threads ops c.args.want started
+
+pub returns-clause-loaded : goal.returns-clause-loaded
+returns-clause-loaded g c =
+    actors_loaded g.H.Hook.counts c.in_ok-actors.actors.items c.in_ok-actors.ensures.fresh
+    ∙ ap (map (map is_setup)) c.in_ok-actors.ensures.ops

@@ -6,6 +6,7 @@ use Rattle.hp_board.specs.declared.turn.Turn.TheVariants.{Made, Answered, NotYet
 use Rattle.hp_model.specs.Processors.{online}
 use Rattle.hp_smt.specs.Sound.{MayWrite}
 use Rattle.hp_smt.specs.Turns.{IsControl}
+use Rattle.hp_smt_run.proofs.HooksTurned.{writer_under}
 use Rattle.hp_smt_run.proofs.MayWrite.{may_write}
 use Rattle.hp_smt_run.proofs.Writing.{write_turned}
 use Rattle.hp_smt_run.proofs.run.SmtRun.write.Goals as goal
@@ -17,8 +18,8 @@ control-requires g c =
     subst (λ n. MayWrite run.smt.board run.smt.setting (run.seats + n) c.in-Some.want) (sym same)
     (may_write run c.in-Some.want c.requires (sym c.next_write.ensures ∙ c.in-Some.is))
 
-pub returns-in_ok-push-in-Answered : goal.returns-in_ok-push-in-Answered
-returns-in_ok-push-in-Answered g c =
+pub returns-in_ok-push-in-Answered-clause-turned : goal.returns-in_ok-push-in-Answered-clause-turned
+returns-in_ok-push-in-Answered-clause-turned g c =
     let run = c.args.self.now in
     let k = run.seats + length run.actors.items in
     let same : c.len.result ≡ length run.actors.items = c.len.ensures ∙ run.actors.ok.0 in
@@ -44,8 +45,8 @@ returns-in_ok-push-in-Answered g c =
       };
     })
 
-pub returns-in-Made : goal.returns-in-Made
-returns-in-Made g c =
+pub returns-in-Made-clause-turned : goal.returns-in-Made-clause-turned
+returns-in-Made-clause-turned g c =
     let run = c.args.self.now in
     let k = run.seats + length run.actors.items in
     let same : c.len.result ≡ length run.actors.items = c.len.ensures ∙ run.actors.ok.0 in
@@ -65,8 +66,8 @@ returns-in-Made g c =
       notes = refl;
     })
 
-pub returns-in-NotYet : goal.returns-in-NotYet
-returns-in-NotYet g c =
+pub returns-in-NotYet-clause-turned : goal.returns-in-NotYet-clause-turned
+returns-in-NotYet-clause-turned g c =
     let run = c.args.self.now in
     let k = run.seats + length run.actors.items in
     let same : c.len.result ≡ length run.actors.items = c.len.ensures ∙ run.actors.ok.0 in
@@ -85,3 +86,18 @@ returns-in-NotYet g c =
       off = c.sound-2.ensures.primaries;
       notes = refl;
     })
+
+pub returns-in_ok-push-in-Answered-clause-hooks : goal.returns-in_ok-push-in-Answered-clause-hooks
+returns-in_ok-push-in-Answered-clause-hooks g c =
+    let run = c.args.self.now in
+    writer_under g.H.Hook.counts (run.seats + length run.actors.items) run c.requires refl
+
+pub returns-in-Made-clause-hooks : goal.returns-in-Made-clause-hooks
+returns-in-Made-clause-hooks g c =
+    let run = c.args.self.now in
+    writer_under g.H.Hook.counts (run.seats + length run.actors.items) run c.requires refl
+
+pub returns-in-NotYet-clause-hooks : goal.returns-in-NotYet-clause-hooks
+returns-in-NotYet-clause-hooks g c =
+    let run = c.args.self.now in
+    writer_under g.H.Hook.counts (run.seats + length run.actors.items) run c.requires refl
