@@ -10,6 +10,22 @@
 //! up for its journal and its hooks. `in_force` and `net` say what is in force on a processor, without a look at the
 //! journal: the board keeps the called set step by step.
 //!
+//! A caller, who asks for one operation until it is answered:
+//!
+//! ```text
+//! let mut board = Board::start(alloc, plan, subs)?;
+//! let thread = board.admit(Role::Ap(1))?;
+//! let client = board.admit(Role::Client)?;
+//! let mut ask = Ask { op: Op::Up(1), hook: None };
+//! for _ in rt.forever() {
+//!     match board.turn(client, &mut ask)? {
+//!         Turn::Answered { answer, .. } => return Ok(answer),
+//!         Turn::Made { .. } => {}                            // one event more in `board.journal()`
+//!         Turn::NotYet(_) => drop(board.serve(thread)),      // it waits, here for the thread of the processor
+//!     }
+//! }
+//! ```
+//!
 //! Contracts see the head, the events, what stands at each state, and the processors that hooks are lent for
 //! (`specs/Contents.antt`). `Turns.antt` says what a turn makes of them, by hp_model's `next_event`, `due_entry`
 //! and `is_full`; `Loans.antt` which hooks are out, what is lent to a seat, and what waits for a hook;

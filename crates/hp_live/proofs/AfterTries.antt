@@ -1,5 +1,5 @@
 -- What holds of a seat after a try, by what the try answered.
-use Rattle.std.proofs.Common.{◌≡◌, ◌≢◌, ℕ, Bool, true, false, Result, Ok, Err, IfOk, OnErr, Option, Some, None, List, inl, inr, ◌⊎◌, refl, sym, ap, ◌∙◌, subst, is_some}
+use Rattle.std.proofs.Common.{◌≡◌, ◌≢◌, ℕ, Bool, true, false, Result, Ok, Err, IfOk, OnErr, Option, None, List, inl, inr, refl, sym, ap, ◌∙◌, subst, is_some}
 use Rattle.std.proofs.lemmas.Bool.{false≢true, true≢false}
 use Rattle.hp_states.specs.declared.no_memory.NoMemory.{NoMemory}
 use Rattle.hp_account.specs.TableChanges.{hands_out}
@@ -20,7 +20,10 @@ use Rattle.hp_board.specs.declared.turn.Turn.TheVariants.{Made, Answered, NotYet
 use Rattle.hp_live.specs.HeldSteps.{seated}
 use Rattle.hp_live.specs.Known.{IsOut, IsSamePass, IsThread, Seated}
 use Rattle.hp_live.specs.Sections.{Adds, CanAsk, EntersIn, TurnedIn}
-use Rattle.hp_live.specs.Tries.{BackTried, GaveBack, ServeTried, TookService, TookTurn, TurnTried, WantedOnce, is_answered, missed}
+use Rattle.hp_live.specs.Tries.{BackTried, ServeTried, TurnTried, WantedOnce, is_answered}
+use Rattle.hp_live.specs.Runs.{EnteredIn, SteppedIn}
+use Rattle.hp_live.specs.declared.step.Stepped.{Stepped}
+use Rattle.hp_live.specs.declared.step.Stepped.TheVariants as section
 use Rattle.hp_live.specs.declared.tried.Tried.{Tried}
 use Rattle.hp_live.specs.declared.tried.Tried.TheVariants as tried
 use Rattle.hp_live.proofs.Clients.{out_later, stays_turned}
@@ -53,6 +56,11 @@ enters_turned head k op had old new at asked e =
       hook = keeps;
       again = λ on. keeps ∙ hook_made head e.found new k op had at made ask.hook_is;
     }
+
+pub entered_turned : (head : Head) (k : ℕ) (op : Op) (had : Bool) (old new : List Event) (stepped : Stepped) → CanAsk head old k op had →
+    EnteredIn head k old new stepped → SteppedIn head k op had had old new stepped
+entered_turned head k op had old new (section.Turned (Made at)) asked e = enters_turned head k op had old new at asked e
+entered_turned head k op had old new stepped asked e = absurd e
 
 module _ {H : Type 0} (old new : Seated) (before after : Ask H) where
   abbrev Asked : Type 0

@@ -20,10 +20,13 @@ use Rattle.hp_board.specs.Turns.{IsServed}
 use Rattle.hp_board.specs.declared.turn.Turn.{Turn}
 use Rattle.hp_board.specs.declared.turn.Turn.TheVariants.{Made, NotYet}
 use Rattle.hp_live.specs.declared.step.Step.{Step}
-use Rattle.hp_live.specs.declared.step.Step.TheVariants.{Turned, NoMemory, Lent}
+use Rattle.hp_live.specs.declared.step.Stepped.{Stepped}
+use Rattle.hp_live.specs.declared.step.Stepped.TheVariants as did
+use Rattle.hp_live.specs.declared.step.Step.TheVariants.{Turned, Lent}
 use Rattle.hp_live.specs.Known.{IsSamePass, IsThread, Seated}
+use Rattle.hp_live.specs.Runs.{EnteredIn}
 use Rattle.hp_live.specs.Sections.{Adds, ServedOn}
-use Rattle.hp_live.specs.Steps.{ServesOn, ServesIn, GivesIn, lent_by}
+use Rattle.hp_live.specs.Steps.{ServesOn, ServesIn, lent_by}
 use Rattle.hp_live.specs.Threads.{IsCall, Enters, Rests}
 use Rattle.hp_machine.specs.Clients.{clients}
 use Rattle.hp_live.proofs.Coming.{thread_told}
@@ -60,21 +63,15 @@ served_puts head k old new turn t = absurd t
 
 pub serve_puts : {H : Type 0} (k : ℕ) (old new : Contents) (step : Step H) → ServesOn k old new step → Puts k old.events new.events
 serve_puts k old new (Turned turn) s = served_puts old.head k old.events new.events turn (served_on k old new turn s.1)
-serve_puts k old new NoMemory s = absurd s
 serve_puts k old new (Lent a) s = puts_none k old.events new.events s.2
 
 pub serve_head : {H : Type 0} (k : ℕ) (old new : Contents) (step : Step H) → ServesOn k old new step → new.head ≡ old.head
 serve_head k old new (Turned turn) s = served_head k old new turn s.1
-serve_head k old new NoMemory s = absurd s
 serve_head k old new (Lent a) s = s.1
 
 pub serve_lends : {H : Type 0} (k : ℕ) (old new : Contents) (step : Step H) → ServesOn k old new step → loan new k ≡ lent_by step
 serve_lends k old new (Turned turn) s = s.2
-serve_lends k old new NoMemory s = absurd s
 serve_lends k old new (Lent a) s = s.3
-
-pub never_wants : {H : Type 0} (k : ℕ) (p after : Pass) (step : Step H) → ServesIn k p after step → step ≡ NoMemory → ⊥
-never_wants k p after step s is = subst (ServesOn k s.found s.to.new) is s.to.serves
 
 -- ---- entries, one after another
 
@@ -110,7 +107,6 @@ enters_turn head k found new turn s = absurd s
 
 enters_step : {H : Type 0} (k : ℕ) (old new : Contents) (step : Step H) → ServesOn k old new step → Enters k old.events new.events
 enters_step k old new (Turned turn) s = enters_turn old.head k old.events new.events turn (served_on k old new turn s.1)
-enters_step k old new NoMemory s = absurd s
 enters_step k old new (Lent a) s = subst (Enters k old.events) (sym s.2) (enters_self k old.events)
 
 -- what a section of a thread's seat makes of its front
@@ -121,20 +117,12 @@ serves_enters p after k step own s =
     (enters_on k p.front s.found.events s.to.new.events
     (enters_seen k p.front s.found.events (seen_by p k s.found.events own s.finds.knew)) (enters_step k s.found s.to.new step s.to.serves))
 
-pub gives_enters : (p after : Pass) (k at : ℕ) → p.seat ≡ Some k → GivesIn k p after at → Enters k p.front after.front
-gives_enters p after k at own g =
-    let m = g.to.served in
-    subst (Enters k p.front) (sym g.to.seen.front_is)
-    (enters_on k p.front g.found.events g.to.new.events
-    (enters_seen k p.front g.found.events (seen_by p k g.found.events own g.finds.knew))
-    (enters_one g.found.head k g.found.events g.to.new.events at
-    (record {
-      event = m.event;
-      next_is = m.next_is;
-      new_is = ap (λ (b : Contents). b.events) m.new_is;
-      place_is = m.place_is;
-      answer_is = m.answer_is;
-    })))
+-- the hook that a seat carried came home
+pub entered_enters : (head : Head) (k : ℕ) (old new : List Event) (stepped : Stepped) → EnteredIn head k old new stepped →
+    Enters k old new
+entered_enters head k old new (did.Turned (Made at)) e =
+    enters_on k old e.found new (enters_seen k old e.found e.seen) (enters_one head k e.found new at e.entered)
+entered_enters head k old new stepped e = absurd e
 
 -- from section to section: `start` is the pass as it was taken up, `now` before a section, `next` after it
 
@@ -197,7 +185,6 @@ thread_turn head k found new turn s t = absurd s
 thread_step : {H : Type 0} (k : ℕ) (old new : Contents) (step : Step H) → ServesOn k old new step → IsThread k old.events →
     IsThread k new.events
 thread_step k old new (Turned turn) s t = thread_turn old.head k old.events new.events turn (served_on k old new turn s.1) t
-thread_step k old new NoMemory s t = absurd s
 thread_step k old new (Lent a) s t = subst (IsThread k) (sym s.2) t
 
 pub serves_thread : {H : Type 0} (p after : Pass) (k : ℕ) (step : Step H) → p.seat ≡ Some k → ServesIn k p after step →
@@ -207,16 +194,8 @@ serves_thread p after k step own s t =
     (thread_step k s.found s.to.new step s.to.serves
     (thread_told p.head k p.front s.found.events (seen_by p k s.found.events own s.finds.knew) (lawful_found p s.found s.finds) t))
 
-pub gives_thread : (p after : Pass) (k at : ℕ) → p.seat ≡ Some k → GivesIn k p after at → IsThread k p.front → IsThread k after.front
-gives_thread p after k at own g t =
-    let m = g.to.served in
-    subst (IsThread k) (sym g.to.seen.front_is)
-    (thread_entry g.found.head k g.found.events g.to.new.events at
-    (record {
-      event = m.event;
-      next_is = m.next_is;
-      new_is = ap (λ (b : Contents). b.events) m.new_is;
-      place_is = m.place_is;
-      answer_is = m.answer_is;
-    })
-    (thread_told p.head k p.front g.found.events (seen_by p k g.found.events own g.finds.knew) (lawful_found p g.found g.finds) t))
+pub entered_thread : (head : Head) (k : ℕ) (old new : List Event) (stepped : Stepped) → EnteredIn head k old new stepped →
+    IsThread k old → IsThread k new
+entered_thread head k old new (did.Turned (Made at)) e t =
+    thread_entry head k e.found new at e.entered (thread_told head k old e.found e.seen e.lawful t)
+entered_thread head k old new stepped e t = absurd e

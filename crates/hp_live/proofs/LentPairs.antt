@@ -1,5 +1,5 @@
 -- What pairs of seats and entries tell of a board: which hooks are away, what it lends, and what waits for a hook that is lent.
-use Rattle.std.proofs.Common.{◌≡◌, ◌≢◌, ℕ, zero, suc, ◌<◌, ◌≤◌, Bool, true, false, not, ◌&&◌, ◌||◌, eqb, ltb, ltb-true, ltb-false, is_some, All, Option, Some, None, List, [], ◌∷◌, ◌++◌, ◌⊎◌, ⊎_elim, inl, inr, filter, refl, sym, ap, ◌∙◌, subst, append_assoc, arith}
+use Rattle.std.proofs.Common.{◌≡◌, ◌≢◌, ℕ, zero, suc, ◌<◌, Bool, true, false, not, ◌&&◌, ◌||◌, eqb, ltb, ltb-true, ltb-false, is_some, All, Option, Some, None, List, [], ◌∷◌, ◌++◌, inl, inr, refl, sym, ap, ◌∙◌, subst, append_assoc, arith}
 use mathlib.Core.Logic.{dite}
 use native.Mathlib.Decide.{ℕ_discrete}
 use Rattle.std.specs.List.{flat_map, list_any}
@@ -29,7 +29,7 @@ use Rattle.hp_board.specs.Turns.{IsHookOut, IsNotYet}
 use Rattle.hp_board.proofs.Loans.{IsLent, lent_to, not_mine, out_of, state_in}
 use Rattle.hp_live.specs.Lending.{pair_of, lent_pairs}
 use Rattle.hp_live.specs.Steps.{IsBoard}
-use Rattle.hp_live.specs.Tries.{lent_beside, is_away, can_lend_by, lends_over, WaitsForThreadBy, WaitsToArmBy, arms_lent, IsHookOutBy, IsNotYetBy, CallsLent}
+use Rattle.hp_live.specs.Tries.{lent_beside, is_away, can_lend_by, lends_over, WaitsForThreadBy, WaitsToArmBy, IsHookOutBy, IsNotYetBy, CallsLent}
 use Rattle.hp_live.proofs.Finding.{Puts}
 use Rattle.hp_live.proofs.Pairs.{loan_above}
 

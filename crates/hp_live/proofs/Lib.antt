@@ -27,3 +27,6 @@ pub mod Sharing
 pub mod LentPairs
 pub mod Trying
 pub mod AfterTries
+pub mod Waiting
+pub mod ThreadsDue
+pub mod Freeing

@@ -1,9 +1,8 @@
 -- The processors that are online throughout a read section.
-use Rattle.std.proofs.Common.{◌≡◌, ◌<◌, ◌+◌, ℕ, false, Some, None, Result, OnOk, OnErr, List, [], ◌∷◌, ◌++◌, length, length-append, refl, sym, ap, ◌∙◌, subst, arith}
+use Rattle.std.proofs.Common.{◌≡◌, ◌<◌, ℕ, false, Some, None, Result, OnOk, OnErr, List, [], ◌∷◌, ◌++◌, length, length-append, refl, sym, ap, ◌∙◌, subst, arith}
 use Rattle.std.proofs.lemmas.Bool.{eq-eqb}
 use Rattle.std.proofs.lemmas.List.{append-nil}
 use mathlib.Core.List.{IsPrefix}
-use Rattle.hp_states.specs.CpuSets.{has}
 use Rattle.hp_states.specs.Sections.{is_online_state}
 use Rattle.hp_states.specs.declared.cpu_set.CpuSet.{CpuSet}
 use Rattle.hp_event.specs.declared.event.Event.{Event}

@@ -12,8 +12,8 @@ use Rattle.hp_model.specs.Seats.{is_busy}
 use Rattle.hp_board.specs.Turns.{goes_on}
 use Rattle.hp_board.specs.declared.turn.Turn.{Turn}
 use Rattle.hp_board.specs.declared.turn.Turn.TheVariants.{Answered, NotYet}
-use Rattle.hp_live.specs.declared.tried.Tried.{Tried}
-use Rattle.hp_live.specs.declared.tried.Tried.TheVariants.{Busy, Turned, Lent}
+use Rattle.hp_live.specs.declared.step.Stepped.{Stepped}
+use Rattle.hp_live.specs.declared.step.Stepped.TheVariants.{Turned, Lent}
 use Rattle.hp_live.specs.Grew.{Grew}
 use Rattle.hp_live.specs.Known.{IsSamePass, Seated, Stays}
 use Rattle.hp_live.specs.Runs.{IsAnswered, Halted, SteppedIn}
@@ -147,17 +147,13 @@ wants_more start now next op asked again had has r same is w =
 
 -- the same of a step by what it did
 
-pub stepped_turn : (head : Head) (k : ℕ) (op : Op) (had has : Bool) (old new : List Event) (tried : Tried) (turn : Turn) →
-    tried ≡ Turned turn → SteppedIn head k op had has old new tried → TurnedIn head k op had has old new turn
-stepped_turn head k op had has old new tried turn is s = subst (SteppedIn head k op had has old new) is s
+pub stepped_turn : (head : Head) (k : ℕ) (op : Op) (had has : Bool) (old new : List Event) (stepped : Stepped) (turn : Turn) →
+    stepped ≡ Turned turn → SteppedIn head k op had has old new stepped → TurnedIn head k op had has old new turn
+stepped_turn head k op had has old new stepped turn is s = subst (SteppedIn head k op had has old new) is s
 
-pub stepped_lent : (head : Head) (k : ℕ) (op : Op) (had has : Bool) (old new : List Event) (tried : Tried) (state : ℕ) →
-    tried ≡ Lent state → SteppedIn head k op had has old new tried → LentIn head k old new × (has ≡ had)
-stepped_lent head k op had has old new tried state is s = subst (SteppedIn head k op had has old new) is s
-
-pub never_busy : (head : Head) (k : ℕ) (op : Op) (had has : Bool) (old new : List Event) (tried : Tried) →
-    tried ≡ Busy → SteppedIn head k op had has old new tried → ⊥
-never_busy head k op had has old new tried is s = subst (SteppedIn head k op had has old new) is s
+pub stepped_lent : (head : Head) (k : ℕ) (op : Op) (had has : Bool) (old new : List Event) (stepped : Stepped) (state : ℕ) →
+    stepped ≡ Lent state → SteppedIn head k op had has old new stepped → LentIn head k old new × (has ≡ had)
+stepped_lent head k op had has old new stepped state is s = subst (SteppedIn head k op had has old new) is s
 
 -- ---- while nothing was made
 

@@ -1,5 +1,5 @@
--- The board can go to another thread where its hooks can: by hand for the types that hold a hook as it was lent, since a snapshot has
--- no such lemma of its own.
+-- The board, and passes on their way to a thread, can go to another thread where the hooks can: by hand for the types that hold a hook
+-- as it was lent, since a snapshot has no such lemma of its own.
 use denote.Builtin
 use denote.Param.Send
 use denote.RattleType
@@ -20,7 +20,15 @@ use Rattle.hp_board.specs.contracts.board.Board.TheInside as BoardInside
 use Rattle.hp_called.proofs.called.Called.TheSendSync as Called'
 use Rattle.hp_event.proofs.journal.Journal.TheSendSync as Journal'
 use Rattle.hp_hook.specs.declared.hook.Hook
+use Rattle.hp_live.specs.contracts.left.Left
+use Rattle.hp_live.specs.contracts.left.Left.TheInside as LeftInside
 use Rattle.hp_live.specs.contracts.live.Live
+use Rattle.hp_live.specs.contracts.parked.Parked
+use Rattle.hp_live.specs.contracts.parked.Parked.TheInside as ParkedInside
+use Rattle.hp_live.specs.contracts.parked.ParkedAp
+use Rattle.hp_live.specs.contracts.parked.ParkedAp.TheInside as ParkedApInside
+use Rattle.hp_live.specs.contracts.sight.Sight
+use Rattle.hp_live.specs.contracts.sight.Sight.TheInside as SightInside
 use Rattle.hp_machine.specs.contracts.machine.Machine
 use Rattle.hp_machine.specs.contracts.machine.Machine.TheInside as MachineInside
 use Rattle.hp_states.proofs.cpu_set.CpuSet.TheSendSync as CpuSet'
@@ -30,6 +38,7 @@ use Rattle.hp_table.specs.contracts.registered.Registered
 use Rattle.hp_table.specs.contracts.registered.Registered.TheInside as RegisteredInside
 use Rattle.hp_table.specs.contracts.table.Table
 use Rattle.hp_table.specs.contracts.table.Table.TheInside as TableInside
+use Rattle.hp_turn.proofs.pass.TurnPass.TheSendSync as TurnPass'
 
 -- a snapshot has no bytes and owns nothing
 pub snapshot_send : (R : RattleType.RattleType) → Send.IsSend (Snapshot.the_row R)
@@ -99,3 +108,26 @@ module _ (T : RattleType.RattleType) where
     pub live_send : Send.IsSend T → Send.IsSend (Live.the_row T g)
     live_send = λ s. Send.recorded_send (Live.the_field T g).row _ _ (Live.the_type T g).to_one
         (Send.struct_send (Declared.shape (Live.the_type T g)) (board_send s, tt))
+
+    sight_send : Send.IsSend T → Send.IsSend (Sight.the_row T g)
+    sight_send = λ s. Send.view_send (SightInside.the_row T g) _ _ _ _
+        (Send.recorded_send (SightInside.the_field T g).row _ _ (SightInside.the_type T g).to_one
+        (Send.struct_send (Declared.shape (SightInside.the_type T g))
+        (TurnPass'.the_send (Live.the_row T g) (live_send s), (Send.plain_send _ _ _ _ _, tt))))
+
+    pub left_send : Send.IsSend T → Send.IsSend (Left.the_row T g)
+    left_send = λ s. Send.view_send (LeftInside.the_row T g) _ _ _ _
+        (Send.recorded_send (LeftInside.the_field T g).row _ _ (LeftInside.the_type T g).to_one
+        (Send.struct_send (Declared.shape (LeftInside.the_type T g)) (sight_send s, (Send.plain_send _ _ _ _ _, tt))))
+
+    pub parked_send : Send.IsSend T → Send.IsSend (Parked.the_row T g)
+    parked_send = λ s. Send.view_send (ParkedInside.the_row T g) _ _ _ _
+        (Send.recorded_send (ParkedInside.the_field T g).row _ _ (ParkedInside.the_type T g).to_one
+        (Send.struct_send (Declared.shape (ParkedInside.the_type T g))
+        (sight_send s, (Send.plain_send _ _ _ _ _, (Send.plain_send _ _ _ _ _, (Send.plain_send _ _ _ _ _, tt))))))
+
+    pub parked_ap_send : Send.IsSend T → Send.IsSend (ParkedAp.the_row T g)
+    parked_ap_send = λ s. Send.view_send (ParkedApInside.the_row T g) _ _ _ _
+        (Send.recorded_send (ParkedApInside.the_field T g).row _ _ (ParkedApInside.the_type T g).to_one
+        (Send.struct_send (Declared.shape (ParkedApInside.the_type T g))
+        (sight_send s, (Send.plain_send _ _ _ _ _, (Send.plain_send _ _ _ _ _, (Send.plain_send _ _ _ _ _, tt))))))

@@ -1,14 +1,13 @@
 -- A section of a try, from the board that it found to what contracts see of the pass.
-use Rattle.std.proofs.Common.{◌≡◌, ℕ, Bool, true, false, Option, Some, None, List, inl, inr, ◌⊎◌, refl, sym, ap, ◌∙◌, subst, is_some}
-use Rattle.std.proofs.lemmas.Bool.{true≢false}
+use Rattle.std.proofs.Common.{◌≡◌, ℕ, Bool, true, false, Option, Some, None, Result, Ok, Err, List, inl, inr, ◌⊎◌, refl, sym, ap, ◌∙◌, subst, is_some}
 use Rattle.atomic_table.specs.Seated.{TableId}
+use Rattle.hp_states.specs.declared.no_memory.NoMemory.{NoMemory}
 use Rattle.hp_event.specs.declared.aside.Aside.{Aside}
 use Rattle.hp_event.specs.declared.event.Event.{Event}
 use Rattle.hp_event.specs.declared.event.Event.TheVariants.{Call}
 use Rattle.hp_event.specs.declared.head.Head.{Head}
 use Rattle.hp_event.specs.declared.op.Op.{Op}
 use Rattle.hp_locks.specs.declared.why.Why.{Why}
-use Rattle.hp_locks.specs.declared.why.Why.TheVariants.{HookOut}
 use Rattle.hp_model.specs.Lawful.{IsLawful}
 use Rattle.hp_model.specs.NextEvent.{next_event, due_entry}
 use Rattle.hp_turn.specs.Asides.{aside_of}
@@ -25,10 +24,10 @@ use Rattle.hp_live.specs.HeldSteps.{KeepsAsk, Keeps, ServesOut, ServiceTried, St
 use Rattle.hp_live.specs.Known.{IsSight, IsStill, Seated}
 use Rattle.hp_live.specs.Lending.{lent_pairs}
 use Rattle.hp_live.specs.Sections.{CanAsk, LentIn, ServedOn, TurnOn, WantedIn}
-use Rattle.hp_live.specs.Steps.{Finds, GivesTo, IsInside, IsPut, ServesTo, StepsTo, lent_by}
+use Rattle.hp_live.specs.Steps.{Finds, GivesTo, IsInside, IsPut, ServesTo, StepsTo, lent_by, lent_of}
 use Rattle.hp_live.specs.Tries.{CallsLent, GaveBack, HadLock, IsHookOutBy, IsNotYetBy, TookLoan, TookService, TookTurn, WantedOnce, lends_over, lent_beside, missed}
 use Rattle.hp_live.specs.declared.step.Step.{Step}
-use Rattle.hp_live.specs.declared.step.Step.TheVariants.{Turned, NoMemory, Lent}
+use Rattle.hp_live.specs.declared.step.Step.TheVariants.{Turned, Lent}
 use Rattle.hp_live.proofs.Entries.{served_on}
 use Rattle.hp_live.proofs.Finding.{Puts, lawful_found, seat_kept, seen_by}
 use Rattle.hp_live.proofs.LentPairs.{calls_by, by_calls, by_hook_out, lends_is, not_yet_by}
@@ -136,8 +135,8 @@ ask_same before after op hook = ap (λ o. ask_of o after.hook) op ∙ ap (λ h. 
 turn_taken : {H : Type 0} (p held after : Pass) (k : ℕ) (before asked : Ask H) (found : Contents) (turn : Turn) → p.seat ≡ Some k →
     Finds p found → p.aside ≡ None → held.misses ≡ p.misses → Keeps k held after → lent_beside k after.kept ≡ lent_pairs found →
     CanAsk found.head found.events k before.op (is_some before.hook) →
-    (to : StepsTo {H = H} k before.op (is_some before.hook) (is_some asked.hook) found after (Turned turn)) →
-    WaitsOut {H = H} found k before.op (Turned turn) → KeepsAsk found k before asked (Turned turn) → asked.op ≡ before.op → after.aside ≡ None →
+    (to : StepsTo {H = H} k before.op (is_some before.hook) (is_some asked.hook) found after (Ok (Turned turn))) →
+    WaitsOut {H = H} found k before.op (Ok (Turned turn)) → KeepsAsk found k before asked (Ok (Turned turn)) → asked.op ≡ before.op → after.aside ≡ None →
     TookTurn (seated k p) (seated k after) before asked turn
 turn_taken p held after k before asked found turn own finds none misses keeps others can to out hook op nothing =
     let on = to.steps in
@@ -178,11 +177,11 @@ turn_taken p held after k before asked found turn own finds none misses keeps ot
     waits_for : (why : Why) → turn ≡ NotYet why → IsNotYet k before.op found why
     waits_for why is = (subst (IsTurn k before.op found to.new) is to.steps.1).0
 
-wanted_once : {H : Type 0} (p held after : Pass) (k : ℕ) (before asked : Ask H) (found : Contents) → p.seat ≡ Some k → Finds p found →
+wanted_once : {H : Type 0} (p held after : Pass) (k : ℕ) (before asked : Ask H) (found : Contents) (e : NoMemory) → p.seat ≡ Some k → Finds p found →
     p.aside ≡ None → held.misses ≡ p.misses → Keeps k held after → lent_beside k after.kept ≡ lent_pairs found →
-    (to : StepsTo {H = H} k before.op (is_some before.hook) (is_some asked.hook) found after NoMemory) → WaitsOut {H = H} found k before.op NoMemory →
+    (to : StepsTo {H = H} k before.op (is_some before.hook) (is_some asked.hook) found after (Err e)) → WaitsOut {H = H} found k before.op (Err e) →
     after.aside ≡ None → WantedOnce (seated k p) (seated k after) before
-wanted_once p held after k before asked found own finds none misses keeps others to out nothing =
+wanted_once p held after k before asked found e own finds none misses keeps others to out nothing =
     let on = to.steps in
     let front : found.events ≡ after.front = sym (ap (λ (b : Contents). b.events) on.1) ∙ sym to.seen.front_is in
     record {
@@ -227,17 +226,18 @@ loan_taken p held after k found a own finds none misses keeps others head front 
       is_loan = subst (λ (h : Head). IsLoan h after.front k a) head (keeps.loans a carries);
     }
 
-pub step_tried : {H : Type 0} (p held after : Pass) (k : ℕ) (before asked : Ask H) (found : Contents) (step : Step H) → p.seat ≡ Some k →
+pub step_tried : {H : Type 0} (p held after : Pass) (k : ℕ) (before asked : Ask H) (found : Contents)
+    (step : Result (Step H) NoMemory) → p.seat ≡ Some k →
     Finds p found → p.aside ≡ None → held.misses ≡ p.misses → IsStill p after → Keeps k held after →
     lent_beside k after.kept ≡ lent_pairs found → CanAsk found.head found.events k before.op (is_some before.hook) →
     StepsTo k before.op (is_some before.hook) (is_some asked.hook) found after step → WaitsOut found k before.op step →
-    KeepsAsk found k before asked step → asked.op ≡ before.op → after.aside ≡ lent_by step →
+    KeepsAsk found k before asked step → asked.op ≡ before.op → after.aside ≡ lent_of step →
     StepTried (seated k p) (seated k after) before asked step
-step_tried p held after k before asked found (Turned turn) own finds none misses still keeps others can to out hook op nothing =
+step_tried p held after k before asked found (Ok (Turned turn)) own finds none misses still keeps others can to out hook op nothing =
     turn_taken p held after k before asked found turn own finds none misses keeps others can to out hook op nothing
-step_tried p held after k before asked found NoMemory own finds none misses still keeps others can to out hook op nothing =
-    (wanted_once p held after k before asked found own finds none misses keeps others to out nothing, hook)
-step_tried p held after k before asked found (Lent a) own finds none misses still keeps others can to out hook op carries = (
+step_tried p held after k before asked found (Err e) own finds none misses still keeps others can to out hook op nothing =
+    (wanted_once p held after k before asked found e own finds none misses keeps others to out nothing, hook)
+step_tried p held after k before asked found (Ok (Lent a)) own finds none misses still keeps others can to out hook op carries = (
   loan_taken p held after k found a own finds none misses keeps others still.head (to.seen.front_is ∙ to.steps.2) to.steps.0 carries,
   carries,
   hook,
@@ -280,7 +280,6 @@ pub service_tried : {H : Type 0} (p held after : Pass) (k : ℕ) (found : Conten
     ServesTo k found after step → ServesOut found k step → after.aside ≡ lent_by step → ServiceTried (seated k p) (seated k after) step
 service_tried p held after k found (Turned turn) own finds none misses still keeps others to out nothing =
     service_taken p held after k found turn own finds none misses keeps others to out nothing
-service_tried p held after k found NoMemory own finds none misses still keeps others to out nothing = absurd to.serves
 service_tried p held after k found (Lent a) own finds none misses still keeps others to out carries = (
   loan_taken p held after k found a own finds none misses keeps others still.head (to.seen.front_is ∙ to.serves.2) to.serves.0 carries,
   carries,

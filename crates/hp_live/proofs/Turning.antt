@@ -1,6 +1,7 @@
 -- What a step of the board is of its events, by a client's seat.
-use Rattle.std.proofs.Common.{◌≡◌, ℕ, Bool, true, false, Option, Some, None, List, refl, sym, ap, ◌∙◌, subst}
+use Rattle.std.proofs.Common.{◌≡◌, ℕ, Bool, true, false, Option, Some, None, Result, Ok, Err, List, refl, sym, ap, ◌∙◌, subst}
 use Rattle.std.proofs.lemmas.Bool.{false≢true}
+use Rattle.hp_states.specs.declared.no_memory.NoMemory.{NoMemory}
 use Rattle.hp_event.specs.declared.answer.Answer.{Answer}
 use Rattle.hp_event.specs.declared.op.Op.{Op}
 use Rattle.hp_event.specs.declared.head.Head.{Head}
@@ -25,9 +26,10 @@ use Rattle.hp_board.specs.declared.turn.Turn.TheVariants.{Made, Answered, NotYet
 use Rattle.hp_board.proofs.AskAgain.{own_after}
 use Rattle.hp_board.proofs.Busy.{hook_again}
 use Rattle.hp_live.specs.declared.step.Step.{Step}
-use Rattle.hp_live.specs.declared.step.Step.TheVariants.{Turned, NoMemory, Lent}
-use Rattle.hp_live.specs.Sections.{Adds, CanAsk, TurnOn, TurnedIn, WantedIn, LentIn}
-use Rattle.hp_live.specs.Steps.{StepsOn, StepsIn, Finds, HasSeen, GivesIn, lent_by}
+use Rattle.hp_live.specs.declared.step.Step.TheVariants.{Turned, Lent}
+use Rattle.hp_live.specs.Sections.{Adds, CanAsk, EntersIn, TurnOn, TurnedIn, WantedIn, LentIn}
+use Rattle.hp_live.specs.Runs.{SteppedIn}
+use Rattle.hp_live.specs.Steps.{StepsOn, StepsIn, Finds, HasSeen, GivesIn, lent_of, stepped_by}
 use Rattle.hp_live.proofs.Finding.{Puts, puts_one, puts_none, seen_by, lawful_found}
 use Rattle.hp_live.proofs.Others.{asks_later}
 
@@ -84,25 +86,25 @@ turn_puts head p old new (NotYet why) lawful a t = puts_none p.seat old new t
 
 -- ---- a step
 
-pub step_puts : {H : Type 0} (k : ℕ) (op : Op) (had has : Bool) (old new : Contents) (step : Step H) → IsLawful old.head old.events →
+pub step_puts : {H : Type 0} (k : ℕ) (op : Op) (had has : Bool) (old new : Contents) (step : Result (Step H) NoMemory) → IsLawful old.head old.events →
     CanAsk old.head old.events k op had → StepsOn k op had has old new step → Puts k old.events new.events
-step_puts k op had has old new (Turned turn) lawful asked s =
+step_puts k op had has old new (Ok (Turned turn)) lawful asked s =
     turn_puts old.head (record { seat = k; op = op }) old.events new.events turn lawful asked.allowed (turn_on k op old new turn s.1)
-step_puts k op had has old new NoMemory lawful asked s =
+step_puts k op had has old new (Err e) lawful asked s =
     puts_none k old.events new.events (ap (λ (b : Contents). b.events) s.1)
-step_puts k op had has old new (Lent a) lawful asked s = puts_none k old.events new.events s.2
+step_puts k op had has old new (Ok (Lent a)) lawful asked s = puts_none k old.events new.events s.2
 
-pub step_head : {H : Type 0} (k : ℕ) (op : Op) (had has : Bool) (old new : Contents) (step : Step H) →
+pub step_head : {H : Type 0} (k : ℕ) (op : Op) (had has : Bool) (old new : Contents) (step : Result (Step H) NoMemory) →
     StepsOn k op had has old new step → new.head ≡ old.head
-step_head k op had has old new (Turned turn) s = head_turned k op old new turn s.1
-step_head k op had has old new NoMemory s = ap (λ (b : Contents). b.head) s.1
-step_head k op had has old new (Lent a) s = s.1
+step_head k op had has old new (Ok (Turned turn)) s = head_turned k op old new turn s.1
+step_head k op had has old new (Err e) s = ap (λ (b : Contents). b.head) s.1
+step_head k op had has old new (Ok (Lent a)) s = s.1
 
-pub step_lends : {H : Type 0} (k : ℕ) (op : Op) (had has : Bool) (old new : Contents) (step : Step H) → loan old k ≡ None →
-    StepsOn k op had has old new step → loan new k ≡ lent_by step
-step_lends k op had has old new (Turned turn) none s = s.2
-step_lends k op had has old new NoMemory none s = ap (λ (b : Contents). loan b k) s.1 ∙ none
-step_lends k op had has old new (Lent a) none s = s.3
+pub step_lends : {H : Type 0} (k : ℕ) (op : Op) (had has : Bool) (old new : Contents) (step : Result (Step H) NoMemory) →
+    loan old k ≡ None → StepsOn k op had has old new step → loan new k ≡ lent_of step
+step_lends k op had has old new (Ok (Turned turn)) none s = s.2
+step_lends k op had has old new (Err e) none s = ap (λ (b : Contents). loan b k) s.1 ∙ none
+step_lends k op had has old new (Ok (Lent a)) none s = s.3
 
 -- ---- a section
 
@@ -130,17 +132,25 @@ section_turned p after k op had has found new turn f own asked t hook again seen
       again = again;
     }))
 
-pub steps_turned : {H : Type 0} (p after : Pass) (k : ℕ) (op : Op) (had has : Bool) (step : Step H) (turn : Turn) →
-    p.seat ≡ Some k → StepsIn k op had has p after step → step ≡ Turned turn → TurnedIn p.head k op had has p.front after.front turn
-steps_turned p after k op had has step turn own s is =
-    let on = subst (StepsOn k op had has s.found s.to.new) is s.to.steps in
+-- what it did, once the hook that it lent was called
+pub steps_stepped : {H : Type 0} (p after : Pass) (k : ℕ) (op : Op) (had has : Bool) (step : Step H) → p.seat ≡ Some k →
+    StepsIn k op had has p after (Ok step) → SteppedIn p.head k op had has p.front after.front (stepped_by step)
+steps_stepped p after k op had has (Turned turn) own s =
+    let on = s.to.steps in
     section_turned p after k op had has s.found s.to.new turn s.finds own s.asked (turn_on k op s.found s.to.new turn on.1) on.3
     on.4 s.to.seen
+steps_stepped p after k op had has (Lent a) own s =
+    let on = s.to.steps in
+    let front : after.front ≡ s.found.events = s.to.seen.front_is ∙ on.2 in (
+      subst (λ (w : List Event). LentIn p.head k p.front w) (sym front)
+          (record { seen = seen_by p k s.found.events own s.finds.knew; lawful = lawful_found p s.found s.finds }),
+      on.4,
+    )
 
-pub steps_wanted : {H : Type 0} (p after : Pass) (k : ℕ) (op : Op) (had has : Bool) (step : Step H) →
-    p.seat ≡ Some k → StepsIn k op had has p after step → step ≡ NoMemory → WantedIn p.head k op had has p.front after.front
-steps_wanted p after k op had has step own s is =
-    let on = subst (StepsOn k op had has s.found s.to.new) is s.to.steps in
+pub steps_wanted : {H : Type 0} (p after : Pass) (k : ℕ) (op : Op) (had has : Bool) (e : NoMemory) → p.seat ≡ Some k →
+    StepsIn {H = H} k op had has p after (Err e) → WantedIn p.head k op had has p.front after.front
+steps_wanted p after k op had has e own s =
+    let on = s.to.steps in
     let front : after.front ≡ s.found.events = s.to.seen.front_is ∙ ap (λ (b : Contents). b.events) on.1 in
     subst (λ (h : Head). WantedIn h k op had has p.front after.front) s.finds.head_is
     (subst (λ (w : List Event). WantedIn s.found.head k op had has p.front w) (sym front)
@@ -150,17 +160,6 @@ steps_wanted p after k op had has step own s is =
       takes_room = on.2;
       hook = on.3;
     }))
-
-pub steps_lent : {H : Type 0} (p after : Pass) (k : ℕ) (op : Op) (had has : Bool) (step : Step H) (a : _) →
-    p.seat ≡ Some k → StepsIn k op had has p after step → step ≡ Lent a →
-    LentIn p.head k p.front after.front × (has ≡ had)
-steps_lent p after k op had has step a own s is =
-    let on = subst (StepsOn k op had has s.found s.to.new) is s.to.steps in
-    let front : after.front ≡ s.found.events = s.to.seen.front_is ∙ on.2 in (
-      subst (λ (w : List Event). LentIn p.head k p.front w) (sym front)
-          (record { seen = seen_by p k s.found.events own s.finds.knew; lawful = lawful_found p s.found s.finds }),
-      on.4,
-    )
 
 -- ---- a hook that comes back
 
@@ -187,26 +186,23 @@ hook_made head found new k op had at a is =
     ap (λ (o : Option Event). has_hook_after found o had) a.next_is ∙ ap (λ b. has_hook_after found (Some a.event) b) is
     ∙ hook_again head found k op a.event a.next_is a.answer_is ∙ ap (λ (w : List Event). has_hook w k op) (sym a.new_is)
 
-pub gives_turned : (p after : Pass) (k : ℕ) (op : Op) (had : Bool) (at : ℕ) → p.seat ≡ Some k → CanAsk p.head p.front k op had →
-    GivesIn k p after at → TurnedIn p.head k op had had p.front after.front (Made at)
-gives_turned p after k op had at own asked g =
-    let found = g.found in
-    let ask = asks_found p k op had found g.finds own asked in
+-- the entry of a hook that came home
+pub gives_entered : (p after : Pass) (k at : ℕ) → p.seat ≡ Some k → GivesIn k p after at → EntersIn p.head k p.front after.front at
+gives_entered p after k at own g =
     let m = g.to.served in
-    let call = (due_stands found.head found.events k m.event m.next_is).1 in
-    let next = due_next found.head found.events k op m.event g.finds.board.lawful ask.allowed m.next_is in
-    let made : Adds (next_event found.head found.events k op) at None found.events g.to.new.events =
     record {
-      event = m.event;
-      next_is = next;
-      new_is = ap (λ (b : Contents). b.events) m.new_is;
-      place_is = m.place_is;
-      answer_is = m.answer_is;
-    } in
-    let keeps : had ≡ has_hook_after found.events (next_event found.head found.events k op) had =
-    sym (ap (λ (o : Option Event). has_hook_after found.events o had) next ∙ call_keeps_hook found.events m.event had call) in
-    section_turned p after k op had had found g.to.new (Made at) g.finds own ask made keeps
-    (λ on. keeps ∙ hook_made found.head found.events g.to.new.events k op had at made ask.hook_is) g.to.seen
+      found = g.found.events;
+      seen = seen_by p k g.found.events own g.finds.knew;
+      lawful = lawful_found p g.found g.finds;
+      entered =
+          record {
+            event = m.event;
+            next_is = ap (λ (h : Head). due_entry h g.found.events k) (sym g.finds.head_is) ∙ m.next_is;
+            new_is = g.to.seen.front_is ∙ ap (λ (b : Contents). b.events) m.new_is;
+            place_is = m.place_is;
+            answer_is = m.answer_is;
+          };
+    }
 
 -- ---- what may be asked then
 

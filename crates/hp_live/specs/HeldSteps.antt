@@ -1,6 +1,7 @@
 -- What a step of a board and the section around it keep besides, of which tries answer: the code's own clauses speak of it.
 -- This project's own.
-use Rattle.std.specs.Prelude.{◌≡◌, ◌↔◌, ℕ, Some}
+use Rattle.std.specs.Prelude.{◌≡◌, ◌↔◌, ℕ, Some, Result, Ok, Err}
+use Rattle.hp_states.specs.declared.no_memory.NoMemory.{NoMemory}
 use Rattle.hp_event.specs.declared.aside.Aside.{Aside}
 use Rattle.hp_event.specs.declared.op.Op.{Op}
 use Rattle.hp_locks.specs.declared.why.Why.TheVariants.{HookOut}
@@ -16,13 +17,13 @@ use Rattle.hp_board.specs.declared.turn.Turn.TheVariants.{NotYet}
 use Rattle.hp_live.specs.Known.{Seated}
 use Rattle.hp_live.specs.Tries.{TookLoan, TookService, TookTurn, WantedOnce}
 use Rattle.hp_live.specs.declared.step.Step.{Step}
-use Rattle.hp_live.specs.declared.step.Step.TheVariants.{Turned, NoMemory, Lent}
+use Rattle.hp_live.specs.declared.step.Step.TheVariants.{Turned, Lent}
 
 -- a turn of a client's seat waits for a hook that is lent wherever it has to
-abbrev pub WaitsOut : {H : Type 0} → Contents → (seat : ℕ) → Op → Step H → Type 0
-WaitsOut b k op (Turned turn) = (s : ℕ) → IsHookOut s k op b → turn ≡ NotYet (HookOut s)
-WaitsOut b k op NoMemory = (s : ℕ) → IsHookOut s k op b → ⊥
-WaitsOut b k op (Lent a) = Unit {0}
+abbrev pub WaitsOut : {H : Type 0} → Contents → (seat : ℕ) → Op → Result (Step H) NoMemory → Type 0
+WaitsOut b k op (Ok (Turned turn)) = (s : ℕ) → IsHookOut s k op b → turn ≡ NotYet (HookOut s)
+WaitsOut b k op (Err e) = (s : ℕ) → IsHookOut s k op b → ⊥
+WaitsOut b k op (Ok (Lent a)) = Unit {0}
 
 -- a turn of a thread's seat does exactly where it has to
 abbrev pub ServesOut : {H : Type 0} → Contents → (seat : ℕ) → Step H → Type 0
@@ -30,9 +31,10 @@ ServesOut b k (Turned turn) = (s : ℕ) → CallsAway b s (due_of b k) ↔ (turn
 ServesOut b k step = Unit {0}
 
 -- the ask is as before, but where a turn takes its hook or hands one back
-abbrev pub KeepsAsk : {H : Type 0} → Contents → (seat : ℕ) → (before after : Ask H) → Step H → Type 0
-KeepsAsk b k before after (Turned turn) = KeepsItsHook b k before after
-KeepsAsk b k before after step = after ≡ before
+abbrev pub KeepsAsk : {H : Type 0} → Contents → (seat : ℕ) → (before after : Ask H) → Result (Step H) NoMemory → Type 0
+KeepsAsk b k before after (Ok (Turned turn)) = KeepsItsHook b k before after
+KeepsAsk b k before after (Ok (Lent a)) = after ≡ before
+KeepsAsk b k before after (Err e) = after ≡ before
 
 -- the pass of a seat put a board back: what is lent to the seat then is what the pass carries, and it is that of the entry that is due
 pub record Keeps (seat : ℕ) (before after : Pass) : Type 0 where
@@ -55,13 +57,12 @@ seated k p = record {
 }
 
 -- a client's
-abbrev pub StepTried : {H : Type 0} → (old new : Seated) → (before after : Ask H) → Step H → Type 0
-StepTried old new before after (Turned turn) = TookTurn old new before after turn
-StepTried old new before after NoMemory = WantedOnce old new before × (after ≡ before)
-StepTried old new before after (Lent a) = TookLoan old new a.key.state × (new.lent ≡ Some a) × (after ≡ before)
+abbrev pub StepTried : {H : Type 0} → (old new : Seated) → (before after : Ask H) → Result (Step H) NoMemory → Type 0
+StepTried old new before after (Ok (Turned turn)) = TookTurn old new before after turn
+StepTried old new before after (Err e) = WantedOnce old new before × (after ≡ before)
+StepTried old new before after (Ok (Lent a)) = TookLoan old new a.key.state × (new.lent ≡ Some a) × (after ≡ before)
 
 -- a thread's
 abbrev pub ServiceTried : {H : Type 0} → (old new : Seated) → Step H → Type 0
 ServiceTried old new (Turned turn) = TookService old new turn
-ServiceTried old new NoMemory = ⊥
 ServiceTried old new (Lent a) = TookLoan old new a.key.state × (new.lent ≡ Some a)

@@ -9,3 +9,4 @@ pub mod Forms
 pub mod ReadSections
 pub mod Tries
 pub mod HeldSteps
+pub mod Freed

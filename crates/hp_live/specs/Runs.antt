@@ -11,9 +11,10 @@ use Rattle.hp_model.specs.Seats.{is_busy}
 use Rattle.hp_model.specs.NextEvent.{next_event, is_full}
 use Rattle.hp_board.specs.Turns.{TakesRoom}
 use Rattle.hp_live.specs.Grew.{Grew}
-use Rattle.hp_live.specs.Sections.{LentIn, TurnedIn}
-use Rattle.hp_live.specs.declared.tried.Tried.{Tried}
-use Rattle.hp_live.specs.declared.tried.Tried.TheVariants.{Busy, Turned, Lent}
+use Rattle.hp_board.specs.declared.turn.Turn.TheVariants.{Made}
+use Rattle.hp_live.specs.Sections.{EntersIn, LentIn, TurnedIn}
+use Rattle.hp_live.specs.declared.step.Stepped.{Stepped}
+use Rattle.hp_live.specs.declared.step.Stepped.TheVariants.{Turned, Lent}
 
 -- an event of the operation that doesn't answer it
 abbrev pub GoesOn : Op → Event → Type 0
@@ -52,12 +53,16 @@ pub record Halted (head : Head) (seat : ℕ) (op : Op) (old new : List Event) : 
 
 -- ---- one section of an operation
 
-abbrev pub is_lent : Tried → Bool
+abbrev pub is_lent : Stepped → Bool
 is_lent (Lent state) = true
 is_lent _ = false
 
--- what one section of a client's seat, which had the lock, made of its front
-abbrev pub SteppedIn : Head → (seat : ℕ) → Op → (had has : Bool) → (old new : List Event) → Tried → Type 0
-SteppedIn head k op had has old new Busy = ⊥
+-- what one section of a client's seat made of its front
+abbrev pub SteppedIn : Head → (seat : ℕ) → Op → (had has : Bool) → (old new : List Event) → Stepped → Type 0
 SteppedIn head k op had has old new (Turned turn) = TurnedIn head k op had has old new turn
 SteppedIn head k op had has old new (Lent state) = LentIn head k old new × (has ≡ had)
+
+-- the hook that a seat carried came home in it, and its entry was made
+abbrev pub EnteredIn : Head → (seat : ℕ) → (old new : List Event) → Stepped → Type 0
+EnteredIn head k old new (Turned (Made at)) = EntersIn head k old new at
+EnteredIn head k old new stepped = ⊥

@@ -1,6 +1,7 @@
 -- What one lock section finds and leaves, by the board under the lock. The code's own clauses speak of it, and those of tries.
 -- This project's own.
-use Rattle.std.specs.Prelude.{◌≡◌, ◌≢◌, ℕ, Bool, true, Option, Some, None, List, ◌++◌}
+use Rattle.std.specs.Prelude.{◌≡◌, ◌≢◌, ℕ, Bool, true, Option, Some, None, Result, Ok, Err, List, ◌++◌}
+use Rattle.hp_states.specs.declared.no_memory.NoMemory.{NoMemory}
 use Rattle.hp_event.specs.declared.aside.Aside.{Aside}
 use Rattle.hp_event.specs.declared.event.Event.{Event}
 use Rattle.hp_event.specs.declared.op.Op.{Op}
@@ -17,7 +18,9 @@ use Rattle.hp_board.specs.Loans.{loan, AreOut, CanLendTo}
 use Rattle.hp_board.specs.Turns.{IsTurn, IsServed, NextTakesRoom, goes_on}
 use Rattle.hp_board.specs.declared.turn.Turn.TheVariants.{Made}
 use Rattle.hp_live.specs.declared.step.Step.{Step}
-use Rattle.hp_live.specs.declared.step.Step.TheVariants.{Turned, NoMemory, Lent}
+use Rattle.hp_live.specs.declared.step.Step.TheVariants.{Turned, Lent}
+use Rattle.hp_live.specs.declared.step.Stepped.{Stepped}
+use Rattle.hp_live.specs.declared.step.Stepped.TheVariants as did
 use Rattle.hp_live.specs.Lending.{lent_pairs}
 use Rattle.hp_live.specs.Sections.{CanAsk}
 
@@ -68,45 +71,55 @@ pub record IsPut (before after : Pass) (new : Contents) : Type 0 where
 
 -- ---- a client's seat
 
--- what a section of a client's seat makes of a board, by a hook that is lent, or by a turn where none can be; and whether the ask has
--- its hook before and after
-abbrev pub StepsOn : {H : Type 0} → (seat : ℕ) → Op → (had has : Bool) → (old new : Contents) → Step H → Type 0
-StepsOn k op had has old new (Turned turn) =
+-- what a section of a client's seat makes of a board, by a hook that is lent, or by a turn where none can be, or nothing, where memory
+-- was wanting; and whether the ask has its hook before and after
+abbrev pub StepsOn : {H : Type 0} → (seat : ℕ) → Op → (had has : Bool) → (old new : Contents) → Result (Step H) NoMemory → Type 0
+StepsOn k op had has old new (Ok (Turned turn)) =
     (CanLendTo old k → ⊥) × IsTurn k op old new turn × (loan new k ≡ None)
     × (has ≡ has_hook_after old.events (next_event_of old k op) had)
     × (goes_on turn ≡ true → has ≡ has_hook new.events k op)
-StepsOn k op had has old new NoMemory =
+StepsOn k op had has old new (Err e) =
     (CanLendTo old k → ⊥) × (new ≡ old) × NextTakesRoom old k op × (has ≡ had)
-StepsOn k op had has old new (Lent a) =
+StepsOn k op had has old new (Ok (Lent a)) =
     CanLendTo old k × (new.head ≡ old.head) × (new.events ≡ old.events) × (loan new k ≡ Some a) × (has ≡ had)
 
 -- what of it is lent to the seat then
 abbrev pub lent_by : {H : Type 0} → Step H → Option Aside
 lent_by (Lent a) = Some a
-lent_by _ = None
+lent_by (Turned turn) = None
+
+abbrev pub lent_of : {H : Type 0} → Result (Step H) NoMemory → Option Aside
+lent_of (Ok step) = lent_by step
+lent_of (Err e) = None
 
 abbrev pub lent_if : {H : Type 0} → Option (Step H) → Option Aside
 lent_if None = None
 lent_if (Some step) = lent_by step
 
 -- the same of a board whose pass puts it back
-pub record StepsTo {H : Type 0} (seat : ℕ) (op : Op) (had has : Bool) (found : Contents) (after : Pass) (step : Step H) : Type 0 where
+pub record StepsTo {H : Type 0} (seat : ℕ) (op : Op) (had has : Bool) (found : Contents) (after : Pass)
+    (step : Result (Step H) NoMemory) : Type 0 where
   pub new : Contents
   pub steps : StepsOn seat op had has found new step
   pub seen : HasSeen after new
 
 -- and of one that the lock gives to a pass
-pub record StepsIn {H : Type 0} (seat : ℕ) (op : Op) (had has : Bool) (before after : Pass) (step : Step H) : Type 0 where
+pub record StepsIn {H : Type 0} (seat : ℕ) (op : Op) (had has : Bool) (before after : Pass)
+    (step : Result (Step H) NoMemory) : Type 0 where
   pub found : Contents
   pub finds : Finds before found
   pub asked : CanAsk found.head found.events seat op had
   pub to : StepsTo seat op had has found after step
 
+-- what it did, once the hook that it lent was called
+abbrev pub stepped_by : {H : Type 0} → Step H → Stepped
+stepped_by (Turned turn) = did.Turned turn
+stepped_by (Lent a) = did.Lent a.key.state
+
 -- ---- a thread's seat
 
 abbrev pub ServesOn : {H : Type 0} → (seat : ℕ) → (old new : Contents) → Step H → Type 0
 ServesOn k old new (Turned turn) = (CanLendTo old k → ⊥) × IsServed k old new turn × (loan new k ≡ None)
-ServesOn k old new NoMemory = ⊥
 ServesOn k old new (Lent a) =
     CanLendTo old k × (new.head ≡ old.head) × (new.events ≡ old.events) × (loan new k ≡ Some a)
 

@@ -23,6 +23,8 @@ use Rattle.hp_board.specs.declared.turn.Turn.{Turn}
 use Rattle.hp_board.specs.declared.turn.Turn.TheVariants.{Made, Answered, NotYet}
 use Rattle.hp_live.specs.Known.{Seated}
 use Rattle.hp_live.specs.Sections.{EntersIn, LentIn, ServedIn, TurnedIn, WantedIn}
+use Rattle.hp_live.specs.declared.step.Stepped.{Stepped}
+use Rattle.hp_live.specs.declared.step.Stepped.TheVariants as did
 use Rattle.hp_live.specs.declared.tried.Tried.{Tried}
 use Rattle.hp_live.specs.declared.tried.Tried.TheVariants as tried
 
@@ -155,6 +157,10 @@ pub record TookService (old new : Seated) (turn : Turn) : Type 0 where
   pub hook_out : (s : ℕ) → CallsLent old.head served.found (lent_beside old.seat new.kept) s old.seat ↔ (turn ≡ NotYet (HookOut s))
 
 -- ---- by what the try answered
+
+abbrev pub tried_by : Stepped → Tried
+tried_by (did.Turned turn) = tried.Turned turn
+tried_by (did.Lent state) = tried.Lent state
 
 -- the give-back of a hook that was carried
 abbrev pub BackTried : (old new : Seated) → Tried → Type 0

@@ -40,6 +40,7 @@ impl<H: Hook + Send> Hotplug<H> {
                 sight,
                 number,
                 sections: 0,
+                busy: false,
                 back: None,
             },
         })
@@ -69,6 +70,7 @@ impl<H: Hook + Send> Hotplug<H> {
                 sight,
                 number,
                 sections: 0,
+                busy: false,
                 back: None,
             },
         })

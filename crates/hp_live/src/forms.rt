@@ -72,7 +72,8 @@ impl<H: Hook + Send> Hotplug<H> {
         self.call(rt, gate, pass, Op::Down(cpu))
     }
 
-    /// Writes the `target` file of a processor: as `cpu_up`, with `Target`. After `target_store` of `kernel/cpu.c`.
+    /// Writes the `target` file of a processor: as `cpu_up`, with `Target`. After `target_store` of `kernel/cpu.c`;
+    /// which states are refused is this project's own.
     pub fn write_target<R: Wait, G: Gate>(
         &self,
         rt: &R,
@@ -88,7 +89,8 @@ impl<H: Hook + Send> Hotplug<H> {
         self.call(rt, gate, pass, Op::Target(cpu, value))
     }
 
-    /// Writes the `fail` file of a processor: as `cpu_up`, with `Arm`. After `fail_store` of `kernel/cpu.c`.
+    /// Writes the `fail` file of a processor: as `cpu_up`, with `Arm`. After `fail_store` of `kernel/cpu.c`; what
+    /// takes the fault is this project's own.
     pub fn write_fail<R: Wait, G: Gate>(
         &self,
         rt: &R,
@@ -134,7 +136,8 @@ impl<H: Hook + Send> Hotplug<H> {
         self.call(rt, gate, pass, Op::Disable)
     }
 
-    /// Enables hotplug once more: as `cpu_up`, with `Enable`. After `cpu_hotplug_enable` of `kernel/cpu.c`.
+    /// Enables hotplug once more: as `cpu_up`, with `Enable`. After `cpu_hotplug_enable` of `kernel/cpu.c`, which
+    /// warns where hotplug isn't disabled, and goes on.
     pub fn enable<R: Wait, G: Gate>(
         &self,
         rt: &R,

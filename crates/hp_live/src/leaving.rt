@@ -19,8 +19,7 @@ use crate::left::Left;
 use crate::pass::Pass;
 use crate::seat::Seat;
 use crate::sight::Sight;
-use crate::step::{Step, lend_or_serve};
-use crate::tried::Tried;
+use crate::step::{Step, Stepped, keep, lend_or_serve};
 use hp_board::{Board, Turn};
 use hp_hook::Hook;
 use hp_locks::Why;
@@ -44,6 +43,7 @@ impl<H: Hook + Send> Hotplug<H> {
             mut sight,
             number,
             sections,
+            busy: _,
             back,
         } = own;
         let None = back else { unreachable!() };
@@ -75,6 +75,7 @@ impl<H: Hook + Send> Hotplug<H> {
             sight,
             number,
             sections: _,
+            busy: _,
             back,
         } = own;
         let None = back else { unreachable!() };
@@ -100,12 +101,12 @@ impl<H: Hook + Send> Hotplug<H> {
                     self.wakes.wake();
                     return;
                 }
-                Some(Tried::Turned(Turn::NotYet(_))) => key.wait(rt),
-                Some(Tried::Turned(_)) => {
+                Some(Stepped::Turned(Turn::NotYet(_))) => key.wait(rt),
+                Some(Stepped::Turned(_)) => {
                     drop(key);
                     self.wakes.wake();
                 }
-                Some(Tried::Lent { .. } | Tried::Busy) => drop(key),
+                Some(Stepped::Lent { .. }) => drop(key),
             }
         }
         unreachable!()
@@ -113,7 +114,7 @@ impl<H: Hook + Send> Hotplug<H> {
 
     /// One section of a thread's seat that leaves: the hook that it carries comes home, or one is lent and then
     /// called, or a turn is taken, or the seat leaves where nothing is due from it: none then.
-    fn leave_step<R: Wait, G: Gate>(&self, rt: &R, gate: &G, own: &mut Seat<H>) -> Option<Tried>
+    fn leave_step<R: Wait, G: Gate>(&self, rt: &R, gate: &G, own: &mut Seat<H>) -> Option<Stepped>
         requires own { IsOf self.now own.old.lock }
         requires thread { IsThread own.old.seat own.old.front }
         ensures same { IsSamePass own.old own.new }
@@ -122,22 +123,11 @@ impl<H: Hook + Send> Hotplug<H> {
         ensures enters { IfSome result (λ _. Enters own.old.seat own.old.front own.new.front) }
         ensures thread { IfSome result (λ _. IsThread own.old.seat own.new.front) }
     {
-        gate.pass(own.number, own.sections, true);
-        own.sections = own.sections.saturating_add(1);
-        if let Some(back) = own.back.take() {
-            let at = self.give_section(rt, &mut own.sight, own.number, back);
-            return Some(Tried::Turned(Turn::Made { at }));
+        if let Some(made) = self.give_step(rt, gate, own, true) {
+            return Some(made);
         }
-        match self.last_section(rt, &mut own.sight, own.number)? {
-            Step::Turned(turn) => Some(Tried::Turned(turn)),
-            Step::NoMemory => unreachable!(),
-            Step::Lent(loan) => {
-                let state = loan.state();
-                let nothing = own.back.replace(loan.call());
-                let None = nothing else { unreachable!() };
-                Some(Tried::Lent { state })
-            }
-        }
+        let step = self.last_section(rt, &mut own.sight, own.number)?;
+        Some(keep(&mut own.back, step))
     }
 
     /// One lock section of a thread's seat, which leaves where nothing is due from it: none then.
@@ -155,7 +145,7 @@ impl<H: Hook + Send> Hotplug<H> {
         live.board.sound();
         let step = serve_or_leave(&mut live.board, seat);
         if let Some(step) = &step {
-            self.wakes.note(seat, step);
+            self.wakes.note_thread(&live.board, seat, step);
         }
         let seen = self.put_back(&mut sight.turn, live);
         sight.seen = seen;

@@ -12,6 +12,24 @@
 //! just the events of this call. Who has nothing to do sleeps until another made an
 //! event by which it may go on (`wakes.rt`).
 //!
+//! A caller, whose calls after `admit` may stand on any thread that has the pass (`Pass::park`):
+//!
+//! ```text
+//! let (machine, mut root) = Hotplug::start(alloc, plan, subs)?;
+//! let thread = machine.admit_ap(&rt, &mut root, 0)?;   // one for each processor: `ap_loop`, and then `leave_ap`
+//! let mut pass = machine.admit(&rt, &mut root)?;
+//! machine.setup_state(&rt, &FreeGate, &mut pass, 150, 1, hook)?;
+//! machine.cpu_up(&rt, &FreeGate, &mut pass, 1)?;
+//! let read = machine.read_lock(&rt, &FreeGate, pass)?;
+//! let online = read.online();                           // just these are online until the section ends
+//! let pass = machine.read_unlock(&rt, &FreeGate, read);
+//! let left = machine.leave(&rt, &FreeGate, pass);       // each pass is spent, also where a call was refused
+//! machine.meet(&mut root, left);
+//! let journal = machine.close(&rt, root).into_journal();
+//! ```
+//!
+//! `docs/LIBRARY.md` goes through them one by one, each in a program that runs.
+//!
 //! To read the specs: `Known` says what contracts see of passes, `Grew` how a front grows, `Sections` what one
 //! lock section makes of it, `Runs` and `Threads` what an operation and a thread make of it, and `Tries` what one try does. `Steps`,
 //! `HeldSteps` and `Lending` say the same of the board under the lock. Lock, passes and gates are this project's own.
@@ -20,6 +38,7 @@
 mod admission;
 mod ap_pass;
 mod forms;
+mod freed;
 mod gate;
 mod hotplug;
 mod laws;
@@ -28,6 +47,7 @@ mod left;
 mod live;
 mod parked;
 mod pass;
+mod places;
 mod read_pass;
 mod reading;
 mod root;

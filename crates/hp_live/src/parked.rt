@@ -19,6 +19,7 @@ pub struct Parked<H: Hook + Send> {
     pub(crate) sight: Sight<H>,
     pub(crate) number: u32,
     pub(crate) sections: u64,
+    pub(crate) busy: bool,
 }
 
 impl<H: Hook + Send> Model for Parked<H> {
@@ -43,6 +44,7 @@ pub struct ParkedAp<H: Hook + Send> {
     pub(crate) sight: Sight<H>,
     pub(crate) number: u32,
     pub(crate) sections: u64,
+    pub(crate) busy: bool,
 }
 
 impl<H: Hook + Send> Model for ParkedAp<H> {
@@ -72,6 +74,7 @@ impl<H: Hook + Send> Pass<H> {
             sight,
             number,
             sections,
+            busy,
             back,
         } = own;
         let None = back else { unreachable!() };
@@ -79,6 +82,7 @@ impl<H: Hook + Send> Pass<H> {
             sight,
             number,
             sections,
+            busy,
         }
     }
 }
@@ -92,12 +96,14 @@ impl<H: Hook + Send> Parked<H> {
             sight,
             number,
             sections,
+            busy,
         } = self;
         Pass {
             own: Seat {
                 sight,
                 number,
                 sections,
+                busy,
                 back: None,
             },
         }
@@ -115,6 +121,7 @@ impl<H: Hook + Send> ApPass<H> {
             sight,
             number,
             sections,
+            busy,
             back,
         } = own;
         let None = back else { unreachable!() };
@@ -122,6 +129,7 @@ impl<H: Hook + Send> ApPass<H> {
             sight,
             number,
             sections,
+            busy,
         }
     }
 }
@@ -135,12 +143,14 @@ impl<H: Hook + Send> ParkedAp<H> {
             sight,
             number,
             sections,
+            busy,
         } = self;
         ApPass {
             own: Seat {
                 sight,
                 number,
                 sections,
+                busy,
                 back: None,
             },
         }

@@ -47,7 +47,7 @@ impl<H: Hook + Send> Hotplug<H> {
     /// - `NoMemory` where memory was wanting.
     ///
     /// Waits while another holds the lock, and sleeps until another made an event while a walk is under way. Takes
-    /// memory. After `cpus_read_lock` of `kernel/cpu.c`.
+    /// memory. After `cpus_read_lock` of `kernel/cpu.c`, which also waits behind a walk that waits.
     pub fn read_lock<R: Wait, G: Gate>(
         &self,
         rt: &R,
@@ -145,7 +145,7 @@ impl<H: Hook + Send> Hotplug<H> {
         ensures nothing { own.new.lent ≡ None }
     {
         for _ in rt.forever() {
-            let key = self.wakes.client();
+            let key = self.wakes.client(own.busy, &Op::Lock);
             match self.lock_step(rt, gate, own) {
                 None => key.wait(rt),
                 Some(asked) => {

@@ -13,8 +13,7 @@ use crate::gate::Gate;
 use crate::hotplug::Hotplug;
 use crate::pass::Pass;
 use crate::seat::Seat;
-use crate::step::Step;
-use crate::tried::Tried;
+use crate::step::{Stepped, keep};
 use hp_board::{Ask, Turn};
 use hp_event::Answer;
 use hp_hook::Hook;
@@ -85,21 +84,20 @@ impl<H: Hook + Send> Hotplug<H> {
     {
         let mut begun = false;
         for _ in rt.forever() {
-            let key = self.wakes.client();
+            let key = self.wakes.client(own.busy, &ask.op);
             match self.step(rt, gate, own, ask) {
-                Ok(Tried::Turned(Turn::Answered { answer, .. })) => {
+                Ok(Stepped::Turned(Turn::Answered { answer, .. })) => {
                     drop(key);
                     self.wakes.wake();
                     return Ok(answer);
                 }
-                Ok(Tried::Turned(Turn::Made { .. })) => {
+                Ok(Stepped::Turned(Turn::Made { .. })) => {
                     drop(key);
                     self.wakes.wake();
                     begun = true;
                 }
-                Ok(Tried::Turned(Turn::NotYet(_))) => key.wait(rt),
-                Ok(Tried::Lent { .. }) => drop(key),
-                Ok(Tried::Busy) => unreachable!(),
+                Ok(Stepped::Turned(Turn::NotYet(_))) => key.wait(rt),
+                Ok(Stepped::Lent { .. }) => drop(key),
                 Err(NoMemory) => {
                     drop(key);
                     let waits = finishes & begun;
@@ -121,7 +119,7 @@ impl<H: Hook + Send> Hotplug<H> {
         gate: &G,
         own: &mut Seat<H>,
         ask: &mut Ask<H>,
-    ) -> Result<Tried, NoMemory>
+    ) -> Result<Stepped, NoMemory>
         requires own { IsOf self.now own.old.lock }
         requires asked { CanAsk own.old.head own.old.front own.old.seat ask.old.op (is_some ask.old.hook) }
         ensures same { IsSamePass own.old own.new }
@@ -129,25 +127,16 @@ impl<H: Hook + Send> Hotplug<H> {
             (is_some ask.old.hook) (is_some ask.new.hook) own.old.front own.new.front) }
         ensures wanted { OnErr result (WantedIn own.old.head own.old.seat ask.old.op
             (is_some ask.old.hook) (is_some ask.new.hook) own.old.front own.new.front) }
-        ensures nothing { IfOk result (λ tried. is_lent tried ≡ false → own.new.lent ≡ None) }
+        ensures nothing { IfOk result (λ stepped. is_lent stepped ≡ false → own.new.lent ≡ None) }
         ensures none { OnErr result (own.new.lent ≡ None) }
         ensures op { ask.new.op ≡ ask.old.op }
     {
-        gate.pass(own.number, own.sections, false);
-        own.sections = own.sections.saturating_add(1);
-        if let Some(back) = own.back.take() {
-            let at = self.give_section(rt, &mut own.sight, own.number, back);
-            return Ok(Tried::Turned(Turn::Made { at }));
+        if let Some(made) = self.give_step(rt, gate, own, false) {
+            return Ok(made);
         }
-        match self.turn_section(rt, &mut own.sight, own.number, ask) {
-            Step::Turned(turn) => Ok(Tried::Turned(turn)),
-            Step::NoMemory => Err(NoMemory),
-            Step::Lent(loan) => {
-                let state = loan.state();
-                let nothing = own.back.replace(loan.call());
-                let None = nothing else { unreachable!() };
-                Ok(Tried::Lent { state })
-            }
-        }
+        let step = self.turn_section(rt, &mut own.sight, own.number, ask)?;
+        let stepped = keep(&mut own.back, step);
+        own.busy = stepped.is_busy(own.busy);
+        Ok(stepped)
     }
 }

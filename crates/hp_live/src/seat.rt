@@ -7,12 +7,13 @@ use hp_board::Back;
 use hp_hook::Hook;
 use std::marker::Model;
 
-/// What a seat takes its sections with: its pass of the lock, how many sections it took, and the hook that
-/// was lent to it and has answered, if there is one.
+/// What a seat takes its sections with: its pass of the lock, how many sections it took, whether its operation is in flight,
+/// and the hook that was lent to it and has answered, if there is one.
 pub(crate) struct Seat<H: Hook + Send> {
     pub(crate) sight: Sight<H>,
     pub(crate) number: u32,
     pub(crate) sections: u64,
+    pub(crate) busy: bool,
     pub(crate) back: Option<Back<H>>,
 }
 

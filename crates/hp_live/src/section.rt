@@ -1,22 +1,26 @@
 //! The end of a lock section, and sections of a client's and a thread's seat.
 
-ghost use Rattle.std.specs.Prelude.{◌≡◌, ◌≤◌, ℕ, Some, None, is_some};
+ghost use Rattle.std.specs.Prelude.{◌≡◌, ◌≤◌, ℕ, Some, None, IfSome, IfNone, is_some};
 ghost use Rattle.hp_board.specs.Loans.{loan, AreLoans};
 ghost use Rattle.hp_live.specs.HeldSteps.{Keeps, KeepsAsk, ServesOut, WaitsOut};
-ghost use Rattle.hp_live.specs.Known.{IsOf, IsSight, IsStill};
+ghost use Rattle.hp_live.specs.Known.{IsOf, IsSamePass, IsSight, IsStill};
 ghost use Rattle.hp_live.specs.Lending.{lent_pairs};
+ghost use Rattle.hp_live.specs.Runs.{EnteredIn};
 ghost use Rattle.hp_live.specs.Sections.{CanAsk};
-ghost use Rattle.hp_live.specs.Steps.{CanPut, IsInside, IsPut, StepsTo, StepsIn, ServesTo, ServesIn, GivesTo, GivesIn, lent_by};
+ghost use Rattle.hp_live.specs.Steps.{CanPut, IsInside, IsPut, StepsTo, StepsIn, ServesTo, ServesIn, GivesTo, GivesIn, lent_by, lent_of};
 ghost use Rattle.hp_live.specs.Tries.{lent_beside};
 ghost use Rattle.hp_machine.specs.Clients.{clients};
 ghost use Rattle.hp_turn.specs.Passes.{IsPassOf};
 
+use crate::gate::Gate;
 use crate::hotplug::Hotplug;
 use crate::live::Live;
+use crate::seat::Seat;
 use crate::sight::Sight;
-use crate::step::{Step, lend_or_serve, lend_or_turn};
-use hp_board::{Ask, Back};
+use crate::step::{Step, Stepped, lend_or_serve, lend_or_turn};
+use hp_board::{Ask, Back, Turn};
 use hp_hook::Hook;
+use hp_states::NoMemory;
 use hp_turn::{Grown, TurnPass};
 use std::sync::Wait;
 
@@ -43,7 +47,7 @@ impl<H: Hook + Send> Hotplug<H> {
         sight: &mut Sight<H>,
         seat: u32,
         ask: &mut Ask<H>,
-    ) -> Step<H>
+    ) -> Result<Step<H>, NoMemory>
         requires own { IsOf self.now sight.old.lock }
         requires seat { sight.old.seat ≡ Some seat }
         requires nothing { sight.old.aside ≡ None }
@@ -51,7 +55,7 @@ impl<H: Hook + Send> Hotplug<H> {
         ensures still { IsStill sight.old sight.new }
         ensures steps { StepsIn seat ask.old.op (is_some ask.old.hook) (is_some ask.new.hook)
             sight.old sight.new result }
-        ensures lent { sight.new.aside ≡ lent_by result }
+        ensures lent { sight.new.aside ≡ lent_of result }
         ensures op { ask.new.op ≡ ask.old.op }
     {
         let live = self.lock.lock(rt, &mut sight.turn);
@@ -68,7 +72,7 @@ impl<H: Hook + Send> Hotplug<H> {
         live: Live<H>,
         seat: u32,
         ask: &mut Ask<H>,
-    ) -> (Step<H>, u64)
+    ) -> (Result<Step<H>, NoMemory>, u64)
         requires own { IsPassOf self.now.lock pass.old }
         requires inside { IsInside pass.old live.board }
         requires seat { pass.old.seat ≡ Some seat }
@@ -78,7 +82,7 @@ impl<H: Hook + Send> Hotplug<H> {
         ensures sight { IsSight pass.new result.1 }
         ensures steps { StepsTo seat ask.old.op (is_some ask.old.hook) (is_some ask.new.hook)
             live.board pass.new result.0 }
-        ensures lent { pass.new.aside ≡ lent_by result.0 }
+        ensures lent { pass.new.aside ≡ lent_of result.0 }
         ensures op { ask.new.op ≡ ask.old.op }
         ensures keeps { Keeps seat pass.old pass.new }
         ensures others { lent_beside seat pass.new.kept ≡ lent_pairs live.board }
@@ -88,6 +92,7 @@ impl<H: Hook + Send> Hotplug<H> {
         let mut live = live;
         live.board.sound();
         let step = lend_or_turn(&mut live.board, seat, ask);
+        self.wakes.note_client(&live.board, seat, &step);
         let seen = self.put_back(pass, live);
         (step, seen)
     }
@@ -138,21 +143,37 @@ impl<H: Hook + Send> Hotplug<H> {
         let mut live = live;
         live.board.sound();
         let step = lend_or_serve(&mut live.board, seat);
-        self.wakes.note(seat, &step);
+        self.wakes.note_thread(&live.board, seat, &step);
         let count = live.board.clients();
         let seen = self.put_back(pass, live);
         (step, count, seen)
     }
 
-    /// One lock section in which the hook that was lent to a seat comes home and its entry is made, at the
-    /// place that is answered.
-    pub(crate) fn give_section<R: Wait>(
+    /// What each step of a seat begins with: it passes its gate, and the hook that it carries comes home in a section, if it
+    /// carries one. None where it carries none.
+    pub(crate) fn give_step<R: Wait, G: Gate>(
         &self,
         rt: &R,
-        sight: &mut Sight<H>,
-        seat: u32,
-        back: Back<H>,
-    ) -> u32
+        gate: &G,
+        own: &mut Seat<H>,
+        last: bool,
+    ) -> Option<Stepped>
+        requires { IsOf self.now own.old.lock }
+        ensures same { IsSamePass own.old own.new }
+        ensures none { IfNone result ((own.new ≡ own.old) × (own.old.lent ≡ None)) }
+        ensures entered { IfSome result (EnteredIn own.old.head own.old.seat own.old.front own.new.front) }
+        ensures nothing { IfSome result (λ _. own.new.lent ≡ None) }
+    {
+        gate.pass(own.number, own.sections, last);
+        own.sections = own.sections.saturating_add(1);
+        let back = own.back.take()?;
+        let at = self.give_section(rt, &mut own.sight, own.number, back);
+        Some(Stepped::Turned(Turn::Made { at }))
+    }
+
+    /// One lock section in which the hook that was lent to a seat comes home and its entry is made, at the
+    /// place that is answered.
+    fn give_section<R: Wait>(&self, rt: &R, sight: &mut Sight<H>, seat: u32, back: Back<H>) -> u32
         requires own { IsOf self.now sight.old.lock }
         requires seat { sight.old.seat ≡ Some seat }
         requires lent { sight.old.aside ≡ Some back }

@@ -10,8 +10,7 @@ use crate::ap_pass::ApPass;
 use crate::gate::Gate;
 use crate::hotplug::Hotplug;
 use crate::seat::Seat;
-use crate::step::Step;
-use crate::tried::Tried;
+use crate::step::{Stepped, keep};
 use hp_board::Turn;
 use hp_hook::Hook;
 use hp_locks::Why;
@@ -45,18 +44,18 @@ impl<H: Hook + Send> Hotplug<H> {
     {
         for _ in rt.forever() {
             let key = self.wakes.thread(own.number);
-            let (tried, rests) = self.serve_step(rt, gate, own);
+            let (stepped, rests) = self.serve_step(rt, gate, own);
             if rests {
                 drop(key);
                 return;
             }
-            match tried {
-                Tried::Turned(Turn::NotYet(_)) => key.wait(rt),
-                Tried::Turned(_) => {
+            match stepped {
+                Stepped::Turned(Turn::NotYet(_)) => key.wait(rt),
+                Stepped::Turned(_) => {
                     drop(key);
                     self.wakes.wake();
                 }
-                Tried::Lent { .. } | Tried::Busy => drop(key),
+                Stepped::Lent { .. } => drop(key),
             }
         }
         unreachable!()
@@ -64,7 +63,7 @@ impl<H: Hook + Send> Hotplug<H> {
 
     /// One section of a thread's seat: the hook that it carries comes home, or one is lent and then called, or
     /// a turn is taken. And whether nothing was due and no client is in.
-    fn serve_step<R: Wait, G: Gate>(&self, rt: &R, gate: &G, own: &mut Seat<H>) -> (Tried, bool)
+    fn serve_step<R: Wait, G: Gate>(&self, rt: &R, gate: &G, own: &mut Seat<H>) -> (Stepped, bool)
         requires own { IsOf self.now own.old.lock }
         requires thread { IsThread own.old.seat own.old.front }
         ensures same { IsSamePass own.old own.new }
@@ -74,25 +73,12 @@ impl<H: Hook + Send> Hotplug<H> {
         ensures rests { result.1 ≡ true → Rests own.old.head own.old.seat own.new.front }
         ensures none { result.1 ≡ true → own.new.lent ≡ None }
     {
-        gate.pass(own.number, own.sections, false);
-        own.sections = own.sections.saturating_add(1);
-        if let Some(back) = own.back.take() {
-            let at = self.give_section(rt, &mut own.sight, own.number, back);
-            return (Tried::Turned(Turn::Made { at }), false);
+        if let Some(made) = self.give_step(rt, gate, own, false) {
+            return (made, false);
         }
         let (step, clients) = self.serve_section(rt, &mut own.sight, own.number);
-        match step {
-            Step::Turned(turn) => {
-                let idle = matches!(turn, Turn::NotYet(Why::Idle));
-                (Tried::Turned(turn), idle && clients == 0)
-            }
-            Step::NoMemory => unreachable!(),
-            Step::Lent(loan) => {
-                let state = loan.state();
-                let nothing = own.back.replace(loan.call());
-                let None = nothing else { unreachable!() };
-                (Tried::Lent { state }, false)
-            }
-        }
+        let stepped = keep(&mut own.back, step);
+        let idle = matches!(stepped, Stepped::Turned(Turn::NotYet(Why::Idle)));
+        (stepped, idle && clients == 0)
     }
 }

@@ -1,8 +1,12 @@
 //! What one try did.
 
+ghost use Rattle.std.specs.Prelude.{◌≡◌};
+ghost use Rattle.hp_live.specs.Tries.{tried_by};
+
+use crate::step::Stepped;
 use hp_board::Turn;
 
-/// What one try of a pass did, or one section of it.
+/// What one try of a pass did: what a section does, or nothing.
 #[derive(Clone, Copy, Debug, PartialEq, Eq)]
 pub enum Tried {
     /// Another pass holds the lock; nothing has changed.
@@ -11,4 +15,16 @@ pub enum Tried {
     Turned(Turn),
     /// The hook of this state was lent, and called outside the lock: the pass carries its answer.
     Lent { state: u32 },
+}
+
+impl Stepped {
+    /// What a try did that had the lock.
+    pub(crate) fn tried(self) -> Tried
+        ensures { result ≡ tried_by self }
+    {
+        match self {
+            Stepped::Turned(turn) => Tried::Turned(turn),
+            Stepped::Lent { state } => Tried::Lent { state },
+        }
+    }
 }

@@ -23,9 +23,9 @@ use crate::hotplug::Hotplug;
 use crate::pass::Pass;
 use crate::seat::Seat;
 use crate::sight::Sight;
-use crate::step::Step;
+use crate::step::{Step, keep};
 use crate::tried::Tried;
-use hp_board::{Ask, Back, Board, Loan, Turn};
+use hp_board::{Ask, Back, Board, Turn};
 use hp_event::Op;
 use hp_hook::Hook;
 use hp_states::NoMemory;
@@ -125,17 +125,10 @@ impl<H: Hook + Send> Hotplug<H> {
             return Ok(Tried::Busy);
         };
         own.sections = own.sections.saturating_add(1);
-        match step {
-            Step::Turned(turn) => {
-                self.wake_after(turn);
-                Ok(Tried::Turned(turn))
-            }
-            Step::NoMemory => Err(NoMemory),
-            Step::Lent(loan) => {
-                let state = call_into(&mut own.back, loan);
-                Ok(Tried::Lent { state })
-            }
-        }
+        let stepped = keep(&mut own.back, step?);
+        own.busy = stepped.is_busy(own.busy);
+        self.wakes.wake();
+        Ok(stepped.tried())
     }
 
     /// One try of a thread's seat: the hook that it carries comes home, or one is lent and then called, or a
@@ -153,17 +146,9 @@ impl<H: Hook + Send> Hotplug<H> {
             return Tried::Busy;
         };
         own.sections = own.sections.saturating_add(1);
-        match step {
-            Step::Turned(turn) => {
-                self.wake_after(turn);
-                Tried::Turned(turn)
-            }
-            Step::NoMemory => unreachable!(),
-            Step::Lent(loan) => {
-                let state = call_into(&mut own.back, loan);
-                Tried::Lent { state }
-            }
-        }
+        let stepped = keep(&mut own.back, step);
+        self.wakes.wake();
+        stepped.tried()
     }
 
     /// One try to give back the hook that a seat carries: none where it carries none.
@@ -216,7 +201,12 @@ impl<H: Hook + Send> Hotplug<H> {
 
     /// One try of a section of a client's seat, in which a hook is lent, or a turn is taken: none where another
     /// pass holds the lock.
-    fn try_turn_section(&self, sight: &mut Sight<H>, seat: u32, ask: &mut Ask<H>) -> Option<Step<H>>
+    fn try_turn_section(
+        &self,
+        sight: &mut Sight<H>,
+        seat: u32,
+        ask: &mut Ask<H>,
+    ) -> Option<Result<Step<H>, NoMemory>>
         requires own { IsOf self.now sight.old.lock }
         requires seat { sight.old.seat ≡ Some seat }
         requires nothing { sight.old.aside ≡ None }
@@ -254,25 +244,6 @@ impl<H: Hook + Send> Hotplug<H> {
         sight.seen = seen;
         Some(step)
     }
-
-    /// Wakes those who sleep, where a turn made an event.
-    fn wake_after(&self, turn: Turn) {
-        if let Turn::Made { .. } | Turn::Answered { at: Some(_), .. } = turn {
-            self.wakes.wake();
-        }
-    }
-}
-
-/// Calls a hook that was lent, puts it with its answer where none is, and answers its state.
-fn call_into<H: Hook>(back: &mut Option<Back<H>>, loan: Loan<H>) -> u32
-    requires { back.old ≡ None }
-    ensures back { back.new ≡ Some loan }
-    ensures state { result ≡ loan.key.state }
-{
-    let state = loan.state();
-    let nothing = back.replace(loan.call());
-    let None = nothing else { unreachable!() };
-    state
 }
 
 /// What clauses of tries say by a journal and by the pairs of what is lent, said of a board: over its journal, and

@@ -1,33 +1,42 @@
-//! Who sleeps, and who is woken by an event.
+//! Who sleeps where, and is woken.
 
+use crate::freed::{Freed, freed_by, waits_for_hook};
+use crate::places::Places;
 use crate::step::Step;
 use crossbeam_utils::sync::{EventCount, Key};
-use hp_board::{Board, Turn};
-use hp_event::Event;
+use hp_board::Board;
+use hp_event::Op;
 use hp_hook::Hook;
-use hp_locks::Why;
-use hp_states::{CpuSet, NoMemory};
+use hp_states::NoMemory;
 use std::alloc::Global;
 use std::sync::atomic::{AtomicU64, Ordering};
 
-/// Bits of those who are to be woken: clients, threads at the marked places, and all threads.
+/// Bits of those who are to be woken: clients, clients that write `fail`, the seats of operations in flight, threads at
+/// the marked places, and all threads.
 const CLIENTS: u64 = 1;
 
-const MARKED: u64 = 2;
+const ARMING: u64 = 2;
 
-const ALL: u64 = 4;
+const IN_FLIGHT: u64 = 4;
 
-/// Where clients and the threads of processors sleep, and who of them is to be woken.
+const THREADS: u64 = 8;
+
+const ALL: u64 = 16;
+
+/// Where seats sleep that can make nothing, and who of them is to be woken.
 ///
-/// Whoever finds nothing to do sleeps until an event is made by which it may go on. A thread is woken by the event after
-/// which an entry is due from it, one that waits for a hook by each event, and all by the leave of the last client.
-/// Clients are woken by the events that free a lock, which are the end of a walk, of an operation, of a registration and
-/// of a read section, by a leave, and by an entry after which none is due from a thread, since a client may wait for it
-/// or for its hook. So nobody sleeps for good: what it waits for is ended by such an event. Few are woken in vain, since
-/// each thread has a place of its own, unless seats came in otherwise than in the order of the processors.
+/// A seat sleeps at the place of its kind: of clients with nothing in flight, of those of them that write `fail`, of the
+/// operations in flight, or of the thread. It announces itself there before its section. Under the lock each event marks
+/// whom it frees (`freed_by`, whose contract says that nobody is left out), and those who were noted since the event before
+/// it, which wait for a hook (`waits_for_hook`); whoever made the event wakes them after the lock. So nobody sleeps who
+/// could go on, if an event count wakes all who announced themselves before it was notified: that is left to
+/// `crossbeam_utils`. Few are woken in vain, since each thread has a place of its own, unless seats came in otherwise than
+/// in the order of the processors.
 #[derive(Drop)]
 pub(crate) struct Wakes {
     clients: EventCount,
+    arming: EventCount,
+    in_flight: EventCount,
     /// A place for each possible processor: that of a seat is its number modulo the places.
     threads: Vec<EventCount>,
     places: u32,
@@ -38,9 +47,9 @@ pub(crate) struct Wakes {
     marked: AtomicU64,
     /// The places of the threads that are marked.
     due: Places,
-    /// The places of the threads that wait for a hook, and whether there are any.
+    /// The bits of those who were noted since the last event, and the places of the threads among them.
+    noted: AtomicU64,
     waiting: Places,
-    any_waits: AtomicU64,
 }
 
 impl Wakes {
@@ -52,20 +61,29 @@ impl Wakes {
         }
         Ok(Wakes {
             clients: EventCount::new(),
+            arming: EventCount::new(),
+            in_flight: EventCount::new(),
             threads,
             places,
             length: AtomicU64::new(0),
             clients_in: AtomicU64::new(0),
             marked: AtomicU64::new(0),
             due: Places::none(),
+            noted: AtomicU64::new(0),
             waiting: Places::none(),
-            any_waits: AtomicU64::new(0),
         })
     }
 
-    /// A client announces that it may sleep, before it looks for something to do.
-    pub(crate) fn client(&self) -> Key<'_> {
-        self.clients.prepare_wait()
+    /// A client announces that it may sleep, before it looks for something to do: whether its operation is in flight, and
+    /// which it is.
+    pub(crate) fn client(&self, busy: bool, op: &Op) -> Key<'_> {
+        if busy {
+            return self.in_flight.prepare_wait();
+        }
+        match op {
+            Op::Arm(..) => self.arming.prepare_wait(),
+            _ => self.clients.prepare_wait(),
+        }
     }
 
     /// So does the thread of a processor, of this seat.
@@ -76,35 +94,62 @@ impl Wakes {
         }
     }
 
-    /// Notes a thread, of this seat, whose step found the hook of its entry away. The caller holds the lock.
-    pub(crate) fn note<H: Hook>(&self, seat: u32, step: &Step<H>) {
-        if let Step::Turned(Turn::NotYet(Why::HookOut(_))) = step {
-            self.waiting.put(self.place(seat));
-            self.any_waits.store(1, Ordering::SeqCst);
+    /// Notes a client, of this seat, whose step found that it waits for a hook. The caller holds the lock.
+    pub(crate) fn note_client<H: Hook>(
+        &self,
+        board: &Board<H>,
+        seat: u32,
+        step: &Result<Step<H>, NoMemory>,
+    ) {
+        if let Ok(Step::Turned(turn)) = step {
+            if waits_for_hook(board, seat, turn) {
+                self.noted.fetch_or(ARMING, Ordering::SeqCst);
+            }
         }
     }
 
-    /// Marks who may go on by the last event of a board, where that is a new one. The caller holds the lock.
+    /// Notes a thread likewise.
+    pub(crate) fn note_thread<H: Hook>(&self, board: &Board<H>, seat: u32, step: &Step<H>) {
+        if let Step::Turned(turn) = step {
+            if waits_for_hook(board, seat, turn) {
+                self.waiting.put(self.place(seat));
+                self.noted.fetch_or(THREADS, Ordering::SeqCst);
+            }
+        }
+    }
+
+    /// Marks whom the last event of a board frees, where that is a new one. The caller holds the lock.
     pub(crate) fn mark<H: Hook>(&self, board: &Board<H>) {
         let length = u64::from(board.journal().len());
         if self.length.swap(length, Ordering::SeqCst) != length {
+            let clients = u64::from(board.clients());
+            let had_client = self.clients_in.swap(clients, Ordering::SeqCst) != 0;
             if let Some(event) = board.journal().events().last() {
-                self.mark_by(board, event);
+                self.mark_freed(freed_by(board, event, had_client));
             }
         }
     }
 
     /// Wakes who is marked: to be called after each section that made an event, by whoever made it.
     pub(crate) fn wake(&self) {
+        if self.marked.load(Ordering::SeqCst) == 0 {
+            return;
+        }
         let marked = self.marked.swap(0, Ordering::SeqCst);
         if marked & CLIENTS != 0 {
             self.clients.notify_all();
+        }
+        if marked & ARMING != 0 {
+            self.arming.notify_all();
+        }
+        if marked & IN_FLIGHT != 0 {
+            self.in_flight.notify_all();
         }
         if marked & ALL != 0 {
             for place in self.threads.as_slice() {
                 place.notify_all();
             }
-        } else if marked & MARKED != 0 {
+        } else if marked & THREADS != 0 {
             self.wake_due();
         }
     }
@@ -114,45 +159,28 @@ impl Wakes {
         seat % self.places.max(1)
     }
 
-    /// Marks who may go on by an event, which is the last of a board.
-    fn mark_by<H: Hook>(&self, board: &Board<H>, event: &Event) {
-        let due = self.mark_due(board, 0);
-        if let Event::WalkBegin { cpu, .. } | Event::Call { cpu, .. } = *event {
-            self.mark_due(board, cpu);
-        }
-        let mut marked = if due { MARKED } else { 0 };
-        if self.any_waits.swap(0, Ordering::SeqCst) != 0 {
+    /// Marks whom an event frees, and who is noted.
+    fn mark_freed(&self, freed: Freed) {
+        let mut marked = self.noted.swap(0, Ordering::SeqCst);
+        if marked & THREADS != 0 {
             self.due.add(self.waiting.take());
-            marked = MARKED;
         }
-        if frees(event, due) {
-            marked = marked | CLIENTS;
+        if let Some(seat) = freed.thread {
+            self.due.put(self.place(seat));
+            marked = marked | THREADS;
         }
-        if self.has_last_left(board) {
+        if freed.first {
+            marked = marked | CLIENTS | ARMING;
+        }
+        if freed.in_flight {
+            marked = marked | IN_FLIGHT;
+        }
+        if freed.threads {
             marked = marked | ALL;
         }
         if marked != 0 {
             self.marked.fetch_or(marked, Ordering::SeqCst);
         }
-    }
-
-    /// Marks the thread of the lowest processor from one on of which an entry is due from its thread, and answers
-    /// whether there is one. But in an upmany there is one at most; there an event makes none due but from the thread
-    /// of its own processor.
-    fn mark_due<H: Hook>(&self, board: &Board<H>, from: u32) -> bool {
-        match board.next_thread_due(from) {
-            Some((_, seat)) => {
-                self.due.put(self.place(seat));
-                true
-            }
-            None => false,
-        }
-    }
-
-    /// Whether no client is in, and one was when marks were set last.
-    fn has_last_left<H: Hook>(&self, board: &Board<H>) -> bool {
-        let clients = u64::from(board.clients());
-        self.clients_in.swap(clients, Ordering::SeqCst) != 0 && clients == 0
     }
 
     /// Wakes the threads at the marked places.
@@ -167,67 +195,6 @@ impl Wakes {
                 place.notify_all();
             }
             from = at.saturating_add(1);
-        }
-    }
-}
-
-/// Whether clients may go on by an event after which an entry is due from a thread, or none is.
-fn frees(event: &Event, due: bool) -> bool {
-    match event {
-        Event::Leave { .. }
-        | Event::WalkEnd { .. }
-        | Event::OpEnd { .. }
-        | Event::RegEnd { .. }
-        | Event::ReadUnlock { .. } => true,
-        Event::Call { .. } => !due,
-        _ => false,
-    }
-}
-
-/// A set of places that threads share.
-#[derive(Drop)]
-struct Places {
-    words: [AtomicU64; 4],
-}
-
-impl Places {
-    /// The empty set.
-    fn none() -> Places {
-        Places {
-            words: [
-                AtomicU64::new(0),
-                AtomicU64::new(0),
-                AtomicU64::new(0),
-                AtomicU64::new(0),
-            ],
-        }
-    }
-
-    /// Puts a place into it.
-    fn put(&self, place: u32) {
-        if let Some(word) = self.words.get((place / 64) as usize) {
-            word.fetch_or(1u64 << (place % 64), Ordering::SeqCst);
-        }
-    }
-
-    /// Puts those of another set into it.
-    fn add(&self, set: CpuSet) {
-        for at in 0..4usize {
-            if set.words[at] != 0 {
-                self.words[at].fetch_or(set.words[at], Ordering::SeqCst);
-            }
-        }
-    }
-
-    /// Takes all out of it.
-    fn take(&self) -> CpuSet {
-        CpuSet {
-            words: [
-                self.words[0].swap(0, Ordering::SeqCst),
-                self.words[1].swap(0, Ordering::SeqCst),
-                self.words[2].swap(0, Ordering::SeqCst),
-                self.words[3].swap(0, Ordering::SeqCst),
-            ],
         }
     }
 }

@@ -1,5 +1,6 @@
 //! A hook that waits in its call, and a gate that waits for the call.
 
+use crate::sleepers::{self, Stage};
 use hp_hook::{Hook, ScriptHook};
 use hp_live::Gate;
 use hp_states::{Dir, HookPlan};
@@ -77,6 +78,12 @@ impl Hook for Waiting {
 pub(crate) struct Watch {
     pub(crate) seat: u32,
     pub(crate) marks: Arc<Marks, Global>,
+}
+
+impl Stage for Watch {
+    fn marks(&self) -> Option<&sleepers::Marks> {
+        None
+    }
 }
 
 impl Gate for Watch {

@@ -5,7 +5,8 @@ ghost use Rattle.hp_live.specs.Known.{IsOf};
 ghost use Rattle.hp_model.specs.Seats.{is_busy};
 
 use crate::client::{Client, admitted};
-use crate::{calls, held, many, two};
+use crate::sleepers::Stage;
+use crate::{calls, held, many, two, wakes};
 use hp_event::Head;
 use hp_hook::Hook;
 use hp_live::{ApPass, Gate, Hotplug, Parked, ParkedAp, Root};
@@ -30,6 +31,8 @@ pub(crate) enum Part {
     SetsUp,
     /// Shows a file.
     Shows,
+    /// Waits for others, by tries or by calls that sleep.
+    Wakes { part: wakes::Part, by_tries: bool },
 }
 
 /// A client of a machine with this head on its way to a thread, with what it has to do, and its hook if it has one.
@@ -74,11 +77,20 @@ pub(crate) fn of_client<'m, H: Hook + Send>(
     requires head { root.old.head ≡ head.now }
     ensures { (root.new.lock ≡ root.old.lock) × (root.new.head ≡ root.old.head) }
 {
+    of_admitted(admitted(rt, machine, head, root), part, hook)
+}
+
+/// The part of a client that has come in.
+pub(crate) fn of_admitted<'m, H: Hook + Send>(
+    client: Client<'m, H>,
+    part: Part,
+    hook: Option<H>,
+) -> Job<'m, H> {
     let Client {
         machine,
         head,
         pass,
-    } = admitted(rt, machine, head, root);
+    } = client;
     Job::Client(ClientJob {
         machine,
         head,
@@ -149,7 +161,7 @@ pub(crate) fn serves<H: Hook + Send, R: Wait, G: Gate>(
 }
 
 /// A client's part, and its leave: whether all was answered as it should be.
-fn plays<H: Hook + Send, R: Wait + Abort, G: Gate>(
+fn plays<H: Hook + Send, R: Wait + Abort, G: Stage>(
     rt: &R,
     gate: &G,
     client: Client<'_, H>,
@@ -163,12 +175,13 @@ fn plays<H: Hook + Send, R: Wait + Abort, G: Gate>(
         Part::Many(number) => many::plays(rt, gate, client, number, hook),
         Part::SetsUp => held::sets_up(rt, gate, client, hook),
         Part::Shows => held::shows(rt, gate, client),
+        Part::Wakes { part, by_tries } => wakes::plays(rt, gate, client, part, by_tries),
     }
 }
 
 impl<'m, H: Hook + Send> Job<'m, H> {
     /// Does it, and leaves: whether all was answered as it should be.
-    fn done<R: Wait + Abort, G: Gate>(self, rt: &R, gate: &G) -> bool {
+    fn done<R: Wait + Abort, G: Stage>(self, rt: &R, gate: &G) -> bool {
         match self {
             Job::Ap(ApJob { machine, pass }) => {
                 serves(rt, gate, machine, pass.resume());
@@ -195,7 +208,7 @@ impl<'m, H: Hook + Send> Job<'m, H> {
 }
 
 /// Does each job on a thread of its own: whether all was answered as it should be.
-pub(crate) fn all_done<H: Hook + Send, R: Threads + Wait + Abort + Sync, G: Gate + Sync>(
+pub(crate) fn all_done<H: Hook + Send, R: Threads + Wait + Abort + Sync, G: Stage + Sync>(
     rt: &R,
     gate: &G,
     jobs: Vec<Job<'_, H>>,

@@ -1,8 +1,8 @@
 //! The tests of the live machine: of what no clause says, with ample memory.
 //!
 //! That clients are answered, alone and on several threads, and what; that a hook is called outside the lock; that a
-//! batch waits for hooks that are lent; and that what twelve threads made together is a lawful journal with each
-//! operation once.
+//! batch waits for hooks that are lent; that whoever sleeps is woken by the event that lets it go on; and that what twelve
+//! threads made together is a lawful journal with each operation once.
 //!
 //! They use hp_live as any crate does. They stand apart because a crate with tests is proved twice, once with them and
 //! once without.
@@ -29,4 +29,8 @@ mod jobs;
 #[cfg(test)]
 mod many;
 #[cfg(test)]
+mod sleepers;
+#[cfg(test)]
 mod two;
+#[cfg(test)]
+mod wakes;

@@ -2,13 +2,14 @@
 use denote.Exit.{no}
 use denote.Param.Send.{param_send, param_sync, arg_send, arg_sync, shr_send}
 use Rattle.std.proofs.Common.{ap, ◌∙◌, subst, All, List}
+use Rattle.hp_live.proofs.Sending.{left_send}
 use Rattle.hp_live.proofs.Sharing.{hotplug_sync}
 use Rattle.hp_threads.specs.declared.job.Job.{Job}
 use Rattle.hp_threads.specs.declared.threads.ActorThread.TheVariants.{Started, Ran}
 use Rattle.hp_threads.specs.Jobs.{CanAct, HasRun}
 use Rattle.hp_threads.proofs.Captures.{captures_send}
 use Rattle.hp_threads.proofs.Pairing.{all_last, acting_one}
-use Rattle.hp_threads.proofs.Sending.{job_send, left_send}
+use Rattle.hp_threads.proofs.Sending.{job_send}
 use Rattle.hp_threads.proofs.starting.+start_actors.Goals as goal
 
 pub spawn_with-started-requires-send-F : goal.spawn_with-started-requires-send-F

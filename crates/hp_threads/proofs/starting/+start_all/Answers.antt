@@ -3,12 +3,12 @@ use denote.Exit.{no}
 use denote.Param.Send.{param_send, param_sync, arg_send, arg_sync, shr_send}
 use Rattle.std.proofs.Common.{ap, ◌∙◌, subst, All, List}
 use Rattle.hp_live.specs.Known.{Seated}
+use Rattle.hp_live.proofs.Sending.{parked_ap_send}
 use Rattle.hp_live.proofs.Sharing.{hotplug_sync}
 use Rattle.hp_threads.specs.declared.threads.ServerThread.TheVariants.{Started, Ran}
 use Rattle.hp_threads.specs.Jobs.{CanServe, HasStayed}
 use Rattle.hp_threads.proofs.Captures.{captures_send}
 use Rattle.hp_threads.proofs.Pairing.{all_last, serving_one}
-use Rattle.hp_threads.proofs.Sending.{parked_ap_send}
 use Rattle.hp_threads.proofs.starting.+start_all.Goals as goal
 
 pub spawn_with-started-requires-send-F : goal.spawn_with-started-requires-send-F

@@ -4,7 +4,7 @@ use Rattle.std.proofs.lemmas.Bool.{true≢false}
 use Rattle.hp_event.specs.declared.op.Op.{Op}
 use Rattle.hp_account.specs.TableChanges.{hands_out}
 use Rattle.hp_board.specs.declared.turn.Turn.TheVariants.{Made, Answered, NotYet}
-use Rattle.hp_live.specs.declared.tried.Tried.TheVariants.{Turned}
+use Rattle.hp_live.specs.declared.step.Stepped.TheVariants.{Turned}
 use Rattle.hp_live.specs.Sections.{TurnedIn}
 use Rattle.hp_live.proofs.HooksLeft.{hook_left}
 use Rattle.hp_live.proofs.RunsOn.{runs_self, runs_more, runs_lent, runs_ends, runs_idle, runs_stays, runs_halts, halts_stays, halts_asks, stepped_turn, stepped_lent, fresh_self, fresh_waits, fresh_lent, fresh_wants, not_begun, wants_more}

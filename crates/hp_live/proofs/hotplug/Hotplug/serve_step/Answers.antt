@@ -1,47 +1,30 @@
 -- The hook that the seat carries comes home, or its next step is made: past its old front it has entries alone.
-use Rattle.std.proofs.Common.{sym, subst}
+use Rattle.std.proofs.Common.{◌∙◌, sym, subst}
 use Rattle.hp_live.specs.Known.{Seated, IsThread}
 use Rattle.hp_live.specs.Threads.{Enters}
-use Rattle.hp_live.proofs.Entries.{gives_enters, gives_thread, serves_enters, serves_thread}
+use Rattle.hp_live.proofs.Entries.{entered_enters, entered_thread, serves_enters, serves_thread}
 use Rattle.hp_live.proofs.hotplug.Hotplug.serve_step.Goals as goal
 
 pub returns-in-Some-clause-enters : goal.returns-in-Some-clause-enters
 returns-in-Some-clause-enters g c =
-    let after = c.give_section-at.new.sight in
-    subst (λ (s : Seated). Enters s.seat s.front after.front) c.own.view_is
-    (gives_enters c.own.inside.sight after c.own.inside.number c.give_section-at.result c.own.invariant.own
-    c.give_section-at.ensures.gives)
+    entered_enters c.args.own.now.head c.args.own.now.seat c.args.own.now.front c.give_step.new.own.front c.in-Some.made
+    c.in-Some.ensures.entered
 
 pub returns-in-Some-clause-thread : goal.returns-in-Some-clause-thread
 returns-in-Some-clause-thread g c =
-    let after = c.give_section-at.new.sight in
-    subst (λ (s : Seated). IsThread s.seat after.front) c.own.view_is
-    (gives_thread c.own.inside.sight after c.own.inside.number c.give_section-at.result c.own.invariant.own
-    c.give_section-at.ensures.gives
-    (subst (λ (s : Seated). IsThread s.seat s.front) (sym c.own.view_is) c.requires.thread))
+    entered_thread c.args.own.now.head c.args.own.now.seat c.args.own.now.front c.give_step.new.own.front c.in-Some.made
+    c.in-Some.ensures.entered c.requires.thread
 
-pub returns-after-idle-clause-enters : goal.returns-after-idle-clause-enters
-returns-after-idle-clause-enters g c =
+pub returns-clause-enters : goal.returns-clause-enters
+returns-clause-enters g c =
     let after = c.serve_section-step.new.sight in
-    subst (λ (s : Seated). Enters s.seat s.front after.front) c.own.view_is
+    subst (λ (s : Seated). Enters s.seat s.front after.front) (c.own.view_is ∙ c.in_default.ensures.none.0)
     (serves_enters c.own.inside.sight after c.own.inside.number c.serve_section-step.result.0 c.own.invariant.own c.serve_section-step.ensures.serves)
 
-pub returns-after-idle-clause-thread : goal.returns-after-idle-clause-thread
-returns-after-idle-clause-thread g c =
+pub returns-clause-thread : goal.returns-clause-thread
+returns-clause-thread g c =
     let after = c.serve_section-step.new.sight in
-    subst (λ (s : Seated). IsThread s.seat after.front) c.own.view_is
+    let same = c.own.view_is ∙ c.in_default.ensures.none.0 in
+    subst (λ (s : Seated). IsThread s.seat after.front) same
     (serves_thread c.own.inside.sight after c.own.inside.number c.serve_section-step.result.0 c.own.invariant.own c.serve_section-step.ensures.serves
-    (subst (λ (s : Seated). IsThread s.seat s.front) (sym c.own.view_is) c.requires.thread))
-
-pub returns-in-None-clause-enters : goal.returns-in-None-clause-enters
-returns-in-None-clause-enters g c =
-    let after = c.serve_section-step.new.sight in
-    subst (λ (s : Seated). Enters s.seat s.front after.front) c.own.view_is
-    (serves_enters c.own.inside.sight after c.own.inside.number c.serve_section-step.result.0 c.own.invariant.own c.serve_section-step.ensures.serves)
-
-pub returns-in-None-clause-thread : goal.returns-in-None-clause-thread
-returns-in-None-clause-thread g c =
-    let after = c.serve_section-step.new.sight in
-    subst (λ (s : Seated). IsThread s.seat after.front) c.own.view_is
-    (serves_thread c.own.inside.sight after c.own.inside.number c.serve_section-step.result.0 c.own.invariant.own c.serve_section-step.ensures.serves
-    (subst (λ (s : Seated). IsThread s.seat s.front) (sym c.own.view_is) c.requires.thread))
+    (subst (λ (s : Seated). IsThread s.seat s.front) (sym same) c.requires.thread))

@@ -1,17 +1,26 @@
--- The hook that the seat carries comes home: its entry is what comes next of the operation.
-use Rattle.std.proofs.Common.{sym, subst, is_some}
-use Rattle.hp_board.specs.declared.turn.Turn.TheVariants.{Made}
+-- The hook that the seat carries comes home, or its next step is made.
+use Rattle.std.proofs.Common.{◌∙◌, sym, subst, is_some}
+use Rattle.hp_live.specs.declared.step.Stepped.{Stepped}
 use Rattle.hp_live.specs.Known.{Seated}
-use Rattle.hp_live.specs.Sections.{CanAsk, TurnedIn}
-use Rattle.hp_live.proofs.Turning.{gives_turned}
+use Rattle.hp_live.specs.Runs.{SteppedIn}
+use Rattle.hp_live.proofs.AfterTries.{entered_turned}
+use Rattle.hp_live.proofs.Turning.{steps_stepped}
 use Rattle.hp_live.proofs.hotplug.Hotplug.step.Goals as goal
 
 pub returns-in-Some-clause-stepped : goal.returns-in-Some-clause-stepped
 returns-in-Some-clause-stepped g c =
+    entered_turned c.args.own.now.head c.args.own.now.seat c.args.ask.now.op (is_some c.args.ask.now.hook) c.args.own.now.front
+    c.give_step.new.own.front c.in-Some.made c.requires.asked c.in-Some.ensures.entered
+
+pub returns-clause-stepped : goal.returns-clause-stepped
+returns-clause-stepped g c =
     let had = is_some c.args.ask.now.hook in
-    let at = c.give_section-at.result in
-    let after = c.give_section-at.new.sight in
-    subst (λ (s : Seated). TurnedIn s.head s.seat c.args.ask.now.op had had s.front after.front (Made at)) c.own.view_is
-    (gives_turned c.own.inside.sight after c.own.inside.number c.args.ask.now.op had at c.own.invariant.own
-    (subst (λ (s : Seated). CanAsk s.head s.front s.seat c.args.ask.now.op had) (sym c.own.view_is) c.requires.asked)
-    c.give_section-at.ensures.gives)
+    let has = is_some c.turn_section.new.ask.hook in
+    let p = c.own.inside.sight in
+    let after = c.turn_section.new.sight in
+    subst (λ (s : Seated). SteppedIn s.head s.seat c.args.ask.now.op had has s.front after.front c.keep-stepped.result)
+    (c.own.view_is ∙ c.in_default.ensures.none.0)
+    (subst (λ (d : Stepped). SteppedIn p.head c.own.inside.number c.args.ask.now.op had has p.front after.front d)
+    (sym c.keep-stepped.ensures.stepped)
+    (steps_stepped p after c.own.inside.number c.args.ask.now.op had has c.in_ok-step.step c.own.invariant.own
+    c.in_ok-step.ensures.steps))
