@@ -1,8 +1,9 @@
 //! The threads of a run are beside each other: one goes on while another is held, and while a hook is called.
 
 use crate::caller::{Call, rack_of, run};
-use crate::holds::{CallGate, HoldingGate, HoldingHook, Signals};
+use crate::holds::{CallGate, CountingGate, HoldingGate, HoldingHook, Signals};
 use hp_hook::{Rack, ScriptHook};
+use hp_samples::TWO_STARTUPS;
 use std::sync::Arc;
 use std::sync::atomic::AtomicU64;
 use std::test::*;
@@ -30,8 +31,11 @@ fn no_seat_waits_for_another(rt: HostRuntime) -> Result<(), Fail> {
         let gate = HoldingGate::new(held, other, to_leave);
         let rack = rack_of(alloc, 0, &calls)?;
         let ran = run(&rt, alloc, &TWO_ACTORS, rack, &gate);
-        assert!(rt; !gate.gave_up(), "row {name}: a hold gave up");
         assert!(rt; ran.status == 0, "row {name}: status {}", ran.status);
+        assert!(rt;
+            gate.has_held(),
+            "row {name}: the seat wasn't held, or the other didn't come"
+        );
     }
     Ok(())
 }
@@ -68,7 +72,43 @@ fn a_hook_is_called_outside_the_lock(rt: HostRuntime) -> Result<(), Fail> {
     };
     let hooks = Vec::from_array(alloc, [hook])?;
     let ran = run(&rt, alloc, &ONE_CALL, Rack { hooks }, &gate);
-    assert!(rt; !signals.gave_up(), "a hold gave up");
-    assert!(rt; ran.status == 0);
+    assert!(rt; ran.status == 0, "status {}", ran.status);
+    assert!(rt;
+        signals.has_left_meanwhile(),
+        "the other didn't leave while the hook was called"
+    );
+    Ok(())
+}
+
+/// How many events each seat makes in the script of two startups, its leave among them: the two processors' threads a call
+/// of each of two states, the actor two setups and one bring-up, of two and of four events.
+const EVENTS: [(u32, u64); 3] = [(0, 3), (1, 3), (2, 9)];
+
+#[test]
+fn each_section_is_announced_once_and_in_order(rt: HostRuntime) -> Result<(), Fail> {
+    let alloc = rt.alloc();
+    let calls = Arc::new(alloc, AtomicU64::new(0))?;
+    let gate = CountingGate::new();
+    let call = Call {
+        words: &["run"],
+        input: [TWO_STARTUPS.script, ""],
+        fails: (None, None),
+    };
+    let rack = rack_of(alloc, 2, &calls)?;
+    let ran = run(&rt, alloc, &call, rack, &gate);
+    assert!(rt; ran.status == 0, "status {}", ran.status);
+    for (seat, events) in EVENTS {
+        match gate.sections_of(seat) {
+            Some(sections) => {
+                assert!(rt;
+                    sections >= events,
+                    "seat {seat}: {sections} sections for {events} events"
+                )
+            }
+            None => panic!(rt;
+                "seat {seat}: its sections are out of order, or it left in none of them"
+            ),
+        }
+    }
     Ok(())
 }

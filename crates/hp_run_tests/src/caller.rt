@@ -15,10 +15,10 @@ use std::thread::Threads;
 
 /// The words, what is read, and the read and the write that fail, if one does: by ten bytes each, and by a hundred.
 #[derive(Clone, Copy)]
-pub struct Call {
-    pub words: &'static [&'static str],
+pub struct Call<'a> {
+    pub words: &'a [&'a str],
     /// The script, in pieces.
-    pub input: [&'static str; 2],
+    pub input: [&'a str; 2],
     pub fails: (Option<u64>, Option<u64>),
 }
 
@@ -73,7 +73,7 @@ pub fn source_of(alloc: Global, bytes: Vec<u8>, fails: Option<u64>) -> Result<Me
     Ok(source)
 }
 
-/// A sink that has room for what is written here, so that it takes no more memory; this write fails.
+/// A sink that has room for what is written in most tests; this write fails.
 pub fn sink_of(alloc: Global, fails: Option<u64>) -> Result<MemSink, AllocError>
     ensures { IfOk result (λ sink. sink.faults ≡ 0) }
 {
@@ -94,7 +94,7 @@ fn bytes_of(alloc: Global, [one, other]: [&str; 2]) -> Result<Vec<u8>, AllocErro
 }
 
 /// What a call hands in.
-fn objects_of(alloc: Global, call: &Call) -> Result<Objects, AllocError>
+fn objects_of(alloc: Global, call: &Call<'_>) -> Result<Objects, AllocError>
     ensures source { IfOk result (λ objects. objects.source.faults ≡ 0) }
     ensures sink { IfOk result (λ objects. objects.sink.faults ≡ 0) }
 {
@@ -112,7 +112,7 @@ fn objects_of(alloc: Global, call: &Call) -> Result<Objects, AllocError>
 pub fn run<R: Abort + Threads + Wait + Sync, H: Hook + Send, G: Gate + Sync>(
     rt: &R,
     alloc: Global,
-    call: &Call,
+    call: &Call<'_>,
     rack: Rack<H>,
     gate: &G,
 ) -> Ran {

@@ -1,4 +1,4 @@
-//! Gates and a hook that hold one thread until another has come.
+//! Gates and a hook that hold one thread until another has come, and a gate that only keeps account.
 
 use hp_hook::{Hook, ScriptHook};
 use hp_live::Gate;
@@ -28,6 +28,7 @@ pub struct HoldingGate {
     other: u32,
     to_leave: bool,
     come: AtomicU64,
+    held_once: AtomicU64,
     given_up: AtomicU64,
 }
 
@@ -39,13 +40,16 @@ impl HoldingGate {
             other,
             to_leave,
             come: AtomicU64::new(0),
+            held_once: AtomicU64::new(0),
             given_up: AtomicU64::new(0),
         }
     }
 
-    /// Whether a hold gave up.
-    pub fn gave_up(&self) -> bool {
-        self.given_up.load(Ordering::SeqCst) != 0
+    /// Whether the seat came to its first section, and was let go because the other had come.
+    pub fn has_held(&self) -> bool {
+        let held = self.held_once.load(Ordering::SeqCst) == 1;
+        let come = self.come.load(Ordering::SeqCst) == 1;
+        held && come && self.given_up.load(Ordering::SeqCst) == 0
     }
 }
 
@@ -56,6 +60,7 @@ impl Gate for HoldingGate {
         }
         if seat == self.held && section == 0 {
             hold(&self.come, &self.given_up);
+            self.held_once.fetch_add(1, Ordering::SeqCst);
         }
     }
 }
@@ -65,6 +70,7 @@ impl Gate for HoldingGate {
 pub struct Signals {
     begun: AtomicU64,
     left: AtomicU64,
+    ended: AtomicU64,
     given_up: AtomicU64,
 }
 
@@ -74,13 +80,17 @@ impl Signals {
         Signals {
             begun: AtomicU64::new(0),
             left: AtomicU64::new(0),
+            ended: AtomicU64::new(0),
             given_up: AtomicU64::new(0),
         }
     }
 
-    /// Whether a hold gave up.
-    pub fn gave_up(&self) -> bool {
-        self.given_up.load(Ordering::SeqCst) != 0
+    /// Whether a call of the hook began and ended once on processor 1, the gate's seat left meanwhile, and no hold gave up.
+    pub fn has_left_meanwhile(&self) -> bool {
+        let begun = self.begun.load(Ordering::SeqCst) == 1;
+        let left = self.left.load(Ordering::SeqCst) == 1;
+        let ended = self.ended.load(Ordering::SeqCst) == 1;
+        begun && left && ended && self.given_up.load(Ordering::SeqCst) == 0
     }
 }
 
@@ -121,8 +131,9 @@ impl Hook for HoldingHook {
 
     fn call(&mut self, cpu: u32, inst: u32, dir: Dir) -> u32 {
         if cpu == 1 {
-            self.signals.begun.store(1, Ordering::SeqCst);
+            self.signals.begun.fetch_add(1, Ordering::SeqCst);
             hold(&self.signals.left, &self.signals.given_up);
+            self.signals.ended.fetch_add(1, Ordering::SeqCst);
         }
         self.hook.call(cpu, inst, dir)
     }
@@ -133,5 +144,68 @@ impl Hook for HoldingHook {
 
     fn faults(&self) -> u64 {
         self.hook.faults()
+    }
+}
+
+/// What a seat passed.
+#[derive(Drop)]
+struct Passes {
+    count: AtomicU64,
+    /// Whether the last pass was said to be one.
+    last: AtomicU64,
+    /// How many passes had a number out of their order, or weren't the last ones behind one that was.
+    wrong: AtomicU64,
+}
+
+impl Passes {
+    fn none() -> Passes {
+        Passes {
+            count: AtomicU64::new(0),
+            last: AtomicU64::new(0),
+            wrong: AtomicU64::new(0),
+        }
+    }
+
+    /// One pass more, of the seat's own thread or of who joined that.
+    fn add(&self, section: u64, last: bool) {
+        let before = self.count.fetch_add(1, Ordering::SeqCst);
+        let was_last = self.last.swap(if last { 1 } else { 0 }, Ordering::SeqCst) == 1;
+        if before != section || (was_last && !last) {
+            self.wrong.fetch_add(1, Ordering::SeqCst);
+        }
+    }
+}
+
+/// A gate that keeps account of what three seats pass, and holds nobody.
+#[derive(Drop)]
+pub struct CountingGate {
+    seats: [Passes; 3],
+}
+
+impl CountingGate {
+    /// Nobody has passed yet.
+    pub fn new() -> CountingGate {
+        CountingGate {
+            seats: [Passes::none(), Passes::none(), Passes::none()],
+        }
+    }
+
+    /// How many sections a seat took, if they were numbered 0, 1, 2, and so on, and it left in the last of them and said so
+    /// in none before its leave's.
+    pub fn sections_of(&self, seat: u32) -> Option<u64> {
+        let passes = self.seats.get(seat as usize)?;
+        let left = passes.last.load(Ordering::SeqCst) == 1;
+        if passes.wrong.load(Ordering::SeqCst) != 0 || !left {
+            return None;
+        }
+        Some(passes.count.load(Ordering::SeqCst))
+    }
+}
+
+impl Gate for CountingGate {
+    fn pass(&self, seat: u32, section: u64, last: bool) {
+        if let Some(passes) = self.seats.get(seat as usize) {
+            passes.add(section, last);
+        }
     }
 }

@@ -18,3 +18,5 @@ mod holds;
 mod refused;
 #[cfg(test)]
 mod runs;
+#[cfg(test)]
+mod size;

@@ -29,7 +29,7 @@ pub fn written_of_two_startups(alloc: Global, more: &str) -> Result<String, Allo
 fn done<R: Abort + Threads + Wait + Sync>(
     rt: &R,
     alloc: Global,
-    call: &Call,
+    call: &Call<'_>,
     hooks: u32,
 ) -> Result<(Vec<u8>, u64), AllocError> {
     let calls = Arc::new(alloc, AtomicU64::new(0))?;
