@@ -1,0 +1,4 @@
+mod NestLaws
+mod PieceForms
+mod VerdictLaws
+mod FailedLaws
