@@ -2,15 +2,18 @@
 //!
 //! It hands its words, standard input, standard output, a rack of hooks and a gate that does nothing to `hpd_main` of
 //! `hp_run`, and ends with the status that `hpd_main` answers. Where nothing was written that says why, standard error
-//! has a line that does. The rack is its own: so many boxed hooks of scripts.
+//! has a line that does, unless whoever reads is gone; of words that are no command's, and of a script that is refused, it has a
+//! hint. The rack is its own: so many boxed hooks of scripts.
 #![tactic(auto)]
 
-use hp_edge::{NO_MEMORY, cause_of};
+use hp_edge::{BAD_SCRIPT, BAD_WORDS, NO_MEMORY, WRITE_FAULT, cause_of};
+use hp_hint::{Kept, Noting, Program, script_hint};
 use hp_hook::{Hook, Rack, ScriptHook};
 use hp_io::{RealSink, RealSource};
 use hp_live::FreeGate;
 use hp_run::hpd_main;
-use std::io;
+use hp_states::MAX_SCRIPT_BYTES;
+use std::io::{self, IsTerminal};
 use std::process::ExitCode;
 
 /// The hooks of the rack: as many setups as a script may have.
@@ -34,31 +37,54 @@ fn words_of(rt: &HostRuntime) -> io::Result<Vec<String>> {
     Ok(words)
 }
 
-/// Ends with a status, and says why where nothing was written that does.
-fn end(rt: &HostRuntime, status: u8) -> ExitCode {
-    if let Some(cause) = cause_of(status) {
+/// Whether hints are in colour: where standard error is a terminal, and `NO_COLOR` isn't set.
+fn has_colour(rt: &HostRuntime) -> bool {
+    rt.stderr().is_terminal() && std::env::var(rt, "NO_COLOR").is_err()
+}
+
+/// Says on standard error why the program ended so, or what would have been right.
+fn explain(rt: &HostRuntime, status: u8, words: &[String], script: &[u8]) {
+    if status == BAD_WORDS {
+        let _ = eprint!(rt; "{}", Program::Hpd.words_hint(words));
+    } else if status == BAD_SCRIPT {
+        if let Ok(hint) = script_hint(rt.alloc(), script, HOOKS, has_colour(rt)) {
+            let _ = eprint!(rt; "{hint}");
+        }
+    } else if let Some(cause) = cause_of(status) {
         let _ = eprintln!(rt; "hpd: {cause}");
     }
+}
+
+/// The end with a status, which is explained.
+fn end(rt: &HostRuntime, status: u8, words: &[String], script: &[u8]) -> ExitCode {
+    explain(rt, status, words, script);
     ExitCode::from(status)
 }
 
 fn main(rt: HostRuntime) -> ExitCode {
     let alloc = rt.alloc();
     let Ok(words) = words_of(&rt) else {
-        return end(&rt, NO_MEMORY);
+        return end(&rt, NO_MEMORY, &[], &[]);
     };
     let mut hooks: Vec<Box<dyn Hook + Send>> = Vec::new(alloc);
     for _ in 0..HOOKS {
         let Ok(hook) = Box::new(alloc, ScriptHook::new()) else {
-            return end(&rt, NO_MEMORY);
+            return end(&rt, NO_MEMORY, &words, &[]);
         };
         if hooks.push(hook).is_err() {
-            return end(&rt, NO_MEMORY);
+            return end(&rt, NO_MEMORY, &words, &[]);
         }
     }
     let rack = Rack { hooks };
-    let mut source = RealSource::new(rt.reader());
-    let mut sink = RealSink::new(io::writer(&rt));
+    let mut source = Kept::new(
+        alloc,
+        RealSource::new(rt.reader()),
+        MAX_SCRIPT_BYTES as usize + 1,
+    );
+    let mut sink = RealSink::new(Noting::new(io::writer(&rt)));
     let status = hpd_main(&rt, alloc, &words, &mut source, &mut sink, rack, &FreeGate);
-    end(&rt, status)
+    if status == WRITE_FAULT && sink.writer.is_closed() {
+        return ExitCode::from(status);
+    }
+    end(&rt, status, &words, source.bytes())
 }

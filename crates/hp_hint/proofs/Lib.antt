@@ -1,0 +1,4 @@
+pub mod Good
+pub mod SameForms
+pub mod Places
+pub mod LineWords

@@ -1,0 +1,5 @@
+pub mod Forms
+pub mod LineForms
+pub mod Verbs
+pub mod Places
+pub mod Faults

@@ -1,0 +1,57 @@
+//! What the lines before a refused one say that its hint speaks of.
+
+use crate::piece::next_piece;
+use crate::verb::{Verb, verb_of};
+use crate::words::LineWords;
+use hp_text::{OpWord, Words, number};
+
+/// What stood before a line.
+#[derive(Clone, Copy, Debug)]
+pub struct Context {
+    /// How many processors are possible.
+    pub possible: u32,
+    /// How many `sub` lines there are.
+    pub subs: u32,
+    /// The line of the `lock` that is open, counted from 1; 0 where none is.
+    pub open_lock: u32,
+}
+
+impl Context {
+    /// What stands before the line of this number, counted from 1. Takes no memory.
+    pub fn before(bytes: &[u8], line: u32) -> Context {
+        let mut context = Context {
+            possible: 0,
+            subs: 0,
+            open_lock: 0,
+        };
+        let mut rest = bytes;
+        for at in 1..line {
+            let Some((text, behind)) = next_piece(b'\n', rest) else {
+                return context;
+            };
+            context.take(at, text);
+            rest = behind;
+        }
+        context
+    }
+
+    /// One line more.
+    fn take(&mut self, at: u32, line: &[u8]) {
+        let mut words = LineWords::of(line);
+        let Some(first) = words.next_word() else {
+            return;
+        };
+        match verb_of(first) {
+            Some(Verb::Cpus) => {
+                if let Some(word) = words.next_word() {
+                    self.possible = number(word).unwrap_or(0);
+                }
+            }
+            Some(Verb::Sub) => self.subs = self.subs.saturating_add(1),
+            Some(Verb::Actor) => self.open_lock = 0,
+            Some(Verb::Operation(OpWord::Lock)) => self.open_lock = at,
+            Some(Verb::Operation(OpWord::Unlock)) => self.open_lock = 0,
+            _ => {}
+        }
+    }
+}
