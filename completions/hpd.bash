@@ -8,6 +8,8 @@ _hpd() {
         mapfile -t COMPREPLY < <(compgen -f -- "$current")
     elif [[ $COMP_CWORD -eq 1 ]]; then
         mapfile -t COMPREPLY < <(compgen -W "run work" -- "$current")
+    elif [[ $COMP_CWORD -eq 2 && ${COMP_WORDS[1]} == work ]]; then
+        mapfile -t COMPREPLY < <(compgen -W "$(echo {1..198})" -- "$current")
     fi
 }
 complete -F _hpd hpd
