@@ -17,6 +17,7 @@ use hp_machine::names_sub;
 use hp_states::NoMemory;
 use std::process::Abort;
 use std::sync::Wait;
+use std::thread::yield_now;
 
 /// A client of a machine with this head, that asks for an operation by tries.
 pub(crate) struct Asking<'m, H: Hook + Send> {
@@ -132,7 +133,7 @@ impl<'m, H: Hook + Send> Asking<'m, H> {
         }
     }
 
-    /// Tries until one answers: the place of its event, and the answer.
+    /// Tries until one answers: the place of its event, and the answer. Lets others have the lock between two.
     pub(crate) fn to_the_end<R: Wait + Abort, G: Gate>(
         self,
         rt: &R,
@@ -144,6 +145,7 @@ impl<'m, H: Hook + Send> Asking<'m, H> {
                 Trial::GoesOn(next, _) => asking = next,
                 Trial::Ends(client, at, answer) => return (client, at, answer),
             }
+            yield_now();
         }
         unreachable!()
     }

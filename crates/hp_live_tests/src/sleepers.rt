@@ -9,11 +9,14 @@ use std::sync::atomic::{AtomicU64, Ordering};
 use std::test::Fail;
 use std::thread::yield_now;
 
-/// After how many yields a wait gives up.
-const TURNS: u64 = 40_000_000;
+/// After how many turns a wait gives up: a second or more, and longer where processors are busy.
+const TURNS: u64 = 100_000;
 
-/// How many yields a seat is given that has come to the section after which it sleeps.
-const REST: u64 = 20_000;
+/// How many turns a seat is given that has come to the section after which it sleeps.
+const REST: u64 = 50;
+
+/// How often a turn looks at a mark before it yields.
+const LOOKS: u64 = 4_000;
 
 /// What hooks, gates and clients tell each other: 0 for no, 1 for yes.
 #[derive(Drop)]
@@ -44,10 +47,9 @@ impl Marks {
     /// Waits until a mark is set, or gives up.
     pub(crate) fn awaits(&self, mark: &AtomicU64) {
         for _ in 0..TURNS {
-            if mark.load(Ordering::SeqCst) == 1 || self.gave_up() {
+            if is_set(mark) || self.gave_up() {
                 return;
             }
-            yield_now();
         }
         self.gave_up.store(1, Ordering::SeqCst);
     }
@@ -55,7 +57,14 @@ impl Marks {
     /// Waits until the seat that is watched sleeps, as far as that can be seen.
     pub(crate) fn awaits_sleep(&self) {
         self.awaits(&self.asleep);
-        rests();
+        self.rests();
+    }
+
+    /// Lets others go on.
+    pub(crate) fn rests(&self) {
+        for _ in 0..REST {
+            let _ = is_set(&self.gave_up);
+        }
     }
 
     /// Whether one of them gave up.
@@ -64,11 +73,15 @@ impl Marks {
     }
 }
 
-/// Lets others go on.
-pub(crate) fn rests() {
-    for _ in 0..REST {
-        yield_now();
+/// A turn of a wait: whether a mark is set, which is looked at for a while, and then once more after others went on.
+fn is_set(mark: &AtomicU64) -> bool {
+    for _ in 0..LOOKS {
+        if mark.load(Ordering::SeqCst) == 1 {
+            return true;
+        }
     }
+    yield_now();
+    mark.load(Ordering::SeqCst) == 1
 }
 
 /// A gate that may know marks.
@@ -154,7 +167,7 @@ impl Holds {
             }
             How::AfterFirst => {
                 marks.awaits(&marks.first);
-                rests();
+                marks.rests();
             }
             How::SecondUntilAsleep => {
                 marks.second.store(1, Ordering::SeqCst);

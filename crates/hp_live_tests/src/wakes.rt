@@ -7,7 +7,7 @@ use crate::asking::begins;
 use crate::client::{Client, admitted};
 use crate::heads::{closed, head, started};
 use crate::jobs::{self, add, all_done, of_admitted, of_client, of_threads};
-use crate::sleepers::{Comes, Holds, How, Marks, Stage, rests};
+use crate::sleepers::{Comes, Holds, How, Marks, Stage};
 use hp_board::Ask;
 use hp_event::{Answer, Op};
 use hp_hook::Hook;
@@ -149,7 +149,7 @@ impl<G: Stage> Scene<'_, G> {
             if shown == Answer::Ok(200) || self.marks.gave_up() {
                 break;
             }
-            rests();
+            self.marks.rests();
         }
         client.leaves(rt, self.gate);
         true
