@@ -9,6 +9,8 @@ pub enum Program {
     Hpd,
     /// `hpview`.
     Hpview,
+    /// `hptrace`.
+    Hptrace,
 }
 
 const HP_VERSION: &str =
@@ -19,6 +21,9 @@ const HPD_VERSION: &str =
 
 const HPVIEW_VERSION: &str =
     "hpview 1.0.0\nwhether this build is proved its record says, share/doc/hp/hpview.proved where it is installed\n";
+
+const HPTRACE_VERSION: &str =
+    "hptrace 1.0.0\nwhether this build is proved its record says, share/doc/hp/hptrace.proved where it is installed\n";
 
 const HP_HELP: &str =
     "hp plays scripts of CPU hotplug, and checks journals. What reads, reads standard input.
@@ -44,6 +49,13 @@ const HPVIEW_HELP: &str = "hpview draws a journal as SVG. It reads standard inpu
 
   --from N           the first event of the window, counted from 1
   --to M             the last one
+";
+
+const HPTRACE_HELP: &str =
+    "hptrace judges the lines of a kernel's trace of CPU hotplug: the file trace of ftrace, what trace-cmd report shows, or dmesg.
+It takes no words, and reads standard input.
+
+  hptrace < FILE     whether its lines can stand, or the first that can't
 ";
 
 /// Whether a word asks for help.
@@ -102,6 +114,7 @@ impl Program {
             Program::Hp => HP_HELP,
             Program::Hpd => HPD_HELP,
             Program::Hpview => HPVIEW_HELP,
+            Program::Hptrace => HPTRACE_HELP,
         }
     }
 
@@ -110,6 +123,7 @@ impl Program {
             Program::Hp => HP_VERSION,
             Program::Hpd => HPD_VERSION,
             Program::Hpview => HPVIEW_VERSION,
+            Program::Hptrace => HPTRACE_VERSION,
         }
     }
 
@@ -132,8 +146,10 @@ impl Program {
             Program::Hp => hint_of_hp(first),
             Program::Hpd => hint_of_hpd(first),
             Program::Hpview => {
-                "hpview takes --from N and --to M, each at most once, and reads standard input: hpview < FILE\n"
+                "hpview takes --from N and --to M, each at most once and a number up to 18446744073709551615, and reads standard input: hpview < FILE\n"
             }
+            Program::Hptrace =>
+                "hptrace takes no words, and reads standard input: hptrace < FILE\n",
         }
     }
 }

@@ -4,7 +4,8 @@ use crate::context::Context;
 use crate::grammar::{form_of, limit_of, meaning_of, order_of};
 use crate::verb::Verb;
 use hp_script::ScriptKind;
-use hp_states::NoMemory;
+use hp_states::{MAX_OPERATIONS, NoMemory};
+use hp_text::OpWord;
 use std::fmt::Write;
 
 /// The most bytes of a word that a hint repeats.
@@ -33,8 +34,14 @@ pub fn append_cause_at_end(
 ) -> Result<(), NoMemory> {
     match kind {
         ScriptKind::TooLong => text.push_str("a script has at most 1048576 bytes")?,
-        ScriptKind::NoCpus => text.push_str("no line says anything; a script begins with cpus N")?,
-        ScriptKind::NoActor => text.push_str("the script ends here, and there is no actor yet")?,
+        ScriptKind::NoCpus => {
+            text.push_str(
+                "no line says anything; a script begins with cpus N, where N is 1 to 256",
+            )?
+        }
+        ScriptKind::NoActor => text.push_str(
+            "the script ends here without an actor: a line actor NAME is wanting, and its operations behind it",
+        )?,
         _ => append_open_lock(text, "the script ends here", context)?,
     }
     Ok(())
@@ -84,6 +91,36 @@ fn append_word(text: &mut String, word: &[u8]) -> Result<(), NoMemory> {
     Ok(())
 }
 
+/// What there can't be more of.
+fn append_limit(text: &mut String, verb: Verb, context: &Context) -> Result<(), NoMemory> {
+    let is_setup = matches!(verb, Verb::Operation(OpWord::Setup));
+    if is_setup && context.ops < MAX_OPERATIONS {
+        let setups = context.setups;
+        write!(
+            text,
+            "there are {setups} setups already, in all actors together, and no more may be"
+        )?;
+        return Ok(());
+    }
+    text.push_str(limit_of(verb))?;
+    Ok(())
+}
+
+/// Which processors may be absent.
+fn append_absent_range(text: &mut String, context: &Context) -> Result<(), NoMemory> {
+    let possible = context.possible;
+    if possible <= 1 {
+        text.push_str(": with cpus 1 no processor may be absent, since processor 0 is there")?;
+        return Ok(());
+    }
+    let last = possible - 1;
+    write!(
+        text,
+        ": each C is a number above the one before it, from 1 to {last}, the last of cpus {possible}"
+    )?;
+    Ok(())
+}
+
 /// What is wrong with a number that is out of its range.
 fn append_range(
     text: &mut String,
@@ -94,24 +131,30 @@ fn append_range(
     text.push_str("not ")?;
     append_word(text, at.word)?;
     if matches!(verb, Verb::Absent) {
-        let last = context.possible.saturating_sub(1);
-        write!(
-            text,
-            ": each C is a number above the one before it, from 1 to {last}, the last possible processor"
-        )?;
-        return Ok(());
+        return append_absent_range(text, context);
     }
     text.push_str(": ")?;
     text.push_str(meaning_of(verb, at.second, at.place).unwrap_or("out of its range"))?;
     Ok(())
 }
 
-/// Why a word that begins as a number is none.
-fn no_number(word: &[u8]) -> &'static str {
+/// Whether the word at this place of a line, counted from 1 behind the first one, may have a sign.
+fn has_sign(verb: Verb, place: usize) -> bool {
+    match verb {
+        Verb::Operation(OpWord::Target | OpWord::Fail) => place == 2,
+        Verb::Operation(OpWord::Freeze) => place == 1,
+        _ => false,
+    }
+}
+
+/// Why a word that begins as a number is none, where a number may have a sign or not.
+fn no_number(word: &[u8], is_signed: bool) -> &'static str {
     match word {
         [b'0', b'0'..=b'9', ..] => " (a number has no zero before others)",
-        [b'-', ..] => " (no sign belongs here)",
-        [b'+', ..] => " (a number has no plus)",
+        [b'0', b'x' | b'X', ..] => " (a number is decimal)",
+        [b'-', b'0'..=b'9', ..] if !is_signed => " (no sign belongs here)",
+        [b'-', b'0', ..] => " (no zero stands behind a minus)",
+        [b'+', b'0'..=b'9', ..] => " (a number has no plus)",
         _ => "",
     }
 }
@@ -120,21 +163,20 @@ fn no_number(word: &[u8]) -> &'static str {
 fn append_misfit(
     text: &mut String,
     word: &[u8],
+    is_signed: bool,
     meaning: Option<&'static str>,
 ) -> Result<(), NoMemory> {
     if word.is_empty() {
-        text.push_str("a word is wanting: ")?;
+        text.push_str("a word is wanting")?;
     } else if word.first().copied() == Some(b'#') {
-        text.push_str("a comment has a line of its own: ")?;
+        text.push_str("a comment has a line of its own")?;
     } else if meaning.is_none() {
-        text.push_str("nothing belongs here, nor ")?;
         append_word(text, word)?;
-        text.push_str(": ")?;
+        text.push_str(" is a word too many")?;
     } else {
         text.push_str("not ")?;
         append_word(text, word)?;
-        text.push_str(no_number(word))?;
-        text.push_str(": ")?;
+        text.push_str(no_number(word, is_signed))?;
     }
     Ok(())
 }
@@ -142,7 +184,8 @@ fn append_misfit(
 /// What is wrong with a line that isn't of its form.
 fn append_form(text: &mut String, verb: Verb, at: &Marked<'_>) -> Result<(), NoMemory> {
     let meaning = meaning_of(verb, at.second, at.place);
-    append_misfit(text, at.word, meaning)?;
+    append_misfit(text, at.word, has_sign(verb, at.place), meaning)?;
+    text.push_str(": the form is ")?;
     text.push_str(form_of(verb, at.second))?;
     if let Some(meaning) = meaning {
         text.push_str("; ")?;
@@ -163,7 +206,7 @@ fn append_cause_of(
         ScriptKind::BadOrder => text.push_str(order_of(verb))?,
         ScriptKind::StillLocked => append_open_lock(text, "another actor begins", context)?,
         ScriptKind::NoSub => append_no_sub(text, context)?,
-        ScriptKind::TooMany => text.push_str(limit_of(verb))?,
+        ScriptKind::TooMany => append_limit(text, verb, context)?,
         ScriptKind::BadNumber => append_range(text, verb, at, context)?,
         _ => append_form(text, verb, at)?,
     }
@@ -194,7 +237,7 @@ pub fn append_cause(
         Some(verb) => append_cause_of(text, kind, verb, at, context),
         None => {
             text.push_str(
-                "no line begins with this word; an operation is up, down, upmany, target, fail, show, setup, remove, add, del, lock, unlock, boot, disable, enable, freeze, thaw or wakeup",
+                "no line begins with this word; those that do are cpus, absent, sub, rule, schedule and actor, and of operations up, down, upmany, target, fail, show, setup, remove, add, del, lock, unlock, boot, disable, enable, freeze, thaw and wakeup",
             )?;
             Ok(())
         }

@@ -12,6 +12,10 @@ pub struct Context {
     pub possible: u32,
     /// How many `sub` lines there are.
     pub subs: u32,
+    /// How many `setup` lines there are.
+    pub setups: u32,
+    /// How many operations the last actor has.
+    pub ops: u32,
     /// The line of the `lock` that is open, counted from 1; 0 where none is.
     pub open_lock: u32,
 }
@@ -22,6 +26,8 @@ impl Context {
         let mut context = Context {
             possible: 0,
             subs: 0,
+            setups: 0,
+            ops: 0,
             open_lock: 0,
         };
         let mut rest = bytes;
@@ -48,9 +54,22 @@ impl Context {
                 }
             }
             Some(Verb::Sub) => self.subs = self.subs.saturating_add(1),
-            Some(Verb::Actor) => self.open_lock = 0,
-            Some(Verb::Operation(OpWord::Lock)) => self.open_lock = at,
-            Some(Verb::Operation(OpWord::Unlock)) => self.open_lock = 0,
+            Some(Verb::Actor) => {
+                self.open_lock = 0;
+                self.ops = 0;
+            }
+            Some(Verb::Operation(first)) => self.take_operation(at, first),
+            _ => {}
+        }
+    }
+
+    /// One operation more.
+    fn take_operation(&mut self, at: u32, first: OpWord) {
+        self.ops = self.ops.saturating_add(1);
+        match first {
+            OpWord::Setup => self.setups = self.setups.saturating_add(1),
+            OpWord::Lock => self.open_lock = at,
+            OpWord::Unlock => self.open_lock = 0,
             _ => {}
         }
     }

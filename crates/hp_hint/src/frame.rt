@@ -90,7 +90,8 @@ fn append_mark(text: &mut String, line: &[u8], start: usize, mark: Mark) -> Resu
     if mark.length == 0 {
         return Ok(text.push_str("^")?);
     }
-    for byte in line.iter().skip(mark.start).take(mark.length.min(MAX_LINE)) {
+    let shown = MAX_LINE.saturating_sub(before);
+    for byte in line.iter().skip(mark.start).take(mark.length.min(shown)) {
         append_many(text, "^", width_of(*byte))?;
     }
     Ok(())

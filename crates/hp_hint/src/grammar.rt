@@ -10,7 +10,13 @@ const CPU: &str = "C is a processor, a number from 0 to 4095";
 
 const STATE: &str = "S is a state, a number from 0 to 65535";
 
-const FLAGS: &str = "FLAGS is nocalls, locked, nocalls locked, or nothing";
+const TARGET: &str =
+    "V is the number of the state to go to, 0 to 200; any from -2147483648 to 2147483647 is read";
+
+const FAIL: &str =
+    "V is the number of the state that is to fail, 0 to 200, or -1 for none; any from -2147483648 to 2147483647 is read";
+
+const FLAGS: &str = "FLAGS is nothing, nocalls, locked, or nocalls locked in this order";
 
 /// The form of a line with this first word and, of `show` and `schedule`, this second one. Takes no memory.
 pub fn form_of(verb: Verb, second: &[u8]) -> &'static str {
@@ -136,10 +142,8 @@ fn schedule_meaning(second: &[u8], place: usize) -> Option<&'static str> {
 fn operation_meaning(first: OpWord, second: &[u8], place: usize) -> Option<&'static str> {
     match first {
         OpWord::Up | OpWord::Down => at(place, &[CPU]),
-        OpWord::Target | OpWord::Fail => at(
-            place,
-            &[CPU, "V is a value, a number from -2147483648 to 2147483647"],
-        ),
+        OpWord::Target => at(place, &[CPU, TARGET]),
+        OpWord::Fail => at(place, &[CPU, FAIL]),
         OpWord::Show => show_meaning(second, place),
         OpWord::Setup => at(
             place,
@@ -164,7 +168,10 @@ fn operation_meaning(first: OpWord, second: &[u8], place: usize) -> Option<&'sta
             place,
             &["N is how many are to be online, a number from 0 to 4095"],
         ),
-        OpWord::Freeze => at(place, &["P is a processor, a number from -1 to 4095"]),
+        OpWord::Freeze => at(
+            place,
+            &["P is the processor that stays, or -1 for the lowest one, a number from -1 to 4095"],
+        ),
         OpWord::UpMany => { Some("each C is a number above the one before it, from 0 to 255") }
         OpWord::Lock
         | OpWord::Unlock
@@ -198,15 +205,12 @@ pub fn order_of(verb: Verb) -> &'static str {
     }
 }
 
-/// What there can't be more of. Takes no memory.
+/// What there can't be more of, but for setups. Takes no memory.
 pub fn limit_of(verb: Verb) -> &'static str {
     match verb {
         Verb::Sub => "there are 128 sub lines already, and no more may be",
         Verb::Rule => "this sub has 8 rules already, and no more may be",
         Verb::Actor => "there are 32 actors already, and no more may be",
-        Verb::Operation(OpWord::Setup) => {
-            "there are 128 setups already, or this actor has 4096 operations, and no more may be"
-        }
         _ => "this actor has 4096 operations already, and no more may be",
     }
 }
