@@ -9,6 +9,7 @@
 //! - `accepted` wants the status 0, whatever the output;
 //! - `ends` wants the status 0, and that the output ends with the lines behind it, each as `>TEXT`;
 //! - `summary` wants the same, and that the output, replayed, gives those lines;
+//! - `played` wants the status 0, and that the output is a script of which, played, the same is so;
 //! - any line that begins with the word of a way in which an input is changed wants that of the input so far, as
 //!   [`crate::changes`] says;
 //! - an empty line, or one that begins with `#`, says nothing.
@@ -29,6 +30,8 @@ enum Wanted {
     End,
     /// The same, and that the output is a journal with this summary.
     Summary,
+    /// The status 0, and that the output is a script whose journal has this summary.
+    Played,
     /// The status, and the output of the row.
     Status(u8),
 }
@@ -63,6 +66,16 @@ fn ends_with_lines(output: &[u8], lines: &[u8]) -> bool {
 fn is_journal_of(alloc: Global, output: &[u8], summary: &[u8]) -> Result<bool, AllocError> {
     let (status, found) = run(alloc, "replay", output)?;
     Ok(status == DONE && found.as_slice() == summary)
+}
+
+/// Whether an output is a script that is played to a journal with this summary, which is written behind it.
+fn is_script_of(alloc: Global, output: &[u8], summary: &[u8]) -> Result<bool, AllocError> {
+    let (status, text) = run(alloc, "play", output)?;
+    Ok(
+        status == DONE
+            && ends_with_lines(text.as_slice(), summary)
+            && is_journal_of(alloc, text.as_slice(), summary)?,
+    )
 }
 
 impl<'a> Row<'a> {
@@ -101,6 +114,8 @@ impl<'a> Row<'a> {
             self.wanted = Wanted::End;
         } else if line == "summary" {
             self.wanted = Wanted::Summary;
+        } else if line == "played" {
+            self.wanted = Wanted::Played;
         } else if !line.is_empty() && !line.starts_with('#') {
             self.take_change(alloc, line)?;
         }
@@ -125,6 +140,7 @@ impl<'a> Row<'a> {
             Wanted::Accepted => status == DONE,
             Wanted::End => ends,
             Wanted::Summary => ends && is_journal_of(alloc, found, lines)?,
+            Wanted::Played => status == DONE && is_script_of(alloc, found, lines)?,
             Wanted::Status(wanted) => status == wanted && found == lines,
         })
     }
