@@ -1,10 +1,12 @@
 """What examples/compare draws: scripts, lawful journals, words of the command line, and changes of texts."""
 from rules import lawful_journals, what_comes_next
 from rules.journals_and_seats import Event, Head, Journal, in_flight, is_client, roles, seats_in
-from texts.the_script import operation, rule, subsystem
+from texts.the_journals_text import event_line
+from texts.the_script import LONGEST, operation, rule, subsystem
 
 STATES = [1, 10, 30, 40, 41, 42, 55, 61, 65, 70, 90, 99, 103, 110, 120, 140, 141, 142, 150, 160, 171, 172, 180, 198]
 ONLINE = [104, 105, 115, 130, 145, 155, 165, 170, 173, 175, 185, 190]
+BORDERS = [1, 2, 40, 41, 60, 61, 65, 98, 99, 103, 104, 140, 141, 171, 172, 198]
 EDGES = [0, 62, 63, 64, 100, 101, 102, 199, 200, 201, 65535]
 NUMBERS = ["0", "1", "2", "3", "7", "8", "9", "31", "32", "40", "41", "62", "63", "64", "65", "95", "96", "99", "100", "101", "128", "129",
            "141", "198", "199", "200", "201", "255", "256", "257", "319", "320", "4095", "4096", "65535", "65536", "1000000", "1000001",
@@ -13,17 +15,17 @@ NUMBERS = ["0", "1", "2", "3", "7", "8", "9", "31", "32", "40", "41", "62", "63"
 VOCABULARY = """cpus absent sub rule schedule rounds turns mix actor up down both none single multi upmany target fail show state states
     setup remove add del nocalls locked lock unlock boot disable enable thaw wakeup freeze # net:a admit client ap leave enter refused
     walk call walked done reg regged armed shown ok fault injected empty presumed overruled stuck full end events cpuhp journal cpu
-    present keys disabled frozen made faults instances ops""".split()
+    present keys disabled frozen made faults instances ops""".split() + ["x" * 32, "x" * 33, "net:a!"]
 
 
 class Machine:
     """What a drawn script is about: processors, subsystems, states and instances that its operations mostly name."""
 
-    def __init__(self, draw, cpus, subs, walks=False):
+    def __init__(self, draw, cpus, subs, style="mixed"):
         self.draw, self.cpus, self.subs = draw, cpus, subs
-        self.weights = WALKS if walks else WEIGHTS
-        edges = draw.sample(EDGES, 0 if walks else draw.choice([0, 0, 0, 1, 1, 2]))
-        self.states = draw.sample(STATES + ONLINE * walks, draw.randint(3 if walks else 1, 6)) + edges
+        self.weights, states, least = STYLES[style]
+        edges = draw.sample(EDGES, draw.choice([0, 0, 0, 1, 1, 2]) if style == "mixed" else 0)
+        self.states = draw.sample(states, draw.randint(least, 6)) + edges
         self.multis = [number for number, sub in enumerate(subs, 1) if sub.split(" ")[-1] == "multi"]
         self.few = draw.choice([2, 4, 9, 300])
 
@@ -51,7 +53,7 @@ class Machine:
         if word in ("up", "down"):
             return f"{word} {self.cpu()}"
         if word == "target":
-            return f"target {self.cpu()} {draw.choice([self.state(), self.state(), 0, 200, 199, -1, 201])}"
+            return f"target {self.cpu()} {draw.choice([self.state(), self.state(), self.state(), 0, 200, 199, draw.choice(NEAR)])}"
         if word == "fail":
             return f"fail {self.cpu()} {draw.choice([self.state()] * 12 + [-1, -1, 201, -2147483648])}"
         if word == "show":
@@ -95,10 +97,16 @@ class Machine:
             yield f"boot {self.cpus}"
 
 
+NEAR = [-1, 61, 62, 63, 100, 101, 102, 103, 198, 199, 201]  # values of a target at which a rule ends
 WEIGHTS = {"up": 12, "down": 12, "target": 8, "fail": 7, "show": 5, "setup": 6, "remove": 4, "add": 6, "del": 3, "lock": 4, "boot": 3,
            "disable": 1, "enable": 1, "freeze": 3, "thaw": 3, "wakeup": 1, "upmany": 4, "unlock": 0.3}
 WATCHES = {"show": 20, "fail": 3, "lock": 1, "wakeup": 1}
 WALKS = {"up": 20, "down": 25, "target": 12, "fail": 12, "boot": 3, "freeze": 5, "thaw": 5, "upmany": 8, "add": 5, "setup": 2, "show": 4}
+STANDS = {"target": 25, "fail": 15, "show": 6, "up": 4, "down": 4, "upmany": 2, "add": 2, "lock": 1}
+SUSPENDS = {"freeze": 8, "enable": 8, "disable": 3, "thaw": 6, "boot": 5, "up": 8, "down": 6, "target": 4, "upmany": 4, "wakeup": 2, "show": 2, "lock": 1}
+STYLES = {  # what scripts of a style mostly do, at which states, and the fewest of these
+    "mixed": (WEIGHTS, STATES, 1), "walks": (WALKS, STATES + ONLINE, 3), "stands": (STANDS, BORDERS, 3), "suspends": (SUSPENDS, STATES, 1),
+}
 
 
 def draw_rule(draw, cpus):
@@ -140,10 +148,11 @@ def draw_sizes(draw):
 def draw_script(draw):
     """A script of the whole language, which is refused now and then."""
     if draw.random() < 0.004:
-        return draw.choice([full_of_instances, full_of_slots, full_of_setups, full_of_operations])(draw)
+        return draw.choices([full_of_instances, full_of_slots, full_of_setups, full_of_operations, full_of_bytes], [4, 2, 2, 1, 2])[0](draw)
     cpus, subs, actors, size = draw_sizes(draw)
-    walks = draw.random() < 0.5
-    if walks:  # mostly walks that fault, or get stuck
+    style = draw.choices(list(STYLES), [40, 40, 10, 10])[0]
+    walks = style == "walks"
+    if style != "mixed":  # mostly walks that fault, or get stuck; or what stands at the borders of states; or freezes
         cpus, subs, actors, size = draw.randint(2, 4), draw.randint(2, 6), draw.choice([1, 1, 2, 3]), draw.choice([6, 10, 15])
     lines = [f"cpus {cpus}"]
     absent = sorted(draw.sample(range(1, cpus), draw.choice([0, 0, 0, min(1, cpus - 1), (cpus - 1) // 2])))
@@ -155,7 +164,7 @@ def draw_script(draw):
         lines += [draw_rule(draw, cpus) for _ in range(draw.choice(rules))]
     watches = walks and draw.random() < 0.4
     lines += draw_schedule(draw, cpus - len(absent) + actors + watches)
-    machine = Machine(draw, cpus, named, walks)
+    machine = Machine(draw, cpus, named, style)
     for actor in range(actors):
         lines.append(f"actor {draw.choice('abc')}{actor}")
         lines += machine.actor(draw.randint(0, size), machine.first_setups() if actor == 0 else [])
@@ -179,7 +188,8 @@ def full_of_instances(draw):
     states = [103 + at for at in range(draw.choice([1, 1, 1, 17]))]
     adds = [f"add {state} {inst}" for state in states for inst in range(1, (258 if len(states) == 1 else 242))]
     lines = ["cpus 2", "sub net:q both multi", "actor a", *(f"setup {state} 1" for state in states), *adds[:4000]]
-    return "\n".join(lines + ["actor b", *adds[4000:], "up 1", "down 1"]) + "\n"
+    again = [f"add {state} {draw.choice([1, 256, 257, 300])}" for state in states[-1:] * 2]
+    return "\n".join(lines + ["actor b", *adds[4000:], *again, "up 1", "down 1"]) + "\n"
 
 
 def full_of_slots(draw):
@@ -199,15 +209,21 @@ def full_of_operations(draw):
     return "\n".join(["cpus 2", "sub net:a both single", "actor a", "setup 120 1", *lines]) + "\n"
 
 
+def full_of_bytes(draw):
+    """A script of the most bytes, or of one more or less, the last of which are a comment."""
+    text = draw_small_script(draw)
+    return text + "#" * (LONGEST - len(text) + draw.choice([-1, 0, 0, 1]))
+
+
 def draw_small_script(draw):
     """A script with few interleavings."""
-    cpus = draw.randint(1, 3)
+    cpus = draw.choice([1, 2, 2, 2, 3])
     subs = list(draw_subs(draw, draw.randint(1, 2)))
     lines = [f"cpus {cpus}"]
     for sub in subs:
         lines += [sub] + [draw_rule(draw, cpus)] * draw.choice([0, 0, 1])
-    machine = Machine(draw, cpus, subs)
-    for actor in range(draw.randint(1, 3)):
+    machine = Machine(draw, cpus, subs, draw.choice(list(STYLES)))
+    for actor in range(draw.choice([1, 2, 2, 2, 3])):
         setups = list(machine.first_setups())[:2] if actor == 0 else []
         lines += [f"actor a{actor}", *machine.actor(draw.randint(1, 4), setups)]
     lines += ["unlock"] * (sum(line in ("lock", "unlock") for line in lines) > 0 and [line for line in lines if line in ("lock", "unlock")][-1] == "lock")
@@ -225,6 +241,9 @@ def draw_journal(draw):
     journal, machine = Journal(Head(cpus, absent, tuple(heads))), Machine(draw, cpus, named)
     for cpu in journal.present[:draw.choice([cpus, cpus, cpus // 2])]:
         journal = journal.then(Event("admit", journal.length, role=cpu))
+    most = draw.choice([0] * 30 + [95, 96, 319, 320])  # the seats of a text of version 1, and of any journal
+    for seat in range(journal.length, most - draw.randint(0, 2)):
+        journal = journal.then(Event("admit", seat))
     for _ in range(draw.choice([20, 60, 60, 150])):
         event = draw_event(draw, journal, machine)
         if event and lawful_journals.stands(journal, event):
@@ -235,7 +254,7 @@ def draw_journal(draw):
 def draw_full_journal(draw):
     """A lawful journal that gets full by the limit that the model has, and events that could stand next if it had room."""
     head = Head(3, (), tuple(subsystem(sub.split(" ")[1:]) for sub in draw_subs(draw, 3)))
-    journal, machine = Journal(head), Machine(draw, 3, list(draw_subs(draw, 3)), walks=True)
+    journal, machine = Journal(head), Machine(draw, 3, list(draw_subs(draw, 3)), "walks")
     for role in (0, 1, 2, None, None):
         journal = journal.then(Event("admit", journal.length, role=role))
     left_out = {}
@@ -271,6 +290,24 @@ def draw_event(draw, journal, machine):
     op = in_flight(journal).get(seat) or operation(machine.operation(draw.random() < 0.3).split(" "))
     found, *more = what_comes_next.turn(journal, seat, op)
     return more[0] if found == "event" else None
+
+
+def draw_near(draw, journal):
+    """The line of an event that may or may not stand next: it comes or goes, or goes on, perhaps with a word changed."""
+    kind, seats = draw.random(), len(roles(journal))
+    due, flying = what_comes_next.due_entries(journal), in_flight(journal)
+    if kind < 0.2 or not seats:
+        event = Event("admit", seats, role=draw.choice([None, draw.randrange(journal.head.possible)]))
+    elif kind < 0.5 or not due and not flying:
+        event = Event("leave", draw.choice([*due, *due, draw.randrange(seats)]))
+    elif kind < 0.8 and due or not flying:
+        event = draw.choice(list(due.values()))
+    else:
+        seat = draw.choice(list(flying))
+        found, *more = what_comes_next.turn(journal, seat, flying[seat])
+        event = more[0] if found == "event" else Event("leave", seat)
+    line = event_line(journal, event)
+    return line if draw.random() < 0.4 else draw.choice([alter_numbers, alter_numbers, alter_words])(draw, line)
 
 
 def alter_text(draw, text):
@@ -347,6 +384,8 @@ def draw_words(draw):
     words = draw.choice([["play"], ["states"], ["report"], ["replay"], ["migrate"], ["gen"], ["gen"], ["bench", "--size=2"], ["bench", "--size", "1"],
                          ["count", number(199), number(1000001)], ["smt", number(9), draw.choice(["off", "forceoff", "on", "", "Off"])],
                          ["count"], ["smt", "2"], ["--help"], ["help"], [""], [], ["play", "play"], ["\xff"], ["play\0x"[:4] + "\xc3"]])
+    if draw.random() < 0.03:
+        return ["gen", "--size", draw.choice(["999", "1000", "1001"]), "--seed", draw.choice(NUMBERS)]
     if words[:1] in (["gen"], ["bench"]):
         words = words + sum(draw.sample(options, draw.choice([0, 1, 1, 2])), [])
     if draw.random() < 0.2:

@@ -58,15 +58,6 @@ def ends(script, most):
                 after = turn(script, run, seat)
                 if after != run and future(after) not in seen:
                     seen.add(future(after))
-                    later.append((after, (turns, seat)))
+                    later.append((after, turns + (seat,)))
         runs = later
-    return [End(left, unfolded(turns)) for left, turns in found.items()] if not runs else None
-
-
-def unfolded(turns):
-    """The seats of a chain of turns, the first turn first."""
-    seats = []
-    while turns:
-        turns, seat = turns
-        seats.append(seat)
-    return tuple(reversed(seats))
+    return [End(left, turns) for left, turns in found.items()] if not runs else None

@@ -43,14 +43,14 @@ def fold(first):
     journal is kept with that journal, so that an event more is one step."""
     def over(step):
         def folded(journal):
-            later = []
-            while step not in journal.kept and journal.before:
-                later.append(journal)
-                journal = journal.before
-            value = journal.kept[step] if step in journal.kept else journal.kept.setdefault(step, first(journal.head))
-            for journal in reversed(later):
-                value = journal.kept[step] = step(value, journal.before, journal.event)
-            return value
+            if step in journal.kept:
+                return journal.kept[step]
+            later = [journal]
+            while later[-1].before and step not in later[-1].before.kept:
+                later.append(later[-1].before)
+            for front in reversed(later):
+                front.kept[step] = step(front.before.kept[step], front.before, front.event) if front.before else first(front.head)
+            return journal.kept[step]
         folded.__name__, folded.__doc__, folded.step = step.__name__, step.__doc__, step
         return folded
     return over
@@ -59,7 +59,7 @@ def fold(first):
 def kept(function):
     """A function of a journal, and perhaps of more, whose value is kept with the journal."""
     def remembered(journal, *more):
-        place = (function, more)
+        place = (function, more) if more else function
         if place not in journal.kept:
             journal.kept[place] = function(journal, *more)
         return journal.kept[place]
