@@ -213,7 +213,8 @@ class Journal:
     def up_to(self, end):
         """The calls of the events before a place."""
         for event in self.events[self.at : end]:
-            self.boot_walked |= event[0] == "walk" and event[2] == "0"
+            # A target that the boot processor has already is written down too, and so its file shows it from then on.
+            self.boot_walked |= event[0] == "walk" and event[2] == "0" or event[0] == "enter" and event[3:5] == ["target", "0"]
             if event[0] == "reg" and event[4] == "setup":
                 sub = int(event[6])
                 self.multi[event[3]] = sub <= len(self.scenario.subs) and self.scenario.subs[sub - 1][0][2] == "multi"

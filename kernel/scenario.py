@@ -177,7 +177,7 @@ def renumber(operations):
 
 
 def place_control(scenario, journal, events):
-    """The two writes of SMT control that hp makes beside the actors, as operations; what they deny is asked behind the first."""
+    """The two writes of SMT control that hp makes beside the actors, as operations; what they deny is asked before the second."""
     seat = scenario.cpus + len(scenario.actors)
     scenario.actors.append(("control", []))
     walks = [at for at, event in enumerate(events) if event[0] == "walk" and int(event[1]) == seat]
@@ -193,7 +193,8 @@ def place_control(scenario, journal, events):
         scenario.operations.append(it)
     for it in scenario.operations:
         if it.begun is None:
-            it.asked = scenario.operations[-2].asked + 0.5
+            # It was denied before the second write began.
+            it.asked = min(it.asked, scenario.operations[-1].asked - 0.5)
     renumber(scenario.operations)
 
 

@@ -134,3 +134,6 @@ class Guest:
                     if done.words[0] != "boot":
                         self.say(f"answered {done.number}")
                     self.answered.add(done.number)
+        if self.lines[-1] == "module release":
+            # Nothing is waited for: the call that was held goes on meanwhile.
+            self.say("sleep 1")
