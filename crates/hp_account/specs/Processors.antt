@@ -1,5 +1,5 @@
 -- Where processors stand and at which state they are armed, by number; and that this is what a journal says. After
--- `st->state` and `st->fail` of `kernel/cpu.c`.
+-- `st->state` and `st->fail` of `kernel/cpu.c`; what a stuck walk leaves is this project's own.
 use Rattle.std.specs.Prelude.{◌≡◌, ◌<◌, ◌≤◌, ℕ, Bool, if◌then◌else◌, Option, List, length, map, count_by, slice_index, slice_set}
 use Rattle.hp_states.specs.declared.limits.TheConstants.{MAX_CPUS, ONLINE}
 use Rattle.hp_states.specs.CpuSets.{has}

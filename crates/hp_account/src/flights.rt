@@ -38,7 +38,8 @@ impl Flight {
     /// processor is armed, and `thread` the seat of its processor's thread, if it is in: it makes the
     /// entries of AP states, and the seat whose operation walks all others. Takes no memory, and a
     /// time that doesn't grow with the table. After `cpuhp_invoke_callback` and
-    /// `cpuhp_invoke_ap_callback` of `kernel/cpu.c`.
+    /// `cpuhp_invoke_ap_callback` of `kernel/cpu.c`; that entries in STARTING are the thread's, and
+    /// those of a down in PREPARE the operation's seat's, is this project's own.
     #[inline(always)]
     pub fn next<H: Hook>(
         &self,

@@ -17,7 +17,8 @@ use std::marker::Model;
 /// The possible processors of a machine: where each was left by its last walk, at which state it is
 /// armed, and whether it is present.
 ///
-/// Contracts see the three lists (`ProcessorsView`). After `struct cpuhp_cpu_state` of `kernel/cpu.c`.
+/// Contracts see the three lists (`ProcessorsView`). After `struct cpuhp_cpu_state` of `kernel/cpu.c`;
+/// what a stuck walk leaves is this project's own.
 #[derive(Drop)]
 pub struct Processors {
     settled: Vec<u32>,

@@ -68,7 +68,8 @@ impl Registering {
     /// flight. An entry
     /// is the processor's thread's at an AP state, unless it is presumed, and else the client's; it is
     /// presumed where the form is without calls. Takes no memory, and looks at no event. After
-    /// `cpuhp_invoke_callback` and `cpuhp_invoke_ap_callback` of `kernel/cpu.c`.
+    /// `cpuhp_invoke_callback` and `cpuhp_invoke_ap_callback` of `kernel/cpu.c`; that a fault in
+    /// STARTING or of a removal is overruled is this project's own.
     #[inline(always)]
     pub fn next<H: Hook>(
         &self,

@@ -63,7 +63,8 @@ impl MadeBy {
 
 impl Entry {
     /// How the entry is made: where a hook is asked, by its answer, `code`; otherwise the code
-    /// doesn't matter. Takes no memory. After `cpuhp_invoke_callback` of `kernel/cpu.c`.
+    /// doesn't matter. Takes no memory. After `cpuhp_invoke_callback` of `kernel/cpu.c`; which faults
+    /// are overruled is this project's own.
     pub fn how(&self, code: u32) -> How
         ensures { result ≡ how_by self.now code }
     {

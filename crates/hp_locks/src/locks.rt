@@ -111,7 +111,8 @@ impl Locks {
     /// - `ReadersIn` with their number, where any seat reads;
     /// - `RegIn` with its seat, where a registration is in flight.
     ///
-    /// Takes no memory. After `cpus_write_lock` of `kernel/cpu.c`.
+    /// Takes no memory. After `cpus_write_lock` of `kernel/cpu.c`; there it keeps readers and
+    /// registrations out while it waits.
     pub fn begin_write(&mut self, seat: u32) -> Result<(), Why>
         requires map { self.old.map ≡ Some seat }
         requires writer { self.old.writer ≡ None }

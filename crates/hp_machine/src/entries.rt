@@ -19,7 +19,8 @@ impl<H: Hook> Machine<H> {
     /// this seat's to make.
     ///
     /// There is no condition. Takes no memory, and looks at no event. After `cpuhp_invoke_callback`
-    /// and `cpuhp_invoke_ap_callback` of `kernel/cpu.c`.
+    /// and `cpuhp_invoke_ap_callback` of `kernel/cpu.c`; who makes the entries in STARTING, and those
+    /// of a down in PREPARE, is this project's own.
     #[inline(always)]
     pub fn due(&self, seat: u32) -> Option<Entry>
         ensures { IsDue self.now.head self.now.events seat result }
@@ -34,7 +35,8 @@ impl<H: Hook> Machine<H> {
     /// one. Of one processor at most one entry is due, and but in an upmany of one alone.
     ///
     /// There is no condition. Takes no memory, and time for the processors that walk. After
-    /// `cpuhp_invoke_callback` and `cpuhp_invoke_ap_callback` of `kernel/cpu.c`.
+    /// `cpuhp_invoke_callback` and `cpuhp_invoke_ap_callback` of `kernel/cpu.c`; who makes the entries
+    /// in STARTING, and those of a down in PREPARE, is this project's own.
     pub fn next_due(&self, from: u32) -> Option<(u32, u32)>
         ensures some { IfSome result (IsNextDue self.now.head self.now.events from) }
         ensures none { IfNone result (NoneDueFrom self.now.head self.now.events from) }
@@ -110,7 +112,8 @@ impl<H: Hook> Machine<H> {
 
     /// Makes an entry that is due: where its hook decides, that is called once, and isn't lent.
     ///
-    /// Takes no memory. After `cpuhp_invoke_callback` of `kernel/cpu.c`.
+    /// Takes no memory. After `cpuhp_invoke_callback` of `kernel/cpu.c`; which faults are overruled
+    /// is this project's own.
     pub fn make_entry(&mut self, entry: &Entry)
         requires stands { CanMakeEntry self.old entry.now }
         requires home { HasHook self.old entry.now }

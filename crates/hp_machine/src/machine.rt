@@ -180,7 +180,8 @@ impl<H: Hook> Machine<H> {
 
     /// The state where a processor was left by its last walk.
     ///
-    /// The processor is a possible one. Takes no memory. After `st->state` of `kernel/cpu.c`.
+    /// The processor is a possible one. Takes no memory. After `st->state` of `kernel/cpu.c`; what a
+    /// stuck walk leaves is this project's own.
     pub fn state(&self, cpu: u32) -> u32
         requires { cpu < self.now.head.possible }
         ensures { result ≡ settled cpu self.now.events }

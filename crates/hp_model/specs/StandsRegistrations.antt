@@ -1,5 +1,5 @@
 -- Where a registration begins and ends. After `__cpuhp_setup_state_cpuslocked`, `__cpuhp_remove_state_cpuslocked`
--- and `__cpuhp_state_add_instance_cpuslocked` of `kernel/cpu.c`.
+-- and `__cpuhp_state_add_instance_cpuslocked` of `kernel/cpu.c`; that a removal can be refused is this project's own.
 use Rattle.std.specs.Prelude.{◌≡◌, ℕ, true, Some, List}
 use Rattle.hp_event.specs.declared.op.Op.{Op}
 use Rattle.hp_event.specs.declared.answer.Answer.{Answer}

@@ -1,7 +1,8 @@
 -- Walks: whole, turned back at a fault, or stuck at a second fault on the way back. The order and the
 -- way back are those of `core-api/cpu_hotplug.rst`; what a fault on the way back does is this
 -- project's own: `kernel/cpu.c` stops at it too, but for a bring-up from `cpu:bringup` or below,
--- whose rollback `cpuhp_up_callbacks` goes on with, past the state that faulted.
+-- whose rollback `cpuhp_up_callbacks` goes on with, past the state that faulted. Below `cpu:bringup`
+-- a rollback ends there at a fault of a teardown, and here no such fault counts.
 use Rattle.std.specs.Prelude.{◌≡◌, ℕ, pos, List, [], ◌∷◌, ◌++◌, reverse}
 use Rattle.hp_states.specs.declared.dir.Dir.{Dir}
 use Rattle.hp_states.specs.declared.place.Place.{Place}

@@ -1,5 +1,6 @@
 -- What a registration asks for: the entry on the lowest processor that is left, or its end. After
--- `__cpuhp_setup_state_cpuslocked`, `cpuhp_rollback_install` and `__cpuhp_remove_state_cpuslocked` of `kernel/cpu.c`.
+-- `__cpuhp_setup_state_cpuslocked`, `cpuhp_rollback_install` and `__cpuhp_remove_state_cpuslocked` of `kernel/cpu.c`;
+-- that undoing and removing never fail, where a fault is a `BUG_ON` in `cpuhp_issue_call`, is this project's own.
 use Rattle.std.specs.Prelude.{ℕ, pos, Bool, true, false, Option, Some, None, List, [], ◌∷◌}
 use Rattle.hp_states.specs.declared.dir.Dir.{Dir}
 use Rattle.hp_states.specs.declared.dir.Dir.TheVariants.{Up, Down}

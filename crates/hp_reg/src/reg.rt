@@ -103,7 +103,9 @@ impl Reg {
     /// - `Ended(Ok)` where no entry faulted: the state for a setup of 41 or 141, else 0.
     ///
     /// After `__cpuhp_setup_state_cpuslocked`, `__cpuhp_state_add_instance_cpuslocked`,
-    /// `cpuhp_rollback_install` and `__cpuhp_remove_state_cpuslocked` of `kernel/cpu.c`.
+    /// `cpuhp_rollback_install` and `__cpuhp_remove_state_cpuslocked` of `kernel/cpu.c`; that undoing
+    /// and removing never fail, where a fault is a `BUG_ON` in `cpuhp_issue_call`, is this project's
+    /// own.
     #[inline(always)]
     pub fn next<H: Hook>(&self, table: &Table<H>, settled: &[u32], absent: &[u32]) -> RegStep
         requires { length settled.now ≤ MAX_CPUS }

@@ -1,5 +1,5 @@
 -- The direction of a walk, and where a processor stands before and after it crosses a state. After `cpuhp_next_state`
--- of `kernel/cpu.c`.
+-- of `kernel/cpu.c`, where the processor stands at the next state before its callback is called.
 use Rattle.std.specs.Prelude.{ℕ, ◌-◌, nat_lt, if◌then◌else◌}
 use Rattle.hp_states.specs.declared.dir.Dir.{Dir}
 use Rattle.hp_states.specs.declared.dir.Dir.TheVariants.{Up, Down}

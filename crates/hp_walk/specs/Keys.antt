@@ -1,4 +1,5 @@
--- The next state that has a key, of those that a walk crosses. After `cpuhp_next_state` of `kernel/cpu.c`.
+-- The next state that has a key, of those that a walk crosses. After `cpuhp_next_state` of `kernel/cpu.c`, which
+-- passes over a state without a callback of that direction too.
 use Rattle.std.specs.Prelude.{◌≡◌, ◌≢◌, ℕ, ◌<◌, ◌≤◌, List, []}
 use Rattle.hp_states.specs.declared.dir.Dir.{Dir}
 use Rattle.hp_states.specs.declared.dir.Dir.TheVariants.{Up, Down}

@@ -38,7 +38,8 @@ impl Walk {
     /// The states are at most 200, and different. What is registered in the table when the walk
     /// begins is what it crosses: up, the states above `from` and up to `to`, rising; down, those
     /// above `to` and up to `from`, falling. Takes no memory, and time for the states up to the
-    /// first with a key. After `cpuhp_up_callbacks` and `cpuhp_down_callbacks` of `kernel/cpu.c`.
+    /// first with a key. After `cpuhp_up_callbacks` and `cpuhp_down_callbacks` of `kernel/cpu.c`; that
+    /// a walk that goes down in PREPARE never turns back is this project's own.
     pub fn begin<H: Hook>(table: &Table<H>, cpu: u32, from: u32, to: u32) -> Walk
         requires states { (from ≤ ONLINE) × (to ≤ ONLINE) × (from ≢ to) }
         ensures walk { (result.cpu ≡ cpu) × (result.from ≡ from) × (result.to ≡ to) }

@@ -207,9 +207,10 @@ impl<H: Hook> Table<H> {
     /// Takes all instances out of a state, whose record stays. All other states stay.
     ///
     /// There is no condition: where nothing is registered, or there are no instances, nothing
-    /// changes. Takes no memory, and a time that doesn't grow with the table. A state with
-    /// instances isn't removed (`__cpuhp_remove_state_cpuslocked` of `kernel/cpu.c`); that they can
-    /// be taken out at once, where a table is given up, is this project's own.
+    /// changes. Takes no memory, and a time that doesn't grow with the table. That a state with
+    /// instances isn't removed, where `__cpuhp_remove_state_cpuslocked` of `kernel/cpu.c` warns and
+    /// goes on, and that they can be taken out at once, where a table is given up, is this project's
+    /// own.
     pub fn clear_instances(&mut self, state: u32)
         ensures { self.new ≡ changed_at self.old state (λ step. bare step.kept) }
     {
