@@ -1,6 +1,6 @@
 -- The words that a reader has before it: the pieces between the spaces of the bytes that are left, where any are. This
 -- project's own.
-use Rattle.std.specs.Prelude.{ℕ, ◌==◌, List, [], ◌∷◌, Option, Some, None}
+use Rattle.std.specs.Prelude.{ℕ, ◌==◌, ◌≢◌, List, [], ◌∷◌, Option, Some, None, codes}
 use Rattle.std.specs.Borrow.{Bor}
 use Rattle.std.specs.List.{slice_split}
 pub use Rattle.hp_text.specs.Words.{first_of, others_of}
@@ -17,3 +17,7 @@ words_left (Some b) = pieces b.now
 abbrev pub first_says : {A : Type 0} → (List ℕ → Option A) → List (List ℕ) → Option A
 first_says field [] = None
 first_says field (w ∷ ws) = field w
+
+-- the first word isn't `call`, or no word follows it
+abbrev pub BeginNoCall : List (List ℕ) → Type 0
+BeginNoCall words = (second : List ℕ) (others : List (List ℕ)) → words ≢ codes "call" ∷ second ∷ others

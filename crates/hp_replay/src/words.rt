@@ -1,9 +1,9 @@
 //! The words of a line, one after another.
 
-ghost use Rattle.std.specs.Prelude.{◌≡◌, ◌↔◌, [], ◌∷◌, ℕ, List, false, IsTrue, IsSome, IfSome, Some, codes, option_map};
+ghost use Rattle.std.specs.Prelude.{◌≡◌, ◌↔◌, [], ◌∷◌, ℕ, List, false, IsTrue, IsSome, IfSome, IfNone, Some, codes, option_map};
 ghost use Rattle.hp_model.specs.Lists.{is_empty};
 ghost use Rattle.hp_text.specs.Choices.{dir_of as dir_at};
-ghost use Rattle.hp_replay.specs.WordsLeft.{first_of, others_of, first_says, pieces};
+ghost use Rattle.hp_replay.specs.WordsLeft.{first_of, others_of, first_says, pieces, BeginNoCall};
 ghost use Rattle.hp_replay.specs.Numbers.{number as number_at};
 ghost use Rattle.hp_replay.specs.Readers.{done as done_at};
 
@@ -99,14 +99,14 @@ fn behind_dir(text: &[u8]) -> Option<(Dir, &[u8])>
     }
 }
 
-/// What stands behind the first word of a text and the space that ends it, where that word is `call`.
+/// What stands behind the first word of a text and the space that ends it, where that word is `call` and
+/// a space ends it.
+#[inline(always)]
 fn behind_call(text: &[u8]) -> Option<&[u8]>
-    ensures { IfSome result (λ others. pieces text.now ≡ codes "call" ∷ pieces others.now) }
+    ensures some { IfSome result (λ others. pieces text.now ≡ codes "call" ∷ pieces others.now) }
+    ensures none { IfNone result (BeginNoCall (pieces text.now)) }
 {
-    match text.split_first_chunk() {
-        Some((b"call ", others)) => Some(others),
-        _ => None,
-    }
+    text.strip_prefix(b"call ")
 }
 
 impl<'a> hp_text::Words<'a> for Words<'a> {
@@ -196,6 +196,7 @@ impl<'a> Words<'a> {
     pub fn takes_call(&mut self) -> bool
         ensures taken { IsTrue result → self.old ≡ codes "call" ∷ self.new }
         ensures kept { result ≡ false → self.new ≡ self.old }
+        ensures none { result ≡ false → BeginNoCall self.old }
     {
         let Some(text) = self.left else {
             return false;
