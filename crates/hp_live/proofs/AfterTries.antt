@@ -9,6 +9,7 @@ use Rattle.hp_event.specs.declared.event.Event.{Event}
 use Rattle.hp_event.specs.declared.head.Head.{Head}
 use Rattle.hp_event.specs.declared.op.Op.{Op}
 use Rattle.hp_event.specs.declared.op.Op.TheVariants.{Lock}
+use Rattle.hp_hook.specs.Counted.{Counts}
 use Rattle.hp_model.specs.NextEvent.{next_event}
 use Rattle.hp_model.specs.Seats.{is_busy}
 use Rattle.hp_model.proofs.DueGives.{due_stands}
@@ -21,7 +22,7 @@ use Rattle.hp_live.specs.HeldSteps.{seated}
 use Rattle.hp_live.specs.Known.{IsOut, IsSamePass, IsThread, Seated}
 use Rattle.hp_live.specs.Sections.{Adds, CanAsk, EntersIn, TurnedIn}
 use Rattle.hp_live.specs.Tries.{BackTried, ServeTried, TurnTried, WantedOnce, is_answered}
-use Rattle.hp_live.specs.Runs.{EnteredIn, SteppedIn}
+use Rattle.hp_live.specs.Runs.{ComesBack, EnteredIn, SteppedIn}
 use Rattle.hp_live.specs.declared.step.Stepped.{Stepped}
 use Rattle.hp_live.specs.declared.step.Stepped.TheVariants as section
 use Rattle.hp_live.specs.declared.tried.Tried.{Tried}
@@ -29,7 +30,9 @@ use Rattle.hp_live.specs.declared.tried.Tried.TheVariants as tried
 use Rattle.hp_live.proofs.Clients.{out_later, stays_turned}
 use Rattle.hp_live.proofs.Coming.{thread_told}
 use Rattle.hp_live.proofs.Entries.{thread_entry, thread_turn}
+use Rattle.hp_live.proofs.HooksBack.{comes_back}
 use Rattle.hp_live.proofs.HooksLeft.{hook_left}
+use Rattle.hp_live.proofs.HooksTurned.{entry_leaves}
 use Rattle.hp_live.proofs.Idle.{answered_idle}
 use Rattle.hp_live.proofs.Others.{asks_later}
 use Rattle.hp_live.proofs.Running.{going_answered, going_self}
@@ -57,26 +60,35 @@ enters_turned head k op had old new at asked e =
       again = λ on. keeps ∙ hook_made head e.found new k op had at made ask.hook_is;
     }
 
-pub entered_turned : (head : Head) (k : ℕ) (op : Op) (had : Bool) (old new : List Event) (stepped : Stepped) → CanAsk head old k op had →
-    EnteredIn head k old new stepped → SteppedIn head k op had had old new stepped
-entered_turned head k op had old new (section.Turned (Made at)) asked e = enters_turned head k op had old new at asked e
-entered_turned head k op had old new stepped asked e = absurd e
+-- and it leaves the hook of that
+pub entered_turned : {H : Type 0} (seen : H → Counts) (head : Head) (k : ℕ) (op : Op) (hook : Option H) (old new : List Event)
+    (stepped : Stepped) → CanAsk head old k op (is_some hook) → EnteredIn head k old new stepped →
+    SteppedIn seen head k op hook hook old new stepped
+unfolding enters_turned
+entered_turned seen head k op hook old new (section.Turned (Made at)) asked e =
+    let ask = asks_later head k op (is_some hook) old e.found e.seen e.lawful asked in
+    let m = e.entered in (
+      enters_turned head k op (is_some hook) old new at asked e,
+      entry_leaves seen head e.found k op hook (Made at) m.event (due_next head e.found k op m.event e.lawful ask.allowed m.next_is)
+          (due_stands head e.found k m.event m.next_is).1,
+    )
+entered_turned seen head k op hook old new stepped asked e = absurd e
 
-module _ {H : Type 0} (old new : Seated) (before after : Ask H) where
+module _ {H : Type 0} (seen : H → Counts) (old new : Seated) (before after : Ask H) where
   abbrev Asked : Type 0
   Asked = CanAsk old.head old.front old.seat before.op (is_some before.hook)
 
   -- what the try did, by its result
   abbrev pub Did : Result Tried NoMemory → Type 0
-  Did (Ok t) = TurnTried old new before after t
+  Did (Ok t) = TurnTried seen old new before after t
   Did (Err e) = WantedOnce old new before × (after ≡ before)
 
-  pub did : (r : Result Tried NoMemory) → IfOk r (TurnTried old new before after) → OnErr r (WantedOnce old new before) →
+  pub did : (r : Result Tried NoMemory) → IfOk r (TurnTried seen old new before after) → OnErr r (WantedOnce old new before) →
       OnErr r (after ≡ before) → Did r
   did (Ok t) ok err same = ok
   did (Err e) ok err same = (err, same)
 
-  turned_in : (turn : Turn) → Asked → TurnTried old new before after (tried.Turned turn) →
+  turned_in : (turn : Turn) → Asked → TurnTried seen old new before after (tried.Turned turn) →
       TurnedIn old.head old.seat before.op (is_some before.hook) (is_some after.hook) old.front new.front turn
   turned_in turn asked (inl t) = t.turned
   turned_in turn asked (inr g) =
@@ -153,6 +165,19 @@ module _ {H : Type 0} (old new : Seated) (before after : Ask H) where
       hook_left old.head old.seat before.op (is_some before.hook) (is_some after.hook) old.front new.front at answer
       (turned_in (Answered at answer) asked (subst Did is d))
 
+  -- and which that is
+  answered_back : (at : Option ℕ) (answer : Answer) → TurnTried seen old new before after (tried.Turned (Answered at answer)) →
+      ComesBack seen old.head old.seat before.op old.front new.front before.hook after.hook answer
+  answered_back at answer (inl t) =
+      comes_back seen old.head old.seat before.op before.hook before.hook after.hook old.front old.front new.front at answer
+      (going_self old.head old.seat before.op old.front) (inl refl) (t.turned, t.hook)
+  answered_back at answer (inr g) = absurd (cc (g.0.turn_is))
+
+  pub tried_back : (r : Result Tried NoMemory) → Did r → (at : Option ℕ) (answer : Answer) →
+      r ≡ Ok (tried.Turned (Answered at answer)) →
+      ComesBack seen old.head old.seat before.op old.front new.front before.hook after.hook answer
+  tried_back r d at answer is = answered_back at answer (subst Did is d)
+
 -- ---- threads
 
 pub served_thread : (old new : Seated) (t : Tried) → ServeTried old new t → IsThread old.seat old.front → IsThread old.seat new.front
@@ -167,10 +192,11 @@ served_thread old new (tried.Lent state) d is = thread_told old.head old.seat ol
 
 -- ---- a hook that was carried
 
-pub back_turned : {H : Type 0} (old new : Seated) (ask : Ask H) (t : Tried) → BackTried old new t → TurnTried old new ask ask t
-back_turned old new ask tried.Busy b = (b, refl)
-back_turned old new ask (tried.Turned turn) b = inr (b, refl)
-back_turned old new ask (tried.Lent state) b = absurd b
+pub back_turned : {H : Type 0} (seen : H → Counts) (old new : Seated) (ask : Ask H) (t : Tried) → BackTried old new t →
+    TurnTried seen old new ask ask t
+back_turned seen old new ask tried.Busy b = (b, refl)
+back_turned seen old new ask (tried.Turned turn) b = inr (b, refl)
+back_turned seen old new ask (tried.Lent state) b = absurd b
 
 pub back_served : (old new : Seated) (t : Tried) → BackTried old new t → ServeTried old new t
 back_served old new tried.Busy b = b

@@ -55,10 +55,3 @@ ran_idle (Ok a) old new same ok err lawful idle = ok
 ran_idle (Err e) old new same ok err lawful idle =
     subst (λ (n : ℕ). is_busy n new.front ≡ false) (sym same.seat)
     (busy_later new.head old.seat false old.front new.front (seen_grew old.seat old.front new.front err) lawful idle)
-
--- and the ask has its hook where memory was wanting
-pub ran_back : {A E : Type 0} (r : Result A E) (new : Seated) (op again : Op) (has : Bool) → again ≡ op →
-    OnErr r (CanAsk new.head new.front new.seat again has) → is_busy new.seat new.front ≡ false → OnErr r (has ≡ is_setup op)
-ran_back (Ok a) new op again has is err idle = tt
-ran_back (Err e) new op again has is err idle =
-    err.hook_is ∙ ap (λ b. is_setup again && not b) idle ∙ and_true (is_setup again) ∙ ap is_setup is

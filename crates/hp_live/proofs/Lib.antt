@@ -4,6 +4,7 @@ pub mod Growing
 pub mod Gone
 pub mod Pairs
 pub mod Finding
+pub mod HooksTurned
 pub mod Turning
 pub mod Running
 pub mod Clients
@@ -18,6 +19,7 @@ pub mod Fronts
 pub mod LeaveSections
 pub mod StandsStill
 pub mod HooksLeft
+pub mod HooksBack
 pub mod Finishing
 pub mod ReadEvents
 pub mod ReadSteps

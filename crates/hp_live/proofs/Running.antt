@@ -20,7 +20,7 @@ use Rattle.hp_board.specs.declared.turn.Turn.{Turn}
 use Rattle.hp_board.specs.declared.turn.Turn.TheVariants.{Made, Answered, NotYet}
 use Rattle.hp_live.specs.Grew.{Grew}
 use Rattle.hp_live.specs.Runs.{GoesOn, AnsweredBy, FullFor, IsAnswered, Halted}
-use Rattle.hp_live.specs.Sections.{Adds, TurnOn, TurnedIn, WantedIn}
+use Rattle.hp_live.specs.Sections.{Adds, LacksRoom, TurnOn, TurnedIn, WantedIn}
 use Rattle.hp_board.proofs.GoesOn.{goes_on_busy}
 use Rattle.hp_live.proofs.Growing.{grew_self, grew_seen, grew_on, grew_event}
 use Rattle.hp_live.proofs.Others.{busy_later}
@@ -110,13 +110,18 @@ full_none head k op old found g full =
     ⊎_elim (λ none. subst (Grew k old found) none g.grew)
     (λ busy. absurd (true≢false (idle_full head found k op true busy full))) g.busy
 
+-- there is no room for it
+pub full_answer : (head : Head) (k : ℕ) (op : Op) (old found new : List Event) (answer : Answer) → Going head k op old found →
+    LacksRoom head k op answer found new → FullFor head k op old new answer
+full_answer head k op old found new answer g t =
+    subst (λ (w : List Event). FullFor head k op old w answer) (sym t.same)
+    (record { grew = full_none head k op old found g t.full; full = t.full; answer_is = t.answer_is })
+
 answered_turn : (head : Head) (k : ℕ) (op : Op) (old found new : List Event) (at : Option ℕ) (answer : Answer) →
     Going head k op old found → IsLawful head found → IsAllowed head found (record { seat = k; op = op }) →
     TurnOn head k op found new (Answered at answer) → IsAnswered head k op old new answer
 answered_turn head k op old found new (Some at) answer g lawful a t = inl (answered_event head k op old found new at answer g lawful a t)
-answered_turn head k op old found new None answer g lawful a t =
-    inr (subst (λ (w : List Event). FullFor head k op old w answer) (sym t.same)
-    (record { grew = full_none head k op old found g t.full; full = t.full; answer_is = t.answer_is }))
+answered_turn head k op old found new None answer g lawful a t = inr (full_answer head k op old found new answer g t)
 
 pub going_answered : (head : Head) (k : ℕ) (op : Op) (had has : Bool) (old front new : List Event) (at : Option ℕ) (answer : Answer) →
     Going head k op old front → TurnedIn head k op had has front new (Answered at answer) → IsAnswered head k op old new answer
@@ -124,9 +129,9 @@ going_answered head k op had has old front new at answer g t =
     answered_turn head k op old t.found new at answer (going_seen head k op old front t.found g t.seen t.lawful) t.lawful
     t.asked.allowed t.turned
 
-pub going_halted : (head : Head) (k : ℕ) (op : Op) (had has : Bool) (old front new : List Event) → IsLawful head new →
-    Going head k op old front → WantedIn head k op had has front new → Halted head k op old new
-going_halted head k op had has old front new lawful g w =
+pub going_halted : (head : Head) (k : ℕ) (op : Op) (old front new : List Event) → IsLawful head new →
+    Going head k op old front → WantedIn head k op front new → Halted head k op old new
+going_halted head k op old front new lawful g w =
     let now = going_seen head k op old front new g w.seen lawful in
     record { made = now.made; grew = now.grew; goes_on = now.goes_on; busy = now.busy; takes_room = w.takes_room }
 
@@ -140,11 +145,11 @@ turned_as head h op o k j had has front new turn t e s f i x =
     (subst (λ (y : ℕ). TurnedIn head y o had has front new turn) s
     (subst (λ (y : Head). TurnedIn y j o had has front new turn) e x)))
 
-pub wanted_as : (head h : Head) (op o : Op) (k j : ℕ) (had has : Bool) (front new : List Event) → h ≡ head → j ≡ k → o ≡ op →
-    WantedIn h j o had has front new → WantedIn head k op had has front new
-wanted_as head h op o k j had has front new e s f x =
-    subst (λ (y : Op). WantedIn head k y had has front new) f
-    (subst (λ (y : ℕ). WantedIn head y o had has front new) s (subst (λ (y : Head). WantedIn y j o had has front new) e x))
+pub wanted_as : (head h : Head) (op o : Op) (k j : ℕ) (front new : List Event) → h ≡ head → j ≡ k → o ≡ op →
+    WantedIn h j o front new → WantedIn head k op front new
+wanted_as head h op o k j front new e s f x =
+    subst (λ (y : Op). WantedIn head k y front new) f
+    (subst (λ (y : ℕ). WantedIn head y o front new) s (subst (λ (y : Head). WantedIn y j o front new) e x))
 
 pub on_err : {A E P : Type 0} (r : Result A E) → P → OnErr r P
 on_err (Ok x) p = tt

@@ -1,26 +1,26 @@
 -- A section of a try, from the board that it found to what contracts see of the pass.
-use Rattle.std.proofs.Common.{◌≡◌, ℕ, Bool, true, false, Option, Some, None, Result, Ok, Err, List, inl, inr, ◌⊎◌, refl, sym, ap, ◌∙◌, subst, is_some}
+use Rattle.std.proofs.Common.{◌≡◌, ℕ, Bool, true, false, Option, Some, None, Result, Ok, Err, List, refl, sym, ap, ◌∙◌, subst, is_some}
 use Rattle.atomic_table.specs.Seated.{TableId}
 use Rattle.hp_states.specs.declared.no_memory.NoMemory.{NoMemory}
 use Rattle.hp_event.specs.declared.aside.Aside.{Aside}
 use Rattle.hp_event.specs.declared.event.Event.{Event}
-use Rattle.hp_event.specs.declared.event.Event.TheVariants.{Call}
 use Rattle.hp_event.specs.declared.head.Head.{Head}
 use Rattle.hp_event.specs.declared.op.Op.{Op}
+use Rattle.hp_hook.specs.Counted.{Counts}
 use Rattle.hp_locks.specs.declared.why.Why.{Why}
 use Rattle.hp_model.specs.Lawful.{IsLawful}
 use Rattle.hp_model.specs.NextEvent.{next_event, due_entry}
 use Rattle.hp_turn.specs.Asides.{aside_of}
 use Rattle.hp_turn.specs.Pass.{Pass, IsSame}
 use Rattle.hp_board.specs.Contents.{Contents}
-use Rattle.hp_board.specs.Hooks.{has_hook, has_hook_after, leaves_hook}
-use Rattle.hp_board.specs.Loans.{loan, can_lend, AreLoans, CanLendTo, IsLoan, WaitsToArm}
+use Rattle.hp_board.specs.Hooks.{has_hook, has_hook_after}
+use Rattle.hp_board.specs.Loans.{loan, can_lend, AreLoans, CanLendTo, IsLoan}
 use Rattle.hp_board.specs.Turns.{IsNotYet, IsTurn, TakesRoom}
 use Rattle.hp_board.specs.declared.turn.Ask.{Ask}
 use Rattle.hp_board.specs.declared.turn.Turn.{Turn}
 use Rattle.hp_board.specs.declared.turn.Turn.TheVariants.{Made, NotYet}
-use Rattle.hp_board.proofs.Waiting.{not_made, arms_quietly}
 use Rattle.hp_live.specs.HeldSteps.{KeepsAsk, Keeps, ServesOut, ServiceTried, StepTried, WaitsOut, seated}
+use Rattle.hp_live.specs.Hooks.{TurnsHook}
 use Rattle.hp_live.specs.Known.{IsSight, IsStill, Seated}
 use Rattle.hp_live.specs.Lending.{lent_pairs}
 use Rattle.hp_live.specs.Sections.{CanAsk, LentIn, ServedOn, TurnOn, WantedIn}
@@ -30,6 +30,8 @@ use Rattle.hp_live.specs.declared.step.Step.{Step}
 use Rattle.hp_live.specs.declared.step.Step.TheVariants.{Turned, Lent}
 use Rattle.hp_live.proofs.Entries.{served_on}
 use Rattle.hp_live.proofs.Finding.{Puts, lawful_found, seat_kept, seen_by}
+use Rattle.hp_live.proofs.HooksBack.{ask_same}
+use Rattle.hp_live.proofs.HooksTurned.{turns_hook, waits_quietly}
 use Rattle.hp_live.proofs.LentPairs.{calls_by, by_calls, by_hook_out, lends_is, not_yet_by}
 use Rattle.hp_live.proofs.Pairs.{aside_pairs}
 use Rattle.hp_live.proofs.Turning.{turn_on}
@@ -112,33 +114,15 @@ lends_one : (p after : Pass) (k : ℕ) (found : Contents) → Finds p found → 
 lends_one p after k found finds others can =
     by_pass (λ h ps. lends_over h found.events ps k ≡ true) p after k found finds others (lends_is found k finds.board ∙ can)
 
--- a turn that waits leaves the hook
-waits_quietly : (b : Contents) (k : ℕ) (op : Op) (why : Why) → IsNotYet k op b why →
-    leaves_hook b.events (next_event b.head b.events k op) ≡ true
-waits_quietly b k op why h = go (not_made k op b why h)
-  where
-    go : (next_event b.head b.events k op ≡ None) ⊎ ((s : ℕ) × WaitsToArm b s k op) →
-        leaves_hook b.events (next_event b.head b.events k op) ≡ true
-    go (inl none) = ap (leaves_hook b.events) none
-    go (inr (s, w)) =
-        ap (leaves_hook b.events) w.next_is
-        ∙ arms_quietly b.events (Call w.out.seat w.out.cpu s w.out.inst w.out.dir w.out.how) w.event w.arms
-
 -- ---- a client's
 
-abbrev ask_of : {H : Type 0} → Op → Option H → Ask H
-ask_of op hook = record { op = op; hook = hook }
-
-ask_same : {H : Type 0} (before after : Ask H) → after.op ≡ before.op → after.hook ≡ before.hook → after ≡ before
-ask_same before after op hook = ap (λ o. ask_of o after.hook) op ∙ ap (λ h. ask_of before.op h) hook
-
-turn_taken : {H : Type 0} (p held after : Pass) (k : ℕ) (before asked : Ask H) (found : Contents) (turn : Turn) → p.seat ≡ Some k →
+turn_taken : {H : Type 0} (seen : H → Counts) (p held after : Pass) (k : ℕ) (before asked : Ask H) (found : Contents) (turn : Turn) → p.seat ≡ Some k →
     Finds p found → p.aside ≡ None → held.misses ≡ p.misses → Keeps k held after → lent_beside k after.kept ≡ lent_pairs found →
     CanAsk found.head found.events k before.op (is_some before.hook) →
     (to : StepsTo {H = H} k before.op (is_some before.hook) (is_some asked.hook) found after (Ok (Turned turn))) →
-    WaitsOut {H = H} found k before.op (Ok (Turned turn)) → KeepsAsk found k before asked (Ok (Turned turn)) → asked.op ≡ before.op → after.aside ≡ None →
-    TookTurn (seated k p) (seated k after) before asked turn
-turn_taken p held after k before asked found turn own finds none misses keeps others can to out hook op nothing =
+    WaitsOut {H = H} found k before.op (Ok (Turned turn)) → KeepsAsk seen found k before asked (Ok (Turned turn)) → asked.op ≡ before.op →
+    after.aside ≡ None → TookTurn seen (seated k p) (seated k after) before asked turn
+turn_taken seen p held after k before asked found turn own finds none misses keeps others can to out hook op nothing =
     let on = to.steps in
     let had = is_some before.hook in
     let has = is_some asked.hook in
@@ -168,10 +152,10 @@ turn_taken p held after k before asked found turn own finds none misses keeps ot
           out s
           (by_hook_out found s k before.op finds.board
           (by_found (λ h ps. IsHookOutBy h found.events ps s k before.op) p after k found finds others h));
-      same_hook = λ leaves.
-          hook
-          (subst (λ (h : Head). leaves_hook found.events (next_event h found.events k before.op) ≡ true) (sym finds.head_is) leaves);
-      same_ask = λ why is. ask_same before asked op (hook (waits_quietly found k before.op why (waits_for why is)));
+      hook =
+          subst (λ (h : Head). TurnsHook seen h found.events k before.op before.hook asked.hook turn) finds.head_is
+          (turns_hook seen found to.new k before asked turn finds.board.table on.1 on.3 hook.0 hook.1);
+      same_ask = λ why is. ask_same before asked op (hook.0 (waits_quietly found k before.op why (waits_for why is)));
     }
   where
     waits_for : (why : Why) → turn ≡ NotYet why → IsNotYet k before.op found why
@@ -189,13 +173,12 @@ wanted_once p held after k before asked found e own finds none misses keeps othe
       carried = none;
       nothing = nothing;
       wanted =
-          subst (λ (w : List Event). WantedIn p.head k before.op (is_some before.hook) (is_some before.hook) p.front w) front
+          subst (λ (w : List Event). WantedIn p.head k before.op p.front w) front
           (record {
             seen = seen_by p k found.events own finds.knew;
             lawful = lawful_found p found finds;
             takes_room =
                 subst (λ (h : Head). TakesRoom h found.events (next_event h found.events k before.op)) finds.head_is on.2;
-            hook = refl;
           });
       lends =
           subst (λ (w : List Event). lends_over p.head w (lent_beside k after.kept) k ≡ false) front
@@ -226,18 +209,18 @@ loan_taken p held after k found a own finds none misses keeps others head front 
       is_loan = subst (λ (h : Head). IsLoan h after.front k a) head (keeps.loans a carries);
     }
 
-pub step_tried : {H : Type 0} (p held after : Pass) (k : ℕ) (before asked : Ask H) (found : Contents)
+pub step_tried : {H : Type 0} (seen : H → Counts) (p held after : Pass) (k : ℕ) (before asked : Ask H) (found : Contents)
     (step : Result (Step H) NoMemory) → p.seat ≡ Some k →
     Finds p found → p.aside ≡ None → held.misses ≡ p.misses → IsStill p after → Keeps k held after →
     lent_beside k after.kept ≡ lent_pairs found → CanAsk found.head found.events k before.op (is_some before.hook) →
     StepsTo k before.op (is_some before.hook) (is_some asked.hook) found after step → WaitsOut found k before.op step →
-    KeepsAsk found k before asked step → asked.op ≡ before.op → after.aside ≡ lent_of step →
-    StepTried (seated k p) (seated k after) before asked step
-step_tried p held after k before asked found (Ok (Turned turn)) own finds none misses still keeps others can to out hook op nothing =
-    turn_taken p held after k before asked found turn own finds none misses keeps others can to out hook op nothing
-step_tried p held after k before asked found (Err e) own finds none misses still keeps others can to out hook op nothing =
+    KeepsAsk seen found k before asked step → asked.op ≡ before.op → after.aside ≡ lent_of step →
+    StepTried seen (seated k p) (seated k after) before asked step
+step_tried seen p held after k before asked found (Ok (Turned turn)) own finds none misses still keeps others can to out hook op nothing =
+    turn_taken seen p held after k before asked found turn own finds none misses keeps others can to out hook op nothing
+step_tried seen p held after k before asked found (Err e) own finds none misses still keeps others can to out hook op nothing =
     (wanted_once p held after k before asked found e own finds none misses keeps others to out nothing, hook)
-step_tried p held after k before asked found (Ok (Lent a)) own finds none misses still keeps others can to out hook op carries = (
+step_tried seen p held after k before asked found (Ok (Lent a)) own finds none misses still keeps others can to out hook op carries = (
   loan_taken p held after k found a own finds none misses keeps others still.head (to.seen.front_is ∙ to.steps.2) to.steps.0 carries,
   carries,
   hook,

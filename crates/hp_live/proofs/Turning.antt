@@ -1,5 +1,5 @@
 -- What a step of the board is of its events, by a client's seat.
-use Rattle.std.proofs.Common.{◌≡◌, ℕ, Bool, true, false, Option, Some, None, Result, Ok, Err, List, refl, sym, ap, ◌∙◌, subst}
+use Rattle.std.proofs.Common.{◌≡◌, ℕ, Bool, true, false, is_some, Option, Some, None, Result, Ok, Err, List, refl, sym, ap, ◌∙◌, subst}
 use Rattle.std.proofs.lemmas.Bool.{false≢true}
 use Rattle.hp_states.specs.declared.no_memory.NoMemory.{NoMemory}
 use Rattle.hp_event.specs.declared.answer.Answer.{Answer}
@@ -7,6 +7,7 @@ use Rattle.hp_event.specs.declared.op.Op.{Op}
 use Rattle.hp_event.specs.declared.head.Head.{Head}
 use Rattle.hp_event.specs.declared.event.Event.{Event}
 use Rattle.hp_event.specs.declared.event.Event.TheVariants.{Admit, Call}
+use Rattle.hp_hook.specs.Counted.{Counts}
 use Rattle.hp_model.specs.Events.{BelongsTo, is_call}
 use Rattle.hp_model.specs.Front.{StandsFor}
 use Rattle.hp_model.specs.Lawful.{IsLawful}
@@ -18,9 +19,10 @@ use Rattle.hp_model.proofs.NextStands.{next_stands, next_belongs}
 use Rattle.hp_turn.specs.Pass.{Pass}
 use Rattle.hp_turn.specs.Story.{IsOwn, IsNoAdmit}
 use Rattle.hp_board.specs.Contents.{Contents}
-use Rattle.hp_board.specs.Hooks.{has_hook, has_hook_after}
+use Rattle.hp_board.specs.Hooks.{GetsStatesHook, KeepsItsHook, has_hook, has_hook_after}
 use Rattle.hp_board.specs.Loans.{loan}
 use Rattle.hp_board.specs.Turns.{IsTurn, Makes, goes_on}
+use Rattle.hp_board.specs.declared.turn.Ask.{Ask}
 use Rattle.hp_board.specs.declared.turn.Turn.{Turn}
 use Rattle.hp_board.specs.declared.turn.Turn.TheVariants.{Made, Answered, NotYet}
 use Rattle.hp_board.proofs.AskAgain.{own_after}
@@ -28,9 +30,12 @@ use Rattle.hp_board.proofs.Busy.{hook_again}
 use Rattle.hp_live.specs.declared.step.Step.{Step}
 use Rattle.hp_live.specs.declared.step.Step.TheVariants.{Turned, Lent}
 use Rattle.hp_live.specs.Sections.{Adds, CanAsk, EntersIn, TurnOn, TurnedIn, WantedIn, LentIn}
+use Rattle.hp_live.specs.Hooks.{TurnsHook}
 use Rattle.hp_live.specs.Runs.{SteppedIn}
+use Rattle.hp_live.specs.declared.step.Stepped.TheVariants as did
 use Rattle.hp_live.specs.Steps.{StepsOn, StepsIn, Finds, HasSeen, GivesIn, lent_of, stepped_by}
 use Rattle.hp_live.proofs.Finding.{Puts, puts_one, puts_none, seen_by, lawful_found}
+use Rattle.hp_live.proofs.HooksTurned.{turns_hook}
 use Rattle.hp_live.proofs.Others.{asks_later}
 
 adds : (next : Option Event) (at : ℕ) (answer : Option Answer) (old new : Contents) → Makes next at answer old new →
@@ -114,52 +119,58 @@ asks_found p k op had found f own asked =
     subst (λ (h : Head). CanAsk h found.events k op had) (sym f.head_is)
     (asks_later p.head k op had p.front found.events (seen_by p k found.events own f.knew) (lawful_found p found f) asked)
 
--- of a turn
-section_turned : (p after : Pass) (k : ℕ) (op : Op) (had has : Bool) (found new : Contents) (turn : Turn) → Finds p found →
-    p.seat ≡ Some k → CanAsk found.head found.events k op had → TurnOn found.head k op found.events new.events turn →
-    has ≡ has_hook_after found.events (next_event found.head found.events k op) had →
-    (goes_on turn ≡ true → has ≡ has_hook new.events k op) → HasSeen after new → TurnedIn p.head k op had has p.front after.front turn
-section_turned p after k op had has found new turn f own asked t hook again seen =
-    subst (λ (h : Head). TurnedIn h k op had has p.front after.front turn) f.head_is
-    (subst (λ (w : List Event). TurnedIn found.head k op had has p.front w turn) (sym seen.front_is)
-    (record {
-      found = found.events;
-      seen = seen_by p k found.events own f.knew;
-      lawful = f.board.lawful;
-      asked = asked;
-      turned = t;
-      hook = hook;
-      again = again;
-    }))
+-- of a turn, with what it makes of the hook
+pub section_turned : {H : Type 0} (seen : H → Counts) (p after : Pass) (k : ℕ) (was now : Ask H) (found new : Contents) (turn : Turn) →
+    Finds p found → p.seat ≡ Some k → CanAsk found.head found.events k was.op (is_some was.hook) → IsTurn k was.op found new turn →
+    is_some now.hook ≡ has_hook_after found.events (next_event found.head found.events k was.op) (is_some was.hook) →
+    (goes_on turn ≡ true → is_some now.hook ≡ has_hook new.events k was.op) → KeepsItsHook found k was now →
+    GetsStatesHook seen found k was now → HasSeen after new →
+    SteppedIn seen p.head k was.op was.hook now.hook p.front after.front (did.Turned turn)
+section_turned seen p after k was now found new turn f own asked t hook again keeps gets sees = (
+  record {
+    found = found.events;
+    seen = seen_by p k found.events own f.knew;
+    lawful = lawful_found p found f;
+    asked = subst (λ (h : Head). CanAsk h found.events k was.op (is_some was.hook)) f.head_is asked;
+    turned =
+        subst (λ (h : Head). TurnOn h k was.op found.events after.front turn) f.head_is
+        (subst (λ (w : List Event). TurnOn found.head k was.op found.events w turn) (sym sees.front_is)
+        (turn_on k was.op found new turn t));
+    hook =
+        subst
+        (λ (h : Head). is_some now.hook ≡ has_hook_after found.events (next_event h found.events k was.op) (is_some was.hook))
+        f.head_is hook;
+    again = λ goes. again goes ∙ ap (λ (w : List Event). has_hook w k was.op) (sym sees.front_is);
+  },
+  subst (λ (h : Head). TurnsHook seen h found.events k was.op was.hook now.hook turn) f.head_is
+      (turns_hook seen found new k was now turn f.board.table t hook keeps gets),
+)
 
 -- what it did, once the hook that it lent was called
-pub steps_stepped : {H : Type 0} (p after : Pass) (k : ℕ) (op : Op) (had has : Bool) (step : Step H) → p.seat ≡ Some k →
-    StepsIn k op had has p after (Ok step) → SteppedIn p.head k op had has p.front after.front (stepped_by step)
-steps_stepped p after k op had has (Turned turn) own s =
+pub steps_stepped : {H : Type 0} (seen : H → Counts) (p after : Pass) (k : ℕ) (was now : Ask H) (step : Step H) → p.seat ≡ Some k →
+    StepsIn seen k was now p after (Ok step) →
+    SteppedIn seen p.head k was.op was.hook now.hook p.front after.front (stepped_by step)
+steps_stepped seen p after k was now (Turned turn) own s =
     let on = s.to.steps in
-    section_turned p after k op had has s.found s.to.new turn s.finds own s.asked (turn_on k op s.found s.to.new turn on.1) on.3
-    on.4 s.to.seen
-steps_stepped p after k op had has (Lent a) own s =
+    section_turned seen p after k was now s.found s.to.new turn s.finds own s.asked on.1 on.3 on.4 s.ask.0 s.ask.1 s.to.seen
+steps_stepped {H} seen p after k was now (Lent a) own s =
     let on = s.to.steps in
     let front : after.front ≡ s.found.events = s.to.seen.front_is ∙ on.2 in (
       subst (λ (w : List Event). LentIn p.head k p.front w) (sym front)
           (record { seen = seen_by p k s.found.events own s.finds.knew; lawful = lawful_found p s.found s.finds }),
-      on.4,
+      ap (λ (x : Ask H). x.hook) s.ask,
     )
 
-pub steps_wanted : {H : Type 0} (p after : Pass) (k : ℕ) (op : Op) (had has : Bool) (e : NoMemory) → p.seat ≡ Some k →
-    StepsIn {H = H} k op had has p after (Err e) → WantedIn p.head k op had has p.front after.front
-steps_wanted p after k op had has e own s =
+pub steps_wanted : {H : Type 0} (seen : H → Counts) (p after : Pass) (k : ℕ) (was now : Ask H) (e : NoMemory) → p.seat ≡ Some k →
+    StepsIn seen k was now p after (Err e) → WantedIn p.head k was.op p.front after.front × (now ≡ was)
+steps_wanted seen p after k was now e own s =
     let on = s.to.steps in
-    let front : after.front ≡ s.found.events = s.to.seen.front_is ∙ ap (λ (b : Contents). b.events) on.1 in
-    subst (λ (h : Head). WantedIn h k op had has p.front after.front) s.finds.head_is
-    (subst (λ (w : List Event). WantedIn s.found.head k op had has p.front w) (sym front)
-    (record {
-      seen = seen_by p k s.found.events own s.finds.knew;
-      lawful = s.finds.board.lawful;
-      takes_room = on.2;
-      hook = on.3;
-    }))
+    let front : after.front ≡ s.found.events = s.to.seen.front_is ∙ ap (λ (b : Contents). b.events) on.1 in (
+      subst (λ (h : Head). WantedIn h k was.op p.front after.front) s.finds.head_is
+          (subst (λ (w : List Event). WantedIn s.found.head k was.op p.front w) (sym front)
+          (record { seen = seen_by p k s.found.events own s.finds.knew; lawful = s.finds.board.lawful; takes_room = on.2 })),
+      s.ask,
+    )
 
 -- ---- a hook that comes back
 

@@ -2,6 +2,7 @@ pub mod Known
 pub mod Lending
 pub mod Grew
 pub mod Sections
+pub mod Hooks
 pub mod Steps
 pub mod Runs
 pub mod Threads

@@ -1,17 +1,20 @@
 -- What an operation made of the front of its pass, from its first turn on. This project's own.
-use Rattle.std.specs.Prelude.{◌≡◌, ◌⊎◌, ℕ, Bool, true, false, Some, None, List, [], ◌∷◌, ◌++◌, All}
+use Rattle.std.specs.Prelude.{◌≡◌, ◌⊎◌, ℕ, Bool, true, false, is_some, Option, Some, None, IfSome, List, [], ◌∷◌, ◌++◌, All}
 use Rattle.hp_event.specs.declared.answer.Answer.{Answer}
 use Rattle.hp_event.specs.declared.answer.Answer.TheVariants.{LogFull}
 use Rattle.hp_event.specs.declared.event.Event.{Event}
 use Rattle.hp_event.specs.declared.head.Head.{Head}
 use Rattle.hp_event.specs.declared.op.Op.{Op}
+use Rattle.hp_hook.specs.Counted.{Counts}
 use Rattle.hp_model.specs.Events.{answer_by, BelongsTo}
 use Rattle.hp_model.specs.Lawful.{IsLawful}
 use Rattle.hp_model.specs.Seats.{is_busy}
 use Rattle.hp_model.specs.NextEvent.{next_event, is_full}
+use Rattle.hp_account.specs.TableChanges.{hands_hook}
 use Rattle.hp_board.specs.Turns.{TakesRoom}
 use Rattle.hp_live.specs.Grew.{Grew}
 use Rattle.hp_board.specs.declared.turn.Turn.TheVariants.{Made}
+use Rattle.hp_live.specs.Hooks.{IsOfState, TurnsHook}
 use Rattle.hp_live.specs.Sections.{EntersIn, LentIn, TurnedIn}
 use Rattle.hp_live.specs.declared.step.Stepped.{Stepped}
 use Rattle.hp_live.specs.declared.step.Stepped.TheVariants.{Turned, Lent}
@@ -43,6 +46,24 @@ pub record FullFor (head : Head) (seat : ℕ) (op : Op) (old new : List Event) (
 abbrev pub IsAnswered : Head → (seat : ℕ) → Op → (old new : List Event) → Answer → Type 0
 IsAnswered head k op old new answer = AnsweredBy head k op old new answer ⊎ FullFor head k op old new answer
 
+-- the hook that is there, if one is, is the one that was handed in
+abbrev pub IsHandedIn : {H : Type 0} → (was now : Option H) → Type 0
+IsHandedIn was now = IfSome now (λ hook. was ≡ Some hook)
+
+-- an event answered it: the hook that is there then, if one is, is that of the state of its registration, where the event hands that
+-- out, and else the one that was handed in
+pub record AnsweredWith {H : Type 0} (seen : H → Counts) (head : Head) (seat : ℕ) (op : Op) (old new : List Event) (was now : Option H)
+    (answer : Answer) : Type 0 where
+  pub by : AnsweredBy head seat op old new answer
+  pub states : hands_hook by.before by.event ≡ true → IfSome now (IsOfState seen head by.before)
+  pub same : hands_hook by.before by.event ≡ false → IsHandedIn was now
+
+-- which hook comes back with the answer, where one does
+abbrev pub ComesBack : {H : Type 0} → (seen : H → Counts) → Head → (seat : ℕ) → Op → (old new : List Event) → (was now : Option H) →
+    Answer → Type 0
+ComesBack seen head k op old new was now answer =
+    AnsweredWith seen head k op old new was now answer ⊎ (FullFor head k op old new answer × IsHandedIn was now)
+
 -- memory was wanting for an event of it, and what it made doesn't answer it: with any event made it is in flight
 pub record Halted (head : Head) (seat : ℕ) (op : Op) (old new : List Event) : Type 0 where
   pub made : List Event
@@ -57,10 +78,12 @@ abbrev pub is_lent : Stepped → Bool
 is_lent (Lent state) = true
 is_lent _ = false
 
--- what one section of a client's seat made of its front
-abbrev pub SteppedIn : Head → (seat : ℕ) → Op → (had has : Bool) → (old new : List Event) → Stepped → Type 0
-SteppedIn head k op had has old new (Turned turn) = TurnedIn head k op had has old new turn
-SteppedIn head k op had has old new (Lent state) = LentIn head k old new × (has ≡ had)
+-- what one section of a client's seat made of its front, and of the hook of its operation
+abbrev pub SteppedIn : {H : Type 0} → (seen : H → Counts) → Head → (seat : ℕ) → Op → (was now : Option H) → (old new : List Event) →
+    Stepped → Type 0
+SteppedIn seen head k op was now old new (Turned turn) =
+    (t : TurnedIn head k op (is_some was) (is_some now) old new turn) × TurnsHook seen head t.found k op was now turn
+SteppedIn seen head k op was now old new (Lent state) = LentIn head k old new × (now ≡ was)
 
 -- the hook that a seat carried came home in it, and its entry was made
 abbrev pub EnteredIn : Head → (seat : ℕ) → (old new : List Event) → Stepped → Type 0

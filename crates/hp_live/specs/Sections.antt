@@ -69,11 +69,10 @@ pub record TurnedIn (head : Head) (seat : ℕ) (op : Op) (had has : Bool) (old n
   pub again : goes_on turn ≡ true → has ≡ has_hook new seat op
 
 -- a section in which memory was wanting: it made nothing
-pub record WantedIn (head : Head) (seat : ℕ) (op : Op) (had has : Bool) (old new : List Event) : Type 0 where
+pub record WantedIn (head : Head) (seat : ℕ) (op : Op) (old new : List Event) : Type 0 where
   pub seen : StandsFor (Some seat) old new
   pub lawful : IsLawful head new
   pub takes_room : TakesRoom head new (next_event head new seat op)
-  pub hook : has ≡ had
 
 -- a section in which the hook of the entry that is due from a seat was lent to it: it made no event
 pub record LentIn (head : Head) (seat : ℕ) (old new : List Event) : Type 0 where

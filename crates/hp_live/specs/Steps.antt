@@ -1,10 +1,11 @@
 -- What one lock section finds and leaves, by the board under the lock. The code's own clauses speak of it, and those of tries.
 -- This project's own.
-use Rattle.std.specs.Prelude.{◌≡◌, ◌≢◌, ℕ, Bool, true, Option, Some, None, Result, Ok, Err, List, ◌++◌}
+use Rattle.std.specs.Prelude.{◌≡◌, ◌≢◌, ℕ, Bool, true, is_some, Option, Some, None, Result, Ok, Err, List, ◌++◌}
 use Rattle.hp_states.specs.declared.no_memory.NoMemory.{NoMemory}
 use Rattle.hp_event.specs.declared.aside.Aside.{Aside}
 use Rattle.hp_event.specs.declared.event.Event.{Event}
 use Rattle.hp_event.specs.declared.op.Op.{Op}
+use Rattle.hp_hook.specs.Counted.{Counts}
 use Rattle.hp_model.specs.Lawful.{IsLawful}
 use Rattle.hp_account.specs.Table.{IsTableOf}
 use Rattle.hp_machine.specs.StandsNext.{next_event_of}
@@ -16,7 +17,9 @@ use Rattle.hp_board.specs.Contents.{Contents}
 use Rattle.hp_board.specs.Hooks.{has_hook, has_hook_after}
 use Rattle.hp_board.specs.Loans.{loan, AreOut, CanLendTo}
 use Rattle.hp_board.specs.Turns.{IsTurn, IsServed, NextTakesRoom, goes_on}
+use Rattle.hp_board.specs.declared.turn.Ask.{Ask}
 use Rattle.hp_board.specs.declared.turn.Turn.TheVariants.{Made}
+use Rattle.hp_live.specs.HeldSteps.{KeepsAsk}
 use Rattle.hp_live.specs.declared.step.Step.{Step}
 use Rattle.hp_live.specs.declared.step.Step.TheVariants.{Turned, Lent}
 use Rattle.hp_live.specs.declared.step.Stepped.{Stepped}
@@ -103,13 +106,14 @@ pub record StepsTo {H : Type 0} (seat : ℕ) (op : Op) (had has : Bool) (found :
   pub steps : StepsOn seat op had has found new step
   pub seen : HasSeen after new
 
--- and of one that the lock gives to a pass
-pub record StepsIn {H : Type 0} (seat : ℕ) (op : Op) (had has : Bool) (before after : Pass)
+-- and of one that the lock gives to a pass, and of the ask
+pub record StepsIn {H : Type 0} (seen : H → Counts) (seat : ℕ) (was now : Ask H) (before after : Pass)
     (step : Result (Step H) NoMemory) : Type 0 where
   pub found : Contents
   pub finds : Finds before found
-  pub asked : CanAsk found.head found.events seat op had
-  pub to : StepsTo seat op had has found after step
+  pub asked : CanAsk found.head found.events seat was.op (is_some was.hook)
+  pub to : StepsTo seat was.op (is_some was.hook) (is_some now.hook) found after step
+  pub ask : KeepsAsk seen found seat was now step
 
 -- what it did, once the hook that it lent was called
 abbrev pub stepped_by : {H : Type 0} → Step H → Stepped

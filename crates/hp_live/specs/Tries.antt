@@ -7,6 +7,7 @@ use Rattle.hp_event.specs.declared.event.Event.TheVariants.{Call}
 use Rattle.hp_event.specs.declared.head.Head.{Head}
 use Rattle.hp_event.specs.declared.op.Op.{Op}
 use Rattle.hp_event.specs.Hows.{is_called}
+use Rattle.hp_hook.specs.Counted.{Counts}
 use Rattle.hp_states.specs.declared.no_memory.NoMemory.{NoMemory}
 use Rattle.hp_locks.specs.declared.why.Why.{Why}
 use Rattle.hp_locks.specs.declared.why.Why.TheVariants.{ApTurn, HookOut}
@@ -16,11 +17,11 @@ use Rattle.hp_model.specs.Walks.{walk}
 use Rattle.hp_account.specs.UnderWay.{hook_asked}
 use Rattle.hp_machine.specs.Next.{IsKept}
 use Rattle.hp_turn.specs.Asides.{aside_of}
-use Rattle.hp_board.specs.Hooks.{leaves_hook}
 use Rattle.hp_board.specs.Loans.{IsLoan}
 use Rattle.hp_board.specs.declared.turn.Ask.{Ask}
 use Rattle.hp_board.specs.declared.turn.Turn.{Turn}
 use Rattle.hp_board.specs.declared.turn.Turn.TheVariants.{Made, Answered, NotYet}
+use Rattle.hp_live.specs.Hooks.{TurnsHook}
 use Rattle.hp_live.specs.Known.{Seated}
 use Rattle.hp_live.specs.Sections.{EntersIn, LentIn, ServedIn, TurnedIn, WantedIn}
 use Rattle.hp_live.specs.declared.step.Stepped.{Stepped}
@@ -125,7 +126,7 @@ pub record TookLoan (old new : Seated) (state : ℕ) : Type 0 where
 
 -- a turn of a client's seat was taken: the pass carried no hook, none could be lent to it, and the turn was that of a board with the
 -- journal that was found, of which this is lent
-pub record TookTurn {H : Type 0} (old new : Seated) (before after : Ask H) (turn : Turn) : Type 0 where
+pub record TookTurn {H : Type 0} (seen : H → Counts) (old new : Seated) (before after : Ask H) (turn : Turn) : Type 0 where
   pub had_lock : HadLock old new
   pub carried : old.lent ≡ None
   pub nothing : new.lent ≡ None
@@ -135,7 +136,7 @@ pub record TookTurn {H : Type 0} (old new : Seated) (before after : Ask H) (turn
       IsNotYetBy old.head turned.found (lent_beside old.seat new.kept) old.seat before.op why
   pub hook_out : (s : ℕ) → IsHookOutBy old.head turned.found (lent_beside old.seat new.kept) s old.seat before.op →
       turn ≡ NotYet (HookOut s)
-  pub same_hook : leaves_hook turned.found (next_event old.head turned.found old.seat before.op) ≡ true → after.hook ≡ before.hook
+  pub hook : TurnsHook seen old.head turned.found old.seat before.op before.hook after.hook turn
   pub same_ask : (why : Why) → turn ≡ NotYet why → after ≡ before
 
 -- memory was wanting for one: nothing was made
@@ -143,7 +144,7 @@ pub record WantedOnce {H : Type 0} (old new : Seated) (ask : Ask H) : Type 0 whe
   pub had_lock : HadLock old new
   pub carried : old.lent ≡ None
   pub nothing : new.lent ≡ None
-  pub wanted : WantedIn old.head old.seat ask.op (is_some ask.hook) (is_some ask.hook) old.front new.front
+  pub wanted : WantedIn old.head old.seat ask.op old.front new.front
   pub lends : lends_over old.head new.front (lent_beside old.seat new.kept) old.seat ≡ false
   pub no_wait : (s : ℕ) → IsHookOutBy old.head new.front (lent_beside old.seat new.kept) s old.seat ask.op → ⊥
 
@@ -169,10 +170,11 @@ BackTried old new (tried.Turned turn) = GaveBack old new turn
 BackTried old new (tried.Lent state) = ⊥
 
 -- a client's
-abbrev pub TurnTried : {H : Type 0} → (old new : Seated) → (before after : Ask H) → Tried → Type 0
-TurnTried old new before after tried.Busy = (new ≡ missed old) × (after ≡ before)
-TurnTried old new before after (tried.Turned turn) = TookTurn old new before after turn ⊎ (GaveBack old new turn × (after ≡ before))
-TurnTried old new before after (tried.Lent state) = TookLoan old new state × (after ≡ before)
+abbrev pub TurnTried : {H : Type 0} → (seen : H → Counts) → (old new : Seated) → (before after : Ask H) → Tried → Type 0
+TurnTried seen old new before after tried.Busy = (new ≡ missed old) × (after ≡ before)
+TurnTried seen old new before after (tried.Turned turn) =
+    TookTurn seen old new before after turn ⊎ (GaveBack old new turn × (after ≡ before))
+TurnTried seen old new before after (tried.Lent state) = TookLoan old new state × (after ≡ before)
 
 -- a thread's
 abbrev pub ServeTried : (old new : Seated) → Tried → Type 0

@@ -1,11 +1,12 @@
 //! Operations by name.
 
-ghost use Rattle.std.specs.Prelude.{◌≡◌, ◌≢◌, true, false, None, Some, IfOk, IfErr, OnErr, OnOk, is_some};
+ghost use Rattle.std.specs.Prelude.{◌≡◌, ◌≢◌, true, false, None, IfOk, OnErr, is_some};
 ghost use Rattle.hp_account.specs.TableChanges.{is_setup, hands_out};
 ghost use Rattle.hp_event.specs.declared.event.File.TheVariants.{States as StatesFile};
 ghost use Rattle.hp_event.specs.declared.op.Op.TheVariants as an_op;
-ghost use Rattle.hp_live.specs.Forms.{Ran, RanWith, unlocked as unlocked_form};
+ghost use Rattle.hp_live.specs.Forms.{Ran, unlocked as unlocked_form};
 ghost use Rattle.hp_live.specs.Known.{IsOf};
+ghost use Rattle.hp_live.specs.Runs.{ComesBack};
 ghost use Rattle.hp_model.specs.Events.{showing};
 ghost use Rattle.hp_model.specs.Seats.{is_busy};
 ghost use Rattle.hp_model.specs.Subsystems.{names_sub};
@@ -19,22 +20,6 @@ use hp_hook::Hook;
 use hp_states::NoMemory;
 use std::sync::Wait;
 
-/// How a setup or a remove ended.
-#[derive(Drop)]
-pub struct Done<H> {
-    /// Its answer.
-    pub answer: Answer,
-    /// The hook that comes back: of a setup that isn't answered Ok, and of a remove that is.
-    pub hook: Option<H>,
-}
-
-/// What comes back of a setup or a remove that memory was wanting for.
-#[derive(Drop)]
-pub struct HookBack<H> {
-    /// The hook of a setup.
-    pub hook: Option<H>,
-}
-
 impl<H: Hook + Send> Hotplug<H> {
     /// Brings a processor up: `run` with `Up`.
     ///
@@ -42,7 +27,7 @@ impl<H: Hook + Send> Hotplug<H> {
     /// begins it finishes: once an event of it is made it waits for memory.
     /// - `NoMemory` where memory was wanting for the first event; no event is made then.
     ///
-    /// After `cpu_up` of `kernel/cpu.c`.
+    /// After `cpu_up` of `kernel/cpu.c`; what a second fault does is this project's own.
     pub fn cpu_up<R: Wait, G: Gate>(
         &self,
         rt: &R,
@@ -57,7 +42,8 @@ impl<H: Hook + Send> Hotplug<H> {
         self.call(rt, gate, pass, Op::Up(cpu))
     }
 
-    /// Takes a processor down: as `cpu_up`, with `Down`. After `cpu_down` of `kernel/cpu.c`.
+    /// Takes a processor down: as `cpu_up`, with `Down`. After `cpu_down` of `kernel/cpu.c`; that nothing fails in
+    /// PREPARE, and what a second fault does, is this project's own.
     pub fn cpu_down<R: Wait, G: Gate>(
         &self,
         rt: &R,
@@ -107,7 +93,7 @@ impl<H: Hook + Send> Hotplug<H> {
     }
 
     /// Brings processors up until so many are online: as `cpu_up`, with `Boot`. After `bringup_nonboot_cpus` of
-    /// `kernel/cpu.c`.
+    /// `kernel/cpu.c`; that it answers how many walks failed is this project's own.
     pub fn boot<R: Wait, G: Gate>(
         &self,
         rt: &R,
@@ -168,7 +154,7 @@ impl<H: Hook + Send> Hotplug<H> {
     }
 
     /// Brings up again what a freeze took down: as `cpu_up`, with `Thaw`. After `thaw_secondary_cpus` of
-    /// `kernel/cpu.c`.
+    /// `kernel/cpu.c`; that it answers how many walks failed is this project's own.
     pub fn thaw<R: Wait, G: Gate>(
         &self,
         rt: &R,
@@ -223,7 +209,7 @@ impl<H: Hook + Send> Hotplug<H> {
     }
 
     /// Adds an instance to a state: as `cpu_up`, with `Add`. After `cpuhp_state_add_instance` of
-    /// `linux/cpuhotplug.h`.
+    /// `linux/cpuhotplug.h`; that an instance which is there already is refused is this project's own.
     pub fn add_instance<R: Wait, G: Gate>(
         &self,
         rt: &R,
@@ -258,86 +244,6 @@ impl<H: Hook + Send> Hotplug<H> {
         self.call(rt, gate, pass, Op::Del { state, inst, form })
     }
 
-    /// Registers a subsystem of the head at a state, with its callbacks: `Setup`, as `cpu_up`.
-    ///
-    /// Conditions: those of `cpu_up`, and the head has the subsystem. The hook comes back where the answer isn't Ok,
-    /// and where memory was wanting. After `cpuhp_setup_state` of `linux/cpuhotplug.h`.
-    pub fn setup_state<R: Wait, G: Gate>(
-        &self,
-        rt: &R,
-        gate: &G,
-        pass: &mut Pass<H>,
-        state: u32,
-        sub: u32,
-        hook: H,
-    ) -> Result<Done<H>, HookBack<H>>
-        requires own { IsOf self.now pass.old.lock }
-        requires idle { is_busy pass.old.seat pass.old.front ≡ false }
-        requires named { names_sub pass.old.head (an_op.Setup state sub (unlocked_form false)) ≡ true }
-        ensures { RanWith pass.old pass.new (an_op.Setup state sub (unlocked_form false)) result }
-    {
-        let form = unlocked(false);
-        self.register(rt, gate, pass, Op::Setup { state, sub, form }, Some(hook))
-    }
-
-    /// Registers a subsystem of the head at a state, without its callbacks: `Setup`, as `cpu_up`.
-    ///
-    /// Conditions: those of `cpu_up`, and the head has the subsystem. The hook comes back where the answer isn't Ok,
-    /// and where memory was wanting. After `cpuhp_setup_state_nocalls` of `linux/cpuhotplug.h`.
-    pub fn setup_state_nocalls<R: Wait, G: Gate>(
-        &self,
-        rt: &R,
-        gate: &G,
-        pass: &mut Pass<H>,
-        state: u32,
-        sub: u32,
-        hook: H,
-    ) -> Result<Done<H>, HookBack<H>>
-        requires own { IsOf self.now pass.old.lock }
-        requires idle { is_busy pass.old.seat pass.old.front ≡ false }
-        requires named { names_sub pass.old.head (an_op.Setup state sub (unlocked_form true)) ≡ true }
-        ensures { RanWith pass.old pass.new (an_op.Setup state sub (unlocked_form true)) result }
-    {
-        let form = unlocked(true);
-        self.register(rt, gate, pass, Op::Setup { state, sub, form }, Some(hook))
-    }
-
-    /// Takes a state's registration away, with its callbacks: `Remove`, as `cpu_up`.
-    ///
-    /// The state's hook comes back where the answer is Ok. After `cpuhp_remove_state` of `linux/cpuhotplug.h`.
-    pub fn remove_state<R: Wait, G: Gate>(
-        &self,
-        rt: &R,
-        gate: &G,
-        pass: &mut Pass<H>,
-        state: u32,
-    ) -> Result<Done<H>, HookBack<H>>
-        requires own { IsOf self.now pass.old.lock }
-        requires idle { is_busy pass.old.seat pass.old.front ≡ false }
-        ensures { RanWith pass.old pass.new (an_op.Remove state (unlocked_form false)) result }
-    {
-        let form = unlocked(false);
-        self.register(rt, gate, pass, Op::Remove { state, form }, None)
-    }
-
-    /// Takes a state's registration away, without its callbacks: `Remove`, as `cpu_up`.
-    ///
-    /// The state's hook comes back where the answer is Ok. After `cpuhp_remove_state_nocalls` of `linux/cpuhotplug.h`.
-    pub fn remove_state_nocalls<R: Wait, G: Gate>(
-        &self,
-        rt: &R,
-        gate: &G,
-        pass: &mut Pass<H>,
-        state: u32,
-    ) -> Result<Done<H>, HookBack<H>>
-        requires own { IsOf self.now pass.old.lock }
-        requires idle { is_busy pass.old.seat pass.old.front ≡ false }
-        ensures { RanWith pass.old pass.new (an_op.Remove state (unlocked_form true)) result }
-    {
-        let form = unlocked(true);
-        self.register(rt, gate, pass, Op::Remove { state, form }, None)
-    }
-
     /// One whole operation that brings no hook and gets none.
     fn call<R: Wait, G: Gate>(
         &self,
@@ -357,33 +263,8 @@ impl<H: Hook + Send> Hotplug<H> {
         self.finish(rt, gate, pass, &mut ask)
     }
 
-    /// One whole registration.
-    fn register<R: Wait, G: Gate>(
-        &self,
-        rt: &R,
-        gate: &G,
-        pass: &mut Pass<H>,
-        op: Op,
-        hook: Option<H>,
-    ) -> Result<Done<H>, HookBack<H>>
-        requires own { IsOf self.now pass.old.lock }
-        requires idle { is_busy pass.old.seat pass.old.front ≡ false }
-        requires op { op ≢ an_op.Lock }
-        requires named { names_sub pass.old.head op ≡ true }
-        requires hook { is_some hook ≡ is_setup op }
-        ensures { RanWith pass.old pass.new op result }
-    {
-        let mut ask = Ask { op, hook };
-        let ran = self.finish(rt, gate, pass, &mut ask);
-        let Ask { hook, .. } = ask;
-        match ran {
-            Ok(answer) => Ok(Done { answer, hook }),
-            Err(NoMemory) => Err(HookBack { hook }),
-        }
-    }
-
     /// One whole operation of the pass's seat, which has none in flight: it finishes what it begins.
-    fn finish<R: Wait, G: Gate>(
+    pub(crate) fn finish<R: Wait, G: Gate>(
         &self,
         rt: &R,
         gate: &G,
@@ -397,7 +278,9 @@ impl<H: Hook + Send> Hotplug<H> {
         requires hook { is_some ask.old.hook ≡ is_setup ask.old.op }
         ensures ran { Ran pass.old pass.new ask.old.op result }
         ensures hook { IfOk result (λ answer. is_some ask.new.hook ≡ hands_out ask.old.op answer) }
-        ensures back { OnErr result (is_some ask.new.hook ≡ is_setup ask.old.op) }
+        ensures back { IfOk result (ComesBack H.counts pass.old.head pass.old.seat ask.old.op
+            pass.old.front pass.new.front ask.old.hook ask.new.hook) }
+        ensures as_before { OnErr result (ask.new ≡ ask.old) }
     {
         pass.sound();
         let ran = self.run_seat(rt, gate, &mut pass.own, ask, true);
@@ -407,7 +290,7 @@ impl<H: Hook + Send> Hotplug<H> {
 }
 
 /// A form without the read lock.
-fn unlocked(nocalls: bool) -> Form
+pub(crate) fn unlocked(nocalls: bool) -> Form
     ensures { result ≡ unlocked_form nocalls }
 {
     Form {

@@ -31,8 +31,9 @@
 //! `docs/LIBRARY.md` goes through them one by one, each in a program that runs.
 //!
 //! To read the specs: `Known` says what contracts see of passes, `Grew` how a front grows, `Sections` what one
-//! lock section makes of it, `Runs` and `Threads` what an operation and a thread make of it, and `Tries` what one try does. `Steps`,
-//! `HeldSteps` and `Lending` say the same of the board under the lock. Lock, passes and gates are this project's own.
+//! lock section makes of it, `Hooks` what a turn makes of its operation's hook, `Runs` and `Threads` what an operation and a thread
+//! make of both, and `Tries` what one try does. `Steps`, `HeldSteps` and `Lending` say the same of the board under the lock. Lock,
+//! passes and gates are this project's own.
 #![tactic(auto)]
 
 mod admission;
@@ -50,6 +51,7 @@ mod pass;
 mod places;
 mod read_pass;
 mod reading;
+mod registering;
 mod root;
 mod run;
 mod seat;
@@ -66,7 +68,6 @@ mod tries;
 mod wakes;
 
 pub use ap_pass::ApPass;
-pub use forms::{Done, HookBack};
 pub use gate::{FreeGate, Gate};
 pub use hotplug::Hotplug;
 pub use laws::{no_more, stands_still};
@@ -75,6 +76,7 @@ pub use parked::{Parked, ParkedAp};
 pub use pass::Pass;
 pub use read_pass::ReadPass;
 pub use reading::ReadRefusal;
+pub use registering::{Done, HookBack};
 pub use root::Root;
 pub use tried::Tried;
 pub use tries::lends_by_pairs;

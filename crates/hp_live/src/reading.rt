@@ -10,7 +10,7 @@ ghost use Rattle.hp_event.specs.declared.op.Op.TheVariants.{Lock, Unlock};
 ghost use Rattle.hp_live.specs.Grew.{Grew};
 ghost use Rattle.hp_live.specs.Known.{IsOf, IsOut, IsSamePass, IsStill};
 ghost use Rattle.hp_live.specs.ReadSections.{AsksIn, AsksOn, IsOnlineThroughout, IsReadRefusal, MakesIn};
-ghost use Rattle.hp_live.specs.Runs.{AnsweredBy, IsAnswered, Halted};
+ghost use Rattle.hp_live.specs.Runs.{AnsweredBy, ComesBack, IsAnswered, Halted};
 ghost use Rattle.hp_live.specs.Sections.{CanAsk};
 ghost use Rattle.hp_event.specs.declared.event.Role.TheVariants.{Client as AClient};
 ghost use Rattle.hp_model.specs.Readers.{is_reading};
@@ -98,9 +98,10 @@ impl<H: Hook + Send> Hotplug<H> {
     ///
     /// Conditions: this machine gave the pass; the operation isn't an unlock; and the ask meets the conditions of
     /// `Board::turn` by the pass's front. A lock is refused 35, and so is whatever would wait for the section's end.
-    /// What is made and answered is as of `run`, and the section goes on with the same processors online.
-    /// - `NoMemory` where memory was wanting for the operation's first event. None is made then, and the same ask may
-    ///   be run again.
+    /// What is made and answered, and which hook comes back, is as of `run`, and the section goes on with the same
+    /// processors online. Once an event of the operation is made it waits for memory.
+    /// - `NoMemory` where memory was wanting for the operation's first event. None is made then, the ask is as before,
+    ///   its hook in it, and may be run again.
     ///
     /// After the calls of `kernel/cpu.c` whose names end in `_cpuslocked`.
     pub fn run_reading<R: Wait, G: Gate>(
@@ -121,7 +122,10 @@ impl<H: Hook + Send> Hotplug<H> {
             (Halted read.old.pass.head read.old.pass.seat ask.old.op read.old.pass.front read.new.pass.front) }
         ensures none { OnErr result (Grew read.old.pass.seat read.old.pass.front read.new.pass.front []) }
         ensures hook { IfOk result (λ answer. is_some ask.new.hook ≡ hands_out ask.old.op answer) }
+        ensures back { IfOk result (ComesBack H.counts read.old.pass.head read.old.pass.seat ask.old.op
+            read.old.pass.front read.new.pass.front ask.old.hook ask.new.hook) }
         ensures op { ask.new.op ≡ ask.old.op }
+        ensures as_before { OnErr result (ask.new ≡ ask.old) }
         ensures again { OnErr result
             (CanAsk read.new.pass.head read.new.pass.front read.new.pass.seat ask.new.op (is_some ask.new.hook)) }
     {

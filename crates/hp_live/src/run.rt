@@ -1,11 +1,11 @@
 //! Operations, from their first turn to their answer.
 
-ghost use Rattle.std.specs.Prelude.{◌≡◌, ◌≢◌, true, false, None, Some, [], is_some, IfOk, OnErr, OnOk};
+ghost use Rattle.std.specs.Prelude.{◌≡◌, ◌≢◌, ◌&&◌, true, false, None, Some, [], is_some, IfOk, OnErr, OnOk};
 ghost use Rattle.hp_event.specs.declared.op.Op.TheVariants.{Lock};
 ghost use Rattle.hp_account.specs.TableChanges.{hands_out};
 ghost use Rattle.hp_live.specs.Grew.{Grew};
 ghost use Rattle.hp_live.specs.Known.{IsOf, IsSamePass, Stays};
-ghost use Rattle.hp_live.specs.Runs.{IsAnswered, Halted, SteppedIn, is_lent};
+ghost use Rattle.hp_live.specs.Runs.{ComesBack, IsAnswered, Halted, SteppedIn, is_lent};
 ghost use Rattle.hp_live.specs.Sections.{CanAsk, WantedIn};
 ghost use Rattle.hp_model.specs.Seats.{is_busy};
 
@@ -30,11 +30,13 @@ impl<H: Hook + Send> Hotplug<H> {
     /// its seat the events of this operation alone. The last answers it, and the answer is that event's. Where
     /// it is answered LogFull without an event, room was wanting at the end of the front.
     /// - `NoMemory` where memory was wanting for a first event or for the begin of a walk. What was made so far is
-    ///   of the operation, none of it answers it, and the same ask may be run again.
+    ///   of the operation, none of it answers it, the ask is as before, its hook in it, and may be run again.
     ///
     /// The pass carries no hook afterwards. The ask has one at the answer exactly where a setup isn't answered Ok,
-    /// or a remove is. Waits while another holds the lock, and sleeps until another made
-    /// an event where the operation has to wait. After the calls of `kernel/cpu.c`.
+    /// or a remove is. That is the one that was handed in, where the setup didn't begin; else that of the state, with
+    /// its subsystem's plan and the counts of the calls that the journal before the answer has of the state. Waits
+    /// while another holds the lock, and sleeps until another made an event where the operation has to wait. After the
+    /// calls of `kernel/cpu.c`.
     pub fn run<R: Wait, G: Gate>(
         &self,
         rt: &R,
@@ -51,7 +53,10 @@ impl<H: Hook + Send> Hotplug<H> {
         ensures halted { OnErr result (Halted pass.old.head pass.old.seat ask.old.op pass.old.front pass.new.front) }
         ensures nothing { pass.new.lent ≡ None }
         ensures hook { IfOk result (λ answer. is_some ask.new.hook ≡ hands_out ask.old.op answer) }
+        ensures back { IfOk result (ComesBack H.counts pass.old.head pass.old.seat ask.old.op
+            pass.old.front pass.new.front ask.old.hook ask.new.hook) }
         ensures op { ask.new.op ≡ ask.old.op }
+        ensures as_before { OnErr result (ask.new ≡ ask.old) }
         ensures again { OnErr result (
             CanAsk pass.new.head pass.new.front pass.new.seat ask.new.op (is_some ask.new.hook)) }
     {
@@ -77,8 +82,11 @@ impl<H: Hook + Send> Hotplug<H> {
         ensures none { finishes ≡ true → OnErr result (Grew own.old.seat own.old.front own.new.front []) }
         ensures stays { Stays own.old.seat ask.old.op own.old.front own.new.front }
         ensures hook { IfOk result (λ answer. is_some ask.new.hook ≡ hands_out ask.old.op answer) }
+        ensures back { IfOk result (ComesBack H.counts own.old.head own.old.seat ask.old.op
+            own.old.front own.new.front ask.old.hook ask.new.hook) }
         ensures nothing { own.new.lent ≡ None }
         ensures op { ask.new.op ≡ ask.old.op }
+        ensures as_before { OnErr result (ask.new ≡ ask.old) }
         ensures again { OnErr result (
             CanAsk own.new.head own.new.front own.new.seat ask.new.op (is_some ask.new.hook)) }
     {
@@ -100,7 +108,7 @@ impl<H: Hook + Send> Hotplug<H> {
                 Ok(Stepped::Lent { .. }) => drop(key),
                 Err(NoMemory) => {
                     drop(key);
-                    let waits = finishes & begun;
+                    let waits = waits_for_memory(finishes, begun);
                     if !waits {
                         return Err(NoMemory);
                     }
@@ -123,10 +131,10 @@ impl<H: Hook + Send> Hotplug<H> {
         requires own { IsOf self.now own.old.lock }
         requires asked { CanAsk own.old.head own.old.front own.old.seat ask.old.op (is_some ask.old.hook) }
         ensures same { IsSamePass own.old own.new }
-        ensures stepped { IfOk result (SteppedIn own.old.head own.old.seat ask.old.op
-            (is_some ask.old.hook) (is_some ask.new.hook) own.old.front own.new.front) }
-        ensures wanted { OnErr result (WantedIn own.old.head own.old.seat ask.old.op
-            (is_some ask.old.hook) (is_some ask.new.hook) own.old.front own.new.front) }
+        ensures stepped { IfOk result (SteppedIn H.counts own.old.head own.old.seat ask.old.op
+            ask.old.hook ask.new.hook own.old.front own.new.front) }
+        ensures wanted { OnErr result (WantedIn own.old.head own.old.seat ask.old.op own.old.front own.new.front) }
+        ensures as_before { OnErr result (ask.new ≡ ask.old) }
         ensures nothing { IfOk result (λ stepped. is_lent stepped ≡ false → own.new.lent ≡ None) }
         ensures none { OnErr result (own.new.lent ≡ None) }
         ensures op { ask.new.op ≡ ask.old.op }
@@ -139,4 +147,11 @@ impl<H: Hook + Send> Hotplug<H> {
         own.busy = stepped.is_busy(own.busy);
         Ok(stepped)
     }
+}
+
+/// Whether an operation waits where memory is wanting: one that finishes what it begins does once an event of it was made.
+fn waits_for_memory(finishes: bool, begun: bool) -> bool
+    ensures { result ≡ (finishes && begun) }
+{
+    finishes & begun
 }

@@ -53,8 +53,7 @@ impl<H: Hook + Send> Hotplug<H> {
         requires nothing { sight.old.aside ≡ None }
         requires asked { CanAsk sight.old.head sight.old.front seat ask.old.op (is_some ask.old.hook) }
         ensures still { IsStill sight.old sight.new }
-        ensures steps { StepsIn seat ask.old.op (is_some ask.old.hook) (is_some ask.new.hook)
-            sight.old sight.new result }
+        ensures steps { StepsIn H.counts seat ask.old ask.new sight.old sight.new result }
         ensures lent { sight.new.aside ≡ lent_of result }
         ensures op { ask.new.op ≡ ask.old.op }
     {
@@ -87,7 +86,7 @@ impl<H: Hook + Send> Hotplug<H> {
         ensures keeps { Keeps seat pass.old pass.new }
         ensures others { lent_beside seat pass.new.kept ≡ lent_pairs live.board }
         ensures waits { WaitsOut live.board seat ask.old.op result.0 }
-        ensures ask { KeepsAsk live.board seat ask.old ask.new result.0 }
+        ensures ask { KeepsAsk H.counts live.board seat ask.old ask.new result.0 }
     {
         let mut live = live;
         live.board.sound();

@@ -71,7 +71,7 @@ pub(crate) fn lend_or_turn<H: Hook>(
     ensures op { ask.new.op ≡ ask.old.op }
     ensures others { (k : ℕ) → k ≢ by → loan board.new k ≡ loan board.old k }
     ensures waits { WaitsOut board.old by ask.old.op result }
-    ensures ask { KeepsAsk board.old by ask.old ask.new result }
+    ensures ask { KeepsAsk H.counts board.old by ask.old ask.new result }
 {
     if let Some(loan) = board.lend(by) {
         return Ok(Step::Lent(loan));

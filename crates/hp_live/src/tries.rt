@@ -11,6 +11,7 @@ ghost use Rattle.hp_live.specs.declared.tried.Tried.TheVariants.{Turned as ATurn
 ghost use Rattle.hp_live.specs.HeldSteps.{ServiceTried, StepTried, seated};
 ghost use Rattle.hp_live.specs.Known.{IsOf, IsSamePass, IsStill};
 ghost use Rattle.hp_live.specs.Lending.{lent_pairs};
+ghost use Rattle.hp_live.specs.Runs.{ComesBack};
 ghost use Rattle.hp_live.specs.Sections.{CanAsk};
 ghost use Rattle.hp_live.specs.Tries.{BackTried, CallsLent, GaveBack, IsNotYetBy, ServeTried, TurnTried, WantedOnce, is_answered, lends_over, missed};
 ghost use Rattle.hp_locks.specs.declared.why.Why.{Why as AWhy};
@@ -49,7 +50,8 @@ impl<H: Hook + Send> Hotplug<H> {
     /// That is so of the journal that the section found: the pass's new front without the event that this made of
     /// it; and of what was lent then: the pairs that the pass keeps, without the one that this added. Past the front
     /// given the new one has of the seat no event but this. After `Busy`, `Lent`, `NotYet` and `NoMemory` the ask is as
-    /// before, its hook in it. While the operation isn't answered the same ask may be tried again.
+    /// before, its hook in it. While the operation isn't answered the same ask may be tried again; which hook comes back
+    /// with its answer is as of `run`.
     ///
     /// The gate is called before the try; after `Busy` with the same number again. Where an event was made those who
     /// sleep wake up. Waits for nobody. After the calls of `kernel/cpu.c` and `mutex_trylock`; that there are
@@ -64,7 +66,7 @@ impl<H: Hook + Send> Hotplug<H> {
         requires op { ask.old.op ≢ Lock }
         requires asked { CanAsk pass.old.head pass.old.front pass.old.seat ask.old.op (is_some ask.old.hook) }
         ensures same { IsSamePass pass.old pass.new }
-        ensures tried { IfOk result (TurnTried pass.old pass.new ask.old ask.new) }
+        ensures tried { IfOk result (TurnTried H.counts pass.old pass.new ask.old ask.new) }
         ensures wanted { OnErr result (WantedOnce pass.old pass.new ask.old) }
         ensures as_before { OnErr result (ask.new ≡ ask.old) }
         ensures op { ask.new.op ≡ ask.old.op }
@@ -73,6 +75,9 @@ impl<H: Hook + Send> Hotplug<H> {
         ensures idle { is_answered result ≡ true → is_busy pass.new.seat pass.new.front ≡ false }
         ensures hook { (at : Option ℕ) (answer : AnAnswer) → result ≡ Ok (ATurn (AnAnswered at answer)) →
             is_some ask.new.hook ≡ hands_out ask.old.op answer }
+        ensures back { (at : Option ℕ) (answer : AnAnswer) → result ≡ Ok (ATurn (AnAnswered at answer)) →
+            ComesBack H.counts pass.old.head pass.old.seat ask.old.op pass.old.front pass.new.front
+            ask.old.hook ask.new.hook answer }
     {
         self.try_step(gate, &mut pass.own, ask)
     }
@@ -112,7 +117,7 @@ impl<H: Hook + Send> Hotplug<H> {
         requires own { IsOf self.now own.old.lock }
         requires asked { CanAsk own.old.head own.old.front own.old.seat ask.old.op (is_some ask.old.hook) }
         ensures same { IsSamePass own.old own.new }
-        ensures tried { IfOk result (TurnTried own.old own.new ask.old ask.new) }
+        ensures tried { IfOk result (TurnTried H.counts own.old own.new ask.old ask.new) }
         ensures wanted { OnErr result (WantedOnce own.old own.new ask.old) }
         ensures as_before { OnErr result (ask.new ≡ ask.old) }
         ensures op { ask.new.op ≡ ask.old.op }
@@ -214,7 +219,7 @@ impl<H: Hook + Send> Hotplug<H> {
         ensures still { IsStill sight.old sight.new }
         ensures busy { IfNone result (seated seat sight.new ≡ missed (seated seat sight.old)) }
         ensures ask { IfNone result (ask.new ≡ ask.old) }
-        ensures stepped { IfSome result (StepTried (seated seat sight.old) (seated seat sight.new) ask.old ask.new) }
+        ensures stepped { IfSome result (StepTried H.counts (seated seat sight.old) (seated seat sight.new) ask.old ask.new) }
         ensures op { ask.new.op ≡ ask.old.op }
     {
         let Ok(live) = self.lock.try_lock(&mut sight.turn) else {

@@ -4,7 +4,7 @@ use Rattle.hp_model.specs.Seats.{is_busy}
 use Rattle.hp_live.specs.Forms.{Ran}
 use Rattle.hp_live.specs.Known.{Seated}
 use Rattle.hp_live.specs.Sections.{CanAsk}
-use Rattle.hp_live.proofs.Finishing.{can_ask, ran_idle, ran_back, still_out}
+use Rattle.hp_live.proofs.Finishing.{can_ask, ran_idle, still_out}
 use Rattle.hp_live.proofs.hotplug.Hotplug.finish.Given as given
 use Rattle.hp_live.proofs.hotplug.Hotplug.finish.Goals as goal
 use Rattle.hp_live.proofs.hotplug.Hotplug.finish.Goals.{After-sound-2}
@@ -37,9 +37,3 @@ returns-clause-ran g c =
       idle = idle g (goal.at.returns-clause-ran g c).After-sound-2;
       nothing = e.nothing;
     })
-
-pub returns-clause-back : goal.returns-clause-back
-returns-clause-back g c =
-    ran_back c.run_seat-ran.result c.run_seat-ran.new.own c.args.ask.now.op c.run_seat-ran.new.ask.op
-    (is_some c.run_seat-ran.new.ask.hook) c.run_seat-ran.ensures.op c.run_seat-ran.ensures.again
-    (idle g (goal.at.returns-clause-back g c).After-sound-2)

@@ -34,7 +34,7 @@ pub returns-clause-stepped : goal.returns-clause-stepped
 returns-clause-stepped g c =
     let e = c.turn_held-step.ensures in
     let board = found g (goal.at.returns-clause-stepped g c).After-sound in
-    step_tried c.args.sight.now c.try_lock.new.pass c.turn_held-step.new.pass c.args.seat c.args.ask.now c.turn_held-step.new.ask
+    step_tried g.H.Hook.counts c.args.sight.now c.try_lock.new.pass c.turn_held-step.new.pass c.args.seat c.args.ask.now c.turn_held-step.new.ask
     c.in-Ok.live.board c.turn_held-step.result.0 c.requires.seat board c.requires.nothing
     (c.in-Ok.ensures.kept ∙ ap (λ (p : Pass). p.misses) c.sight.view_is)
     (still_given c.args.sight.now c.sight.inside.turn c.try_lock.new.pass c.turn_held-step.new.pass c.sight.view_is

@@ -51,6 +51,7 @@ returns-clause-steps g c =
           asks_found c.args.sight.now c.args.seat c.args.ask.now.op (is_some c.args.ask.now.hook) c.lock-live.result.board
           (found g at) c.requires.seat c.requires.asked;
       to = c.turn_held-step.ensures.steps;
+      ask = c.turn_held-step.ensures.ask;
     }
 
 pub lock-live-requires-send-V : goal.lock-live-requires-send-V
