@@ -1,21 +1,11 @@
-"""What examples/compare draws: scripts, lawful journals, words of the command line, and changes of texts."""
-from rules import lawful_journals, what_comes_next
-from rules.journals_and_seats import Event, Head, Journal, in_flight, is_client, roles, seats_in
-from texts.the_journals_text import event_line
-from texts.the_script import LONGEST, operation, rule, subsystem
+"""What examples/compare draws of scripts and of words of the command line."""
+from changes import NUMBERS
+from texts.the_script import LONGEST
 
 STATES = [1, 10, 30, 40, 41, 42, 55, 61, 65, 70, 90, 99, 103, 110, 120, 140, 141, 142, 150, 160, 171, 172, 180, 198]
 ONLINE = [104, 105, 115, 130, 145, 155, 165, 170, 173, 175, 185, 190]
 BORDERS = [1, 2, 40, 41, 60, 61, 65, 98, 99, 103, 104, 140, 141, 171, 172, 198]
 EDGES = [0, 62, 63, 64, 100, 101, 102, 199, 200, 201, 65535]
-NUMBERS = ["0", "1", "2", "3", "7", "8", "9", "31", "32", "40", "41", "62", "63", "64", "65", "95", "96", "99", "100", "101", "128", "129",
-           "141", "198", "199", "200", "201", "255", "256", "257", "319", "320", "4095", "4096", "65535", "65536", "1000000", "1000001",
-           "1048576", "1048577", "2147483647", "2147483648", "4294967295", "4294967296", "18446744073709551615", "18446744073709551616",
-           "9" * 30, "-1", "-2", "-0", "-2147483648", "-2147483649", "00", "01", "007", "+1", "1e3", "*", "-", ""]
-VOCABULARY = """cpus absent sub rule schedule rounds turns mix actor up down both none single multi upmany target fail show state states
-    setup remove add del nocalls locked lock unlock boot disable enable thaw wakeup freeze # net:a admit client ap leave enter refused
-    walk call walked done reg regged armed shown ok fault injected empty presumed overruled stuck full end events cpuhp journal cpu
-    present keys disabled frozen made faults instances ops""".split() + ["x" * 32, "x" * 33, "net:a!"]
 
 
 class Machine:
@@ -101,11 +91,14 @@ NEAR = [-1, 61, 62, 63, 100, 101, 102, 103, 198, 199, 201]  # values of a target
 WEIGHTS = {"up": 12, "down": 12, "target": 8, "fail": 7, "show": 5, "setup": 6, "remove": 4, "add": 6, "del": 3, "lock": 4, "boot": 3,
            "disable": 1, "enable": 1, "freeze": 3, "thaw": 3, "wakeup": 1, "upmany": 4, "unlock": 0.3}
 WATCHES = {"show": 20, "fail": 3, "lock": 1, "wakeup": 1}
+ARMS = {"show": 20, "fail": 20, "wakeup": 1}
 WALKS = {"up": 20, "down": 25, "target": 12, "fail": 12, "boot": 3, "freeze": 5, "thaw": 5, "upmany": 8, "add": 5, "setup": 2, "show": 4}
 STANDS = {"target": 25, "fail": 15, "show": 6, "up": 4, "down": 4, "upmany": 2, "add": 2, "lock": 1}
+TWICE = {"up": 20, "down": 14, "target": 6, "boot": 8, "upmany": 12, "freeze": 3, "thaw": 3, "show": 3, "add": 2, "del": 1}
 SUSPENDS = {"freeze": 8, "enable": 8, "disable": 3, "thaw": 6, "boot": 5, "up": 8, "down": 6, "target": 4, "upmany": 4, "wakeup": 2, "show": 2, "lock": 1}
 STYLES = {  # what scripts of a style mostly do, at which states, and the fewest of these
     "mixed": (WEIGHTS, STATES, 1), "walks": (WALKS, STATES + ONLINE, 3), "stands": (STANDS, BORDERS, 3), "suspends": (SUSPENDS, STATES, 1),
+    "twice": (TWICE, ONLINE, 3),
 }
 
 
@@ -147,10 +140,12 @@ def draw_sizes(draw):
 
 def draw_script(draw):
     """A script of the whole language, which is refused now and then."""
-    if draw.random() < 0.004:
+    if draw.random() < 0.006:
         return draw.choices([full_of_instances, full_of_slots, full_of_setups, full_of_operations, full_of_bytes], [4, 2, 2, 1, 2])[0](draw)
     cpus, subs, actors, size = draw_sizes(draw)
-    style = draw.choices(list(STYLES), [40, 40, 10, 10])[0]
+    style = draw.choices(list(STYLES), [36, 32, 8, 10, 14])[0]
+    if style == "twice":
+        return draw_twice(draw)
     walks = style == "walks"
     if style != "mixed":  # mostly walks that fault, or get stuck; or what stands at the borders of states; or freezes
         cpus, subs, actors, size = draw.randint(2, 4), draw.randint(2, 6), draw.choice([1, 1, 2, 3]), draw.choice([6, 10, 15])
@@ -176,6 +171,34 @@ def draw_script(draw):
     return "\n".join(lines) + "\n" * (draw.random() < 0.98)
 
 
+def draw_twice(draw):
+    """A script whose walks fault at one state and, where that is undone, at another; whose boots, batches and thaws have walks
+    behind one that got stuck; and in which another actor watches, or arms faults within walks."""
+    cpus, states = draw.randint(2, 5), sorted(draw.sample(STATES + ONLINE * 2, draw.randint(2, 5)))
+    subs, setups, rules = [], [], []
+    for number, state in enumerate(states, 1):
+        multi, quiet = draw.random() < 0.6, " nocalls" * (draw.random() < 0.6)
+        subs.append(f"sub net:{number} both {'multi' if multi else 'single'}")
+        setups += [f"setup {state} {number}{quiet}", *(f"add {state} {inst}{quiet}" for inst in range(1, draw.randint(2, 4) * multi))]
+        ways = draw.choice([["down"], ["down"], ["up", "down"], []]) if number < len(states) else draw.choice([["up"], ["up", "down"]])
+        rules.append([twice_rule(draw, way, cpus, multi) for way in ways])
+    machine, watches = Machine(draw, cpus, subs, "twice"), draw.random() < 0.7
+    machine.states = states
+    begin = draw.choice([[f"boot {cpus}"], ["upmany " + " ".join(map(str, range(1, cpus)))], []])
+    lines = [f"cpus {cpus}", *(line for sub, some in zip(subs, rules) for line in [sub, *some]), *draw_schedule(draw, cpus + 1 + watches)]
+    lines += ["actor a", *machine.actor(draw.choice([4, 8, 12]), setups + begin)]
+    if watches:
+        machine.weights = draw.choice([WATCHES, ARMS])
+        lines += ["actor watch", *machine.actor(draw.choice([15, 30]), [])]
+    return "\n".join(lines) + "\n"
+
+
+def twice_rule(draw, direction, cpus, multi):
+    cpu = draw.choice(["*", "*", "1", str(draw.randrange(cpus))])
+    inst = draw.choice(["*", "1", "1", "2"]) if multi else "*"
+    return f"rule {direction} {cpu} {inst} {draw.choice('**1123')} {draw.randint(1, 4095)}"
+
+
 def dressed(draw, lines):
     """The same with comments, empty lines, and more spaces."""
     for line in lines:
@@ -185,11 +208,11 @@ def dressed(draw, lines):
 
 def full_of_instances(draw):
     """A state with 256 instances, or with one more; or 4,096 in all and one more."""
-    states = [103 + at for at in range(draw.choice([1, 1, 1, 17]))]
+    states = [103 + at for at in range(draw.choice([1, 1, 17]))]
     adds = [f"add {state} {inst}" for state in states for inst in range(1, (258 if len(states) == 1 else 242))]
     lines = ["cpus 2", "sub net:q both multi", "actor a", *(f"setup {state} 1" for state in states), *adds[:4000]]
     again = [f"add {state} {draw.choice([1, 256, 257, 300])}" for state in states[-1:] * 2]
-    return "\n".join(lines + ["actor b", *adds[4000:], *again, "up 1", "down 1"]) + "\n"
+    return "\n".join(lines + ["actor b", *["show states"] * 50, *adds[4000:], *again, "up 1", "down 1"]) + "\n"
 
 
 def full_of_slots(draw):
@@ -228,152 +251,6 @@ def draw_small_script(draw):
         lines += [f"actor a{actor}", *machine.actor(draw.randint(1, 4), setups)]
     lines += ["unlock"] * (sum(line in ("lock", "unlock") for line in lines) > 0 and [line for line in lines if line in ("lock", "unlock")][-1] == "lock")
     return "\n".join(lines) + "\n"
-
-
-def draw_journal(draw):
-    """A lawful journal, mostly of operations in flight, in which seats come in and leave as they like."""
-    cpus, subs, actors, size = draw_sizes(draw)
-    cpus = cpus if cpus < 60 or draw.random() < 0.1 else 5
-    absent = tuple(sorted(draw.sample(range(1, cpus), draw.choice([0, 0, min(1, cpus - 1)]))))
-    named = list(draw_subs(draw, min(subs, 12)))
-    heads = [subsystem(sub.split(" ")[1:]) for sub in named]
-    heads = [sub._replace(rules=tuple(rule(draw_rule(draw, cpus).split(" ")[1:]) for _ in range(draw.choice([0, 0, 1, 2])))) for sub in heads]
-    journal, machine = Journal(Head(cpus, absent, tuple(heads))), Machine(draw, cpus, named)
-    for cpu in journal.present[:draw.choice([cpus, cpus, cpus // 2])]:
-        journal = journal.then(Event("admit", journal.length, role=cpu))
-    most = draw.choice([0] * 30 + [95, 96, 319, 320])  # the seats of a text of version 1, and of any journal
-    for seat in range(journal.length, most - draw.randint(0, 2)):
-        journal = journal.then(Event("admit", seat))
-    for _ in range(draw.choice([20, 60, 60, 150])):
-        event = draw_event(draw, journal, machine)
-        if event and lawful_journals.stands(journal, event):
-            journal = journal.then(event)
-    return journal
-
-
-def draw_full_journal(draw):
-    """A lawful journal that gets full by the limit that the model has, and events that could stand next if it had room."""
-    head = Head(3, (), tuple(subsystem(sub.split(" ")[1:]) for sub in draw_subs(draw, 3)))
-    journal, machine = Journal(head), Machine(draw, 3, list(draw_subs(draw, 3)), "walks")
-    for role in (0, 1, 2, None, None):
-        journal = journal.then(Event("admit", journal.length, role=role))
-    left_out = {}
-    for _ in range(600):
-        event = draw_event(draw, journal, machine)
-        if event and lawful_journals.stands(journal, event):
-            journal, left_out = journal.then(event), {}
-        elif event and all(holds for words, holds in lawful_journals.conditions(journal, event) if words != "it has room"):
-            left_out[event] = True
-    return journal, list(left_out)
-
-
-def draw_tail(draw):
-    """Operations for where a journal gets full."""
-    some = ["setup 150 3", "setup 160 2", "add 160 1", "add 160 2", "remove 150", "up 3", "down 3", "down 4", "up 4", "lock", "unlock", "freeze 0", "thaw",
-            "upmany 3 4", "boot 256", "fail 3 104", "fail 3 -1", "show state 3", "wakeup", "disable", "enable", "target 3 104", "target 3 200"]
-    return draw.choices(some, k=draw.randint(10, 40)) + ["show states"] * draw.randint(0, 40) + ["up 3", "lock", "wakeup", "unlock"]
-
-
-def draw_event(draw, journal, machine):
-    """An event that may come next: an entry of a thread, what comes next of a client, an admission, a leave."""
-    kind, seats = draw.random(), sorted(seats_in(journal))
-    if kind < 0.06 or not seats:
-        return Event("admit", len(roles(journal)), role=draw.choice([None, None, draw.randrange(machine.cpus)]))
-    if kind < 0.09:
-        return Event("leave", draw.choice(seats))
-    if kind < 0.4 and what_comes_next.due_entries(journal):
-        return draw.choice(list(what_comes_next.due_entries(journal).values()))
-    clients = [seat for seat in seats if is_client(journal, seat)]
-    if not clients:
-        return Event("admit", len(roles(journal)))
-    seat = draw.choice(clients)
-    op = in_flight(journal).get(seat) or operation(machine.operation(draw.random() < 0.3).split(" "))
-    found, *more = what_comes_next.turn(journal, seat, op)
-    return more[0] if found == "event" else None
-
-
-def draw_near(draw, journal):
-    """The line of an event that may or may not stand next: it comes or goes, or goes on, perhaps with a word changed."""
-    kind, seats = draw.random(), len(roles(journal))
-    due, flying = what_comes_next.due_entries(journal), in_flight(journal)
-    if kind < 0.2 or not seats:
-        event = Event("admit", seats, role=draw.choice([None, draw.randrange(journal.head.possible)]))
-    elif kind < 0.5 or not due and not flying:
-        event = Event("leave", draw.choice([*due, *due, draw.randrange(seats)]))
-    elif kind < 0.8 and due or not flying:
-        event = draw.choice(list(due.values()))
-    else:
-        seat = draw.choice(list(flying))
-        found, *more = what_comes_next.turn(journal, seat, flying[seat])
-        event = more[0] if found == "event" else Event("leave", seat)
-    line = event_line(journal, event)
-    return line if draw.random() < 0.4 else draw.choice([alter_numbers, alter_numbers, alter_words])(draw, line)
-
-
-def alter_text(draw, text):
-    """A text with some lines, words or bytes changed."""
-    for _ in range(draw.choice([1, 1, 1, 2, 3])):
-        text = draw.choice([alter_lines, alter_words, alter_words, alter_numbers, alter_bytes])(draw, text)
-    return text
-
-
-def alter_lines(draw, text):
-    lines = text.split("\n")
-    at, to = draw.randrange(len(lines)), draw.randrange(len(lines))
-    kind = draw.randrange(6)
-    if kind == 0:
-        del lines[at]
-    elif kind == 1:
-        lines.insert(to, lines[at])
-    elif kind == 2:
-        lines[at], lines[to] = lines[to], lines[at]
-    elif kind == 3:
-        lines.insert(to, lines.pop(at))
-    elif kind == 4:
-        del lines[at:at + draw.randint(1, 5)]
-    else:
-        lines = lines[:at]
-    return "\n".join(lines)
-
-
-def alter_words(draw, text):
-    lines = text.split("\n")
-    at = draw.randrange(len(lines))
-    words = lines[at].split(" ")
-    place = draw.randrange(len(words))
-    kind = draw.randrange(5)
-    if kind == 0:
-        del words[place]
-    elif kind == 1:
-        words.insert(place, draw.choice(VOCABULARY + NUMBERS))
-    elif kind == 2:
-        words[place] = draw.choice(VOCABULARY)
-    elif kind == 3:
-        words[place] = draw.choice(NUMBERS)
-    else:
-        words.insert(place, words[draw.randrange(len(words))])
-    lines[at] = " ".join(words)
-    return "\n".join(lines)
-
-
-def alter_numbers(draw, text):
-    """One number of a line becomes another, mostly a near one."""
-    lines = text.split("\n")
-    places = [(at, place) for at, line in enumerate(lines) for place, word in enumerate(line.split(" ")) if word.isdigit()]
-    if not places:
-        return text
-    at, place = draw.choice(places)
-    words = lines[at].split(" ")
-    near = int(words[place]) + draw.choice([-1, 1, 1, 2])
-    words[place] = draw.choice([str(near), str(near), str(draw.randrange(6)), draw.choice(NUMBERS)])
-    lines[at] = " ".join(words)
-    return "\n".join(lines)
-
-
-def alter_bytes(draw, text):
-    at = draw.randint(0, len(text))
-    byte = draw.choice([chr(draw.randrange(256)), chr(draw.randrange(32, 127)), " ", "\n", "\r", "\t", "\0", "0", "-"])
-    return draw.choice([text[:at] + byte + text[at + 1:], text[:at] + byte + text[at:], text[:at] + text[at + 1:], text[:at]])
 
 
 def draw_words(draw):
