@@ -83,3 +83,35 @@ def alter_event(draw, text):
     at = draw.choice(draw.choice(list(kinds.values())))
     lines[at] = draw.choice([alter_numbers, alter_numbers, alter_words])(draw, lines[at])
     return "\n".join(lines)
+
+
+def smaller(text):
+    """Texts that are a little smaller: without some lines, a subsystem, or a word; with a lower number."""
+    lines = text.splitlines()
+    size = len(lines) // 2
+    subs = [place for place, line in enumerate(lines) if line.startswith("sub ")]
+    yield from ("\n".join(without_sub(lines, place, number)) + "\n" for number, place in enumerate(subs, 1))
+    while size:
+        yield from ("\n".join(lines[:at] + lines[at + size:]) + "\n" for at in range(0, len(lines), size))
+        size //= 2
+    for place, line in enumerate(lines):
+        words = line.split(" ")
+        for at, word in enumerate(words):
+            without = [words[:at] + words[at + 1:]]
+            lower = [words[:at] + [str(low)] + words[at + 1:] for low in lower_than(word)]
+            yield from ("\n".join(lines[:place] + [" ".join(some)] + lines[place + 1:]) + "\n" for some in without + lower)
+
+
+def without_sub(lines, place, number):
+    """The lines without that of a subsystem; the setups of those behind it name a number less."""
+    for line in lines[:place] + lines[place + 1:]:
+        words = line.split(" ")
+        if words[0] == "setup" and words[2:3] and words[2].isdigit() and int(words[2]) > number:
+            words[2] = str(int(words[2]) - 1)
+        yield " ".join(words)
+
+
+def lower_than(word):
+    if not word.isascii() or not word.isdigit() or int(word) == 0:
+        return []
+    return sorted({0, 1, int(word) // 2, int(word) - 1} - {int(word)})
