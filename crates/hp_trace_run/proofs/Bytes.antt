@@ -7,21 +7,26 @@ use Rattle.hp_trace.specs.declared.verdict.End.{End}
 use Rattle.hp_trace.specs.declared.verdict.End.TheVariants.{Whole, Lost, NoForm, Broken}
 use Rattle.hp_trace.specs.declared.verdict.Judged.{Judged}
 use Rattle.hp_trace.specs.declared.verdict.TheConstants.{MAX_TRACE_BYTES}
+use Rattle.hp_trace_judge.specs.declared.walks.Walks.{Walks}
+use Rattle.hp_trace_judge.specs.declared.walks.Walks.TheVariants as walks
+use Rattle.hp_trace_judge.specs.Walks.{walks_before}
 use Rattle.hp_trace_run.specs.declared.status.TheConstants.{LAWFUL, NO_TRACE, UNLAWFUL}
 use Rattle.hp_trace_run.specs.Texts.{too_long_line}
-use Rattle.hp_trace_run.specs.Answers.{end_status, judged_text, judged_status, judgement, text_of, status_of, IsAnswerTo}
+use Rattle.hp_trace_run.specs.Answers.{end_status, judged_text, judged_status, judgement, walks_of, text_of, status_of, IsAnswerTo}
 use Rattle.hp_trace_run.specs.Calls.{WasRead}
 
 -- of bytes that aren't too many
-pub short_answer : (bytes text : List ℕ) (status : ℕ) (j : Judged) → length bytes ≤ MAX_TRACE_BYTES → j ≡ judgement bytes →
-    text ≡ judged_text bytes j → status ≡ judged_status j → IsAnswerTo bytes text status
+pub short_answer : (bytes text : List ℕ) (status : ℕ) (j : Judged) (w : Walks) → length bytes ≤ MAX_TRACE_BYTES → j ≡ judgement bytes →
+    w ≡ walks_before j.place.line bytes → text ≡ judged_text bytes j w → status ≡ judged_status j w → IsAnswerTo bytes text status
 unfolding text_of status_of
-short_answer bytes text status j few same t s =
+short_answer bytes text status j w few same is t s =
     let test = le-leb (length bytes) MAX_TRACE_BYTES few in
-    record {
-      text_is = rw test (t ∙ ap (λ (z : Judged). judged_text bytes z) same);
-      status_is = rw test (s ∙ ap (λ (z : Judged). judged_status z) same);
-    }
+    let walks : w ≡ walks_of bytes = is ∙ ap (λ (z : Judged). walks_before z.place.line bytes) same in
+    let at_text : judged_text bytes j w ≡ judged_text bytes (judgement bytes) (walks_of bytes) =
+    ap (λ (z : Judged). judged_text bytes z w) same ∙ ap (λ (z : Walks). judged_text bytes (judgement bytes) z) walks in
+    let at_status : judged_status j w ≡ judged_status (judgement bytes) (walks_of bytes) =
+    ap (λ (z : Judged). judged_status z w) same ∙ ap (λ (z : Walks). judged_status (judgement bytes) z) walks in
+    record { text_is = rw test (t ∙ at_text); status_is = rw test (s ∙ at_status) }
 
 is_over : (n : ℕ) (b : Bool) → leb n MAX_TRACE_BYTES ≡ b → MAX_TRACE_BYTES < n → b ≡ false
 is_over n true e more = let le = leb-true n MAX_TRACE_BYTES e in absurd (omega (arith, le, more))
@@ -46,12 +51,18 @@ end_small p Lost = reached_small (eqb p.events 0)
 end_small p NoForm = reached_small (eqb p.events 0)
 end_small p (Broken fault) = omega arith
 
+judged_small : (j : Judged) (w : Walks) → judged_status j w ≤ UNLAWFUL
+judged_small j (walks.Misfit m) = omega arith
+judged_small j walks.Lawful = end_small j.place j.end
+judged_small j (walks.Far line) = end_small j.place j.end
+judged_small j walks.NoBorders = end_small j.place j.end
+
 pub small_status : (bytes : List ℕ) → status_of bytes ≤ UNLAWFUL
 unfolding status_of
 small_status bytes = go (leb (length bytes) MAX_TRACE_BYTES)
   where
-    go : (b : Bool) → cond b (judged_status (judgement bytes)) NO_TRACE ≤ UNLAWFUL
-    go true = end_small (judgement bytes).place (judgement bytes).end
+    go : (b : Bool) → cond b (judged_status (judgement bytes) (walks_of bytes)) NO_TRACE ≤ UNLAWFUL
+    go true = judged_small (judgement bytes) (walks_of bytes)
     go false = omega arith
 
 -- ---- what was read of a source is answered as all that it holds

@@ -1,3 +1,4 @@
+pub mod WalkTexts
 pub mod Texts
 pub mod Answers
 pub mod Calls

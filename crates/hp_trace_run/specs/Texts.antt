@@ -8,6 +8,8 @@ use Rattle.hp_trace.specs.declared.nest.Open.{Open}
 use Rattle.hp_trace.specs.declared.nest.Fault.{Fault}
 use Rattle.hp_trace.specs.declared.nest.Fault.TheVariants.{WithinCall, OfAnother, WithinMark, NotLast, NoEnter, NotOwn}
 use Rattle.hp_trace.specs.declared.verdict.TheConstants.{MAX_TRACE_BYTES}
+use Rattle.hp_trace_judge.specs.declared.walks.Walks.{Walks}
+use Rattle.hp_trace_run.specs.WalkTexts.{heading, unjudged_line}
 
 abbrev pub usage_line : List ℕ
 usage_line = codes "usage: hptrace < TEXT" ++ 10 ∷ []
@@ -47,22 +49,19 @@ abbrev pub more_line : (count : ℕ) → List ℕ
 more_line count =
     if nat_le count MOST_KEPT then [] else decimal (count - MOST_KEPT) ++ (codes " more answered another code than 0" ++ 10 ∷ [])
 
-abbrev pub not_judged_line : List ℕ
-not_judged_line = codes "not judged: whether a walk undid what it had done" ++ 10 ∷ []
-
 -- the first of them are named
-abbrev pub failed_lines : List Failure → List ℕ
-failed_lines fs = flat_map failure_line (take MOST_KEPT fs) ++ (more_line (length fs) ++ not_judged_line)
+abbrev pub failed_lines : List Failure → Walks → List ℕ
+failed_lines fs w = flat_map failure_line (take MOST_KEPT fs) ++ (more_line (length fs) ++ unjudged_line w)
 
 -- how far the lines were judged
-abbrev pub lawful_lines : (events others : ℕ) → List Failure → List ℕ
-lawful_lines events others fs =
-    codes "lawful by its lines: "
-    ++ (decimal events ++ (codes " events, " ++ (decimal others ++ (codes " other lines" ++ 10 ∷ failed_lines fs))))
+abbrev pub lawful_lines : (events others : ℕ) → List Failure → Walks → List ℕ
+lawful_lines events others fs w =
+    heading w
+    ++ (codes ": " ++ (decimal events ++ (codes " events, " ++ (decimal others ++ (codes " other lines" ++ 10 ∷ failed_lines fs w)))))
 
-abbrev pub reached_lines : (events others : ℕ) → List Failure → List ℕ
-reached_lines events others fs =
-    if events == 0 then codes "no event of CPU hotplug" ++ 10 ∷ [] else lawful_lines events others fs
+abbrev pub reached_lines : (events others : ℕ) → List Failure → Walks → List ℕ
+reached_lines events others fs w =
+    if events == 0 then codes "no event of CPU hotplug" ++ 10 ∷ [] else lawful_lines events others fs w
 
 -- by this line events were lost
 abbrev pub lost_lines : (line : ℕ) → (behind : List ℕ) → List ℕ

@@ -17,6 +17,7 @@ mod answer;
 mod status;
 mod text;
 mod top;
+mod walk_text;
 
 pub use status::{BAD_WORDS, LAWFUL, NO_MEMORY, NO_TRACE, READ_FAULT, UNLAWFUL, WRITE_FAULT};
 pub use top::trace_main;

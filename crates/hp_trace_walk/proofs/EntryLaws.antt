@@ -1,11 +1,10 @@
 -- What is known of a state tells exactly whether an entry answers all that was asked of it.
-use Rattle.std.proofs.Common.{◌≡◌, ◌≤◌, ◌<◌, ◌⊎◌, inl, inr, ℕ, zero, suc, Bool, true, false, cond, eqb, ltb, leb, ◌&&◌, ◌||◌, List, [], ◌∷◌, refl, arith}
+use Rattle.std.proofs.Common.{◌≡◌, ◌≤◌, ◌⊎◌, inl, inr, ℕ, zero, suc, Bool, true, false, cond, eqb, ltb, leb, ◌||◌, List, [], ◌∷◌, refl, arith}
 use Rattle.std.proofs.lemmas.Bool.{leb-true, leb-false, le-leb, ltb-true, eqb-true, and_parts, and_from}
 use Rattle.hp_trace_walk.specs.declared.ask.Ask.{Ask}
-use Rattle.hp_trace_walk.specs.declared.ask.TheConstants.{MOST_CALLS}
 use Rattle.hp_trace_walk.specs.declared.table.Known.{Known}
 use Rattle.hp_trace_walk.specs.Tables.{larger, smaller, unknown, is_ordered, is_even, is_up_alone, is_open, with_ask}
-use Rattle.hp_trace_walk.specs.Entries.{Entry, CanBe, IsWithin, AnswersAll, HasEntry, known_by}
+use Rattle.hp_trace_walk.specs.Entries.{Entry, IsWithin, AnswersAll, HasEntry, known_by}
 
 -- ---- the larger and the smaller
 

@@ -6,7 +6,6 @@ use Rattle.hp_trace_walk.specs.declared.walk.Phase.{Phase}
 use Rattle.hp_trace_walk.specs.declared.walk.Phase.TheVariants.{Begun, Forward, Failed, Back, Stuck}
 use Rattle.hp_trace_walk.specs.declared.walk.Walk.{Walk}
 use Rattle.hp_trace_walk.specs.declared.walk.Call.{Call}
-use Rattle.hp_trace_walk.specs.declared.ends.How.{How}
 use Rattle.hp_trace_walk.specs.declared.ends.How.TheVariants.{Went, Returned}
 use Rattle.hp_trace_walk.specs.declared.begin.Next.{Next}
 use Rattle.hp_trace_walk.specs.declared.begin.Next.TheVariants.{Goes, Begins, Registers}

@@ -1,6 +1,6 @@
 -- When a table can have a state as lines ask: there is an entry that answers all that was asked of the state since it was
 -- registered last. This project's own.
-use Rattle.std.specs.Prelude.{◌≡◌, ◌≤◌, ◌⊎◌, ◌↔◌, ℕ, Bool, true, if◌then◌else◌, List, [], ◌∷◌}
+use Rattle.std.specs.Prelude.{◌≡◌, ◌≤◌, ◌⊎◌, ◌↔◌, ℕ, true, if◌then◌else◌, List, [], ◌∷◌}
 use Rattle.hp_trace_walk.specs.declared.ask.Ask.{Ask}
 use Rattle.hp_trace_walk.specs.declared.ask.TheConstants.{MOST_CALLS}
 use Rattle.hp_trace_walk.specs.declared.table.Known.{Known}

@@ -1,5 +1,5 @@
 -- A walk as the lines of a trace show it, and which states it can call. This project's own.
-use Rattle.std.specs.Prelude.{ℕ, nat_lt, nat_le, Bool, true, false, ◌&&◌, ◌||◌, if◌then◌else◌, Option}
+use Rattle.std.specs.Prelude.{ℕ, nat_lt, nat_le, Bool, true, ◌&&◌, ◌||◌, if◌then◌else◌}
 use Rattle.hp_trace_walk.specs.declared.walk.Borders.{Borders}
 use Rattle.hp_trace_walk.specs.declared.walk.Phase.{Phase}
 use Rattle.hp_trace_walk.specs.declared.walk.Phase.TheVariants.{Begun, Forward, Failed, Back, Stuck}

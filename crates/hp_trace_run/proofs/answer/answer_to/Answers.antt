@@ -10,5 +10,5 @@ returns-then-bytes c =
 
 pub returns : goal.returns
 returns c =
-    short_answer c.args.bytes.now (string_bytes c.in_ok-text_of.field-0) c.status_of.result c.judge-judged.result c.if-bytes.false
-    c.judge-judged.ensures.judged c.in_ok-text_of.ensures c.status_of.ensures
+    short_answer c.args.bytes.now (string_bytes c.in_ok-text_of.field-0) c.status_of.result c.judge-judged.result c.in_ok-walks.walks
+    c.if-bytes.false c.judge-judged.ensures.judged c.in_ok-walks.ensures c.in_ok-text_of.ensures c.status_of.ensures

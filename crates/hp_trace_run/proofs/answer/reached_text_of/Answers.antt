@@ -7,8 +7,9 @@ pub returns : goal.returns
 returns c =
     let p = c.args.place.now in
     let bytes = c.args.bytes.now in
+    let w = c.args.walks in
     let named = c.in_ok-first.field-0.first.items in
     let count = c.in_ok-first.field-0.count in
     let kept = c.in_ok-first.ensures in
-    written_as c.format-2.result (with_counts p.events (p.line - 1 - p.events) (behind_counts named count)) (reached_text bytes p)
-    (reached_is bytes p named count c.if-events-eq0.false kept.first kept.count) c.format-2.ensures.ok
+    written_as c.format-2.result (with_counts w p.events (p.line - 1 - p.events) (behind_counts named count w)) (reached_text bytes p w)
+    (reached_is bytes p w named count c.if-events-eq0.false kept.first kept.count) c.format-2.ensures.ok

@@ -1,0 +1,4 @@
+pub mod Borders
+pub mod Turns
+pub mod Events
+pub mod Walks
