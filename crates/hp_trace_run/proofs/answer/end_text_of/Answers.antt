@@ -10,8 +10,8 @@ returns-in_ok-reached-in-Lost c =
     let bytes = c.args.bytes.now in
     let w = c.args.walks in
     let reached = string_bytes c.in_ok-reached-in-Lost.reached in
-    written_as c.format-in-Lost.result (lost_lines j.place.line reached) (end_text bytes j.place w j.end)
-    (lost_is bytes reached j.place w j.end c.in-Lost.is c.in_ok-reached-in-Lost.ensures) c.format-in-Lost.ensures.ok
+    written_as c.format.result (lost_lines j.place.line reached) (end_text bytes j.place w j.end)
+    (lost_is bytes reached j.place w j.end c.in-Lost.is c.in_ok-reached-in-Lost.ensures) c.format.ensures.ok
 
 pub returns-in_ok-reached-in-NoForm : goal.returns-in_ok-reached-in-NoForm
 returns-in_ok-reached-in-NoForm c =
