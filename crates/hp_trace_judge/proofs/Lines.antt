@@ -1,5 +1,5 @@
 -- What the next line does to a reader of lines.
-use Rattle.std.proofs.Common.{◌≡◌, ℕ, suc, ◌+◌, ◌-◌, ◌<◌, ◌≤◌, List, [], ◌∷◌, take, Option, Some, Result, Ok, Err, refl, sym, ap, ◌∙◌, arith}
+use Rattle.std.proofs.Common.{◌≡◌, ℕ, suc, ◌+◌, ◌-◌, ◌<◌, List, [], ◌∷◌, take, Some, Result, Ok, Err, refl, sym, ap, ◌∙◌, arith}
 use Rattle.hp_trace.specs.declared.event.Said.{Said}
 use Rattle.hp_trace.specs.Pieces.{first_of, others_of, pieces}
 use Rattle.hp_trace.specs.Said.{said_of}
@@ -9,7 +9,6 @@ use Rattle.hp_trace_judge.specs.declared.borders.Sight.{Sight}
 use Rattle.hp_trace_judge.specs.declared.place.Place.{Place}
 use Rattle.hp_trace_judge.specs.declared.place.Halt.{Halt}
 use Rattle.hp_trace_judge.specs.declared.walks.Walks.{Walks}
-use Rattle.hp_trace_judge.specs.declared.walks.Walks.TheVariants.{Lawful}
 use Rattle.hp_trace_judge.specs.Borders.{after, after_lines}
 use Rattle.hp_trace_judge.specs.Walks.{place_behind, table_behind, by_place, halted, nowhere, walks_from, walks_within}
 

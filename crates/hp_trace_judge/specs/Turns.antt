@@ -22,7 +22,7 @@ use Rattle.hp_trace_walk.specs.Begins.{next_of}
 use Rattle.hp_trace_judge.specs.declared.place.Entered.{Entered}
 use Rattle.hp_trace_judge.specs.declared.place.Place.{Place}
 use Rattle.hp_trace_judge.specs.declared.place.Way.{Way}
-use Rattle.hp_trace_judge.specs.declared.place.Way.TheVariants.{Startup, Teardown, Registration, Begin, Answer}
+use Rattle.hp_trace_judge.specs.declared.place.Way.TheVariants.{Startup, Teardown, Registration, Begin}
 use Rattle.hp_trace_judge.specs.declared.place.Named.{Named}
 use Rattle.hp_trace_judge.specs.declared.place.Turn.{Turn}
 use Rattle.hp_trace_judge.specs.declared.place.Halt.{Halt}

@@ -1,4 +1,3 @@
-use Rattle.std.proofs.Common.{◌-◌}
 use Rattle.hp_trace_judge.proofs.Lines.{sight_on}
 use Rattle.hp_trace_judge.proofs.borders.borders_before.Goals as goal
 

@@ -1,4 +1,4 @@
-use Rattle.std.proofs.Common.{◌≡◌, refl}
+use Rattle.std.proofs.Common.{refl}
 use Rattle.hp_trace_judge.proofs.walks.fresh_table.Goals as goal
 
 pub returns : goal.returns
