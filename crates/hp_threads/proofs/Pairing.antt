@@ -1,5 +1,5 @@
 -- What comes of threads, each in its place.
-use Rattle.std.proofs.Common.{◌≡◌, All, List, [], ◌∷◌, ◌++◌, length, refl, sym, ap, ◌∙◌, subst, append_assoc}
+use Rattle.std.proofs.Common.{◌≡◌, suc, All, List, [], ◌∷◌, ◌++◌, length, refl, sym, ap, ◌∙◌, subst, append_assoc}
 use Rattle.std.proofs.lemmas.List.{append-nil}
 use Rattle.std.proofs.lemmas.List.Elements.{All-head, All-tail}
 use Rattle.hp_live.specs.Known.{Gone, Seated}
@@ -51,6 +51,22 @@ pub serving_none : {H : Type 0} (passes : List Seated) (threads : List (ServerTh
     AreServing passes threads
 serving_none passes threads none empty =
     subst (λ (w : List Seated). AreServing w threads) (sym none) (subst (AreServing []) (sym empty) tt)
+
+-- as many as jobs, or passes
+
+pub acting_length : {H : Type 0} (jobs : List (Job H)) (threads : List (ActorThread H)) → AreActing jobs threads →
+    length threads ≡ length jobs
+acting_length [] [] all = refl
+acting_length (job ∷ jobs) (thread ∷ threads) all = ap suc (acting_length jobs threads all.1)
+acting_length [] (thread ∷ threads) all = absurd all
+acting_length (job ∷ jobs) [] all = absurd all
+
+pub serving_length : {H : Type 0} (passes : List Seated) (threads : List (ServerThread H)) → AreServing passes threads →
+    length threads ≡ length passes
+serving_length [] [] all = refl
+serving_length (pass ∷ passes) (thread ∷ threads) all = ap suc (serving_length passes threads all.1)
+serving_length [] (thread ∷ threads) all = absurd all
+serving_length (pass ∷ passes) [] all = absurd all
 
 -- ---- joined
 

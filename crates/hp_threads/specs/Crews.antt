@@ -1,5 +1,5 @@
 -- The threads of a run, and what comes of each. This project's own.
-use Rattle.std.specs.Prelude.{◌≡◌, List, [], ◌∷◌}
+use Rattle.std.specs.Prelude.{◌≡◌, ◌≤◌, ℕ, List, [], ◌∷◌, vec_capacity}
 use Rattle.hp_live.specs.Known.{Gone, Seated}
 use Rattle.hp_threads.specs.declared.job.Job.{Job}
 use Rattle.hp_threads.specs.declared.threads.ActorThread.{ActorThread}
@@ -9,12 +9,16 @@ use Rattle.hp_threads.specs.declared.threads.ServerThread.{ServerThread}
 use Rattle.hp_threads.specs.declared.threads.ServerThread.TheVariants as server
 use Rattle.hp_threads.specs.Jobs.{HasRun, HasStayed}
 
--- nothing has been started
-pub record HasNone {H : Type 0} (room : Room H) : Type 0 where
-  pub actors : room.crew.actors.items ≡ []
-  pub servers : room.crew.servers.items ≡ []
-  pub lefts : room.lefts.items ≡ []
-  pub passes : room.passes.items ≡ []
+-- nothing has been started, and there is room for so many actors and threads of processors, and for what comes of them
+pub record HasRoom {H : Type 0} (jobs seats : ℕ) (room : Room H) : Type 0 where
+  pub no_actors : room.crew.actors.items ≡ []
+  pub no_servers : room.crew.servers.items ≡ []
+  pub no_lefts : room.lefts.items ≡ []
+  pub no_passes : room.passes.items ≡ []
+  pub for_actors : jobs ≤ vec_capacity room.crew.actors
+  pub for_servers : seats ≤ vec_capacity room.crew.servers
+  pub for_lefts : jobs ≤ vec_capacity room.lefts
+  pub for_passes : seats ≤ vec_capacity room.passes
 
 -- a job has its thread, or was done
 abbrev pub IsActing : {H : Type 0} → Job H → ActorThread H → Type 0

@@ -1,8 +1,8 @@
 //! Threads are run, from their start to their join.
 
-ghost use Rattle.std.specs.Prelude.{◌≡◌, [], All, IfOk};
+ghost use Rattle.std.specs.Prelude.{◌≡◌, ◌≤◌, [], All, IfOk, length, vec_capacity, vec_len};
 ghost use Rattle.std.specs.Thread.{IsSend, IsSync};
-ghost use Rattle.hp_threads.specs.Crews.{HasLeft, HasNone, HasServed, HaveLeft, HaveServed};
+ghost use Rattle.hp_threads.specs.Crews.{HasLeft, HasRoom, HasServed, HaveLeft, HaveServed};
 ghost use Rattle.hp_threads.specs.Jobs.{CanAct, CanServe, HaveRun, HaveStayed};
 
 use crate::job::Job;
@@ -18,43 +18,44 @@ use std::thread::{Scope, Threads};
 
 /// Runs all actors and all threads of processors, and answers what they leave, each in its place.
 ///
-/// Takes its memory before a thread is started; where that is wanting: `NoMemory`.
+/// There is room for all of them, and no other memory is taken here.
 pub(crate) fn run_threads<H: Hook + Send, R: Threads + Wait + Sync, G: Gate + Sync>(
     rt: &R,
-    alloc: Global,
     machine: &Hotplug<H>,
     gate: &G,
     jobs: Vec<Job<H>>,
     passes: Vec<ParkedAp<H>>,
-) -> Result<(Vec<Left<H>>, Vec<ParkedAp<H>>), NoMemory>
+    room: Room<H>,
+) -> (Vec<Left<H>>, Vec<ParkedAp<H>>)
     requires bounds { IsSend H.row × IsSync R.row × IsSync G.row }
     requires jobs { All (CanAct machine.now) jobs.items }
     requires passes { All (CanServe machine.now) passes.items }
-    ensures ran { IfOk result (λ r. HaveRun jobs.items r.0.items) }
-    ensures stayed { IfOk result (λ r. HaveStayed passes.items r.1.items) }
+    requires room { HasRoom (vec_len jobs) (vec_len passes) room }
+    ensures ran { HaveRun jobs.items result.0.items }
+    ensures stayed { HaveStayed passes.items result.1.items }
 {
-    let room = room_for(alloc, jobs.len(), passes.len())?;
     thread::scope(
         thread::scope_env(),
         rt,
-        |scope| -> Result<(Vec<Left<H>>, Vec<ParkedAp<H>>), NoMemory>
+        |scope| -> (Vec<Left<H>>, Vec<ParkedAp<H>>)
             requires bounds { IsSend H.row × IsSync R.row × IsSync G.row }
             requires jobs { All (CanAct machine.now) jobs.items }
             requires passes { All (CanServe machine.now) passes.items }
-            requires room { HasNone room }
-            ensures ran { IfOk result (λ r. HaveRun jobs.items r.0.items) }
-            ensures stayed { IfOk result (λ r. HaveStayed passes.items r.1.items) }
+            requires room { HasRoom (vec_len jobs) (vec_len passes) room }
+            ensures ran { HaveRun jobs.items result.0.items }
+            ensures stayed { HaveStayed passes.items result.1.items }
         { run_crew(scope, rt, machine, gate, jobs, passes, room) },
     )
 }
 
-/// Room for so many actors and threads of processors. Takes memory.
-fn room_for<H: Hook + Send>(
+/// Room for so many actors and threads of processors. Takes memory, the last that a run takes before its threads are
+/// started.
+pub(crate) fn room_for<H: Hook + Send>(
     alloc: Global,
     actors: usize,
     servers: usize,
 ) -> Result<Room<H>, NoMemory>
-    ensures { IfOk result HasNone }
+    ensures { IfOk result (HasRoom actors servers) }
 {
     let crew = Crew {
         actors: Vec::with_capacity(alloc, actors)?,
@@ -78,39 +79,40 @@ fn run_crew<'s, E, H: Hook + Send + 's, R: Threads + Wait + Sync, G: Gate + Sync
     jobs: Vec<Job<H>>,
     passes: Vec<ParkedAp<H>>,
     room: Room<H>,
-) -> Result<(Vec<Left<H>>, Vec<ParkedAp<H>>), NoMemory>
+) -> (Vec<Left<H>>, Vec<ParkedAp<H>>)
     requires bounds { IsSend H.row × IsSync R.row × IsSync G.row }
     requires jobs { All (CanAct machine.now) jobs.items }
     requires passes { All (CanServe machine.now) passes.items }
-    requires room { HasNone room }
-    ensures ran { IfOk result (λ r. HaveRun jobs.items r.0.items) }
-    ensures stayed { IfOk result (λ r. HaveStayed passes.items r.1.items) }
+    requires room { HasRoom (vec_len jobs) (vec_len passes) room }
+    ensures ran { HaveRun jobs.items result.0.items }
+    ensures stayed { HaveStayed passes.items result.1.items }
 {
     let Room {
         crew: none,
         lefts: no_lefts,
         passes: no_passes,
     } = room;
-    let crew = start_all(scope, rt, machine, gate, passes, jobs, none)?;
+    let crew = start_all(scope, rt, machine, gate, passes, jobs, none);
     let Crew { actors, servers } = crew;
-    let lefts = join_actors(rt, actors, no_lefts)?;
-    let back = join_servers(rt, servers, no_passes)?;
-    Ok((lefts, back))
+    let lefts = join_actors(rt, actors, no_lefts);
+    let back = join_servers(rt, servers, no_passes);
+    (lefts, back)
 }
 
-/// Joins the threads of the actors.
+/// Joins the threads of the actors. There is room for what each leaves.
 fn join_actors<H: Hook + Send, R: Threads>(
     rt: &R,
     actors: Vec<ActorThread<H>>,
     mut lefts: Vec<Left<H>>,
-) -> Result<Vec<Left<H>>, NoMemory>
-    requires { lefts.items ≡ [] }
-    ensures { IfOk result (λ all. HaveLeft actors.items all.items) }
+) -> Vec<Left<H>>
+    requires none { lefts.items ≡ [] }
+    requires room { length actors.items ≤ vec_capacity lefts }
+    ensures { HaveLeft actors.items result.items }
 {
     for actor in actors {
-        lefts.push(join_actor(rt, actor))?;
+        lefts.push_reserved(join_actor(rt, actor));
     }
-    Ok(lefts)
+    lefts
 }
 
 /// Joins one of them, if it is a thread.
@@ -123,19 +125,20 @@ fn join_actor<H: Hook + Send, R: Threads>(rt: &R, actor: ActorThread<H>) -> Left
     }
 }
 
-/// Joins the threads of the processors.
+/// Joins the threads of the processors. There is room for the pass of each.
 fn join_servers<H: Hook + Send, R: Threads>(
     rt: &R,
     servers: Vec<ServerThread<H>>,
     mut passes: Vec<ParkedAp<H>>,
-) -> Result<Vec<ParkedAp<H>>, NoMemory>
-    requires { passes.items ≡ [] }
-    ensures { IfOk result (λ all. HaveServed servers.items all.items) }
+) -> Vec<ParkedAp<H>>
+    requires none { passes.items ≡ [] }
+    requires room { length servers.items ≤ vec_capacity passes }
+    ensures { HaveServed servers.items result.items }
 {
     for server in servers {
-        passes.push(join_server(rt, server))?;
+        passes.push_reserved(join_server(rt, server));
     }
-    Ok(passes)
+    passes
 }
 
 /// Joins one of them, if it is a thread.

@@ -10,7 +10,7 @@ ghost use Rattle.hp_threads.specs.Opened.{IsOpened};
 use crate::admitting::{admit_actors, admit_threads, start_machine};
 use crate::ending::{close, leave_all, meet_all};
 use crate::job::Job;
-use crate::joining::run_threads;
+use crate::joining::{room_for, run_threads};
 use crate::telling::{tell_actors, tell_threads};
 use hp_event::Journal;
 use hp_hook::{Hook, Rack};
@@ -30,7 +30,7 @@ use std::thread::Threads;
 ///
 /// The script is one that can be played, and the rack has at least as many hooks as it has setups: each takes one
 /// of its own. The rack's hooks are lost with it.
-/// - `NoMemory` where memory was wanting before the threads were started, or where a seat wasn't let in. That
+/// - `NoMemory` where memory was wanting before a thread was started, or where a seat wasn't let in. That
 ///   there is a seat and room for each is so of a script that can be played, where nobody else has the machine.
 ///
 /// Waits for its threads, and takes memory. After the clients of `kernel/cpu.c` and `smpboot_thread_fn` of
@@ -49,7 +49,8 @@ pub fn run_script<H: Hook + Send, R: Threads + Wait + Sync, G: Gate + Sync>(
 {
     let (machine, mut root) = start_machine(alloc, script.head())?;
     let (passes, jobs) = open(rt, alloc, &machine, &mut root, script, &mut rack)?;
-    let (lefts, back) = run_threads(rt, alloc, &machine, gate, jobs, passes)?;
+    let room = room_for(alloc, jobs.len(), passes.len())?;
+    let (lefts, back) = run_threads(rt, &machine, gate, jobs, passes, room);
     meet_all(&machine, &mut root, lefts);
     leave_all(rt, &machine, gate, &mut root, back);
     Ok(close(rt, machine, root))

@@ -1,14 +1,14 @@
 -- A thread for each, the last first.
 use denote.Exit.{no}
 use denote.Param.Send.{param_send, param_sync, arg_send, arg_sync, shr_send}
-use Rattle.std.proofs.Common.{ap, ◌∙◌, subst, All, List}
+use Rattle.std.proofs.Common.{ap, ◌∙◌, subst, All, List, [], ◌∷◌, length, length-append, arith}
 use Rattle.hp_live.specs.Known.{Seated}
 use Rattle.hp_live.proofs.Sending.{parked_ap_send}
 use Rattle.hp_live.proofs.Sharing.{hotplug_sync}
 use Rattle.hp_threads.specs.declared.threads.ServerThread.TheVariants.{Started, Ran}
 use Rattle.hp_threads.specs.Jobs.{CanServe, HasStayed}
 use Rattle.hp_threads.proofs.Captures.{captures_send}
-use Rattle.hp_threads.proofs.Pairing.{all_last, serving_one}
+use Rattle.hp_threads.proofs.Pairing.{all_last, serving_length, serving_one}
 use Rattle.hp_threads.proofs.starting.+start_all.Goals as goal
 
 pub spawn_with-started-requires-send-F : goal.spawn_with-started-requires-send-F
@@ -31,14 +31,35 @@ spawn_with-started-requires-clause-runs g t c κs within = (
   ),
 )
 
-pub returns-in_ok-push-in-Ok-clause-serving : goal.returns-in_ok-push-in-Ok-clause-serving
-returns-in_ok-push-in-Ok-clause-serving g t c =
-    serving_one c.args.passes.items c.pop.new.self.items c.in_ok-crew.crew.servers.items c.push.new.self.items c.in-Some.pass
-    (Started c.in-Ok.thread) c.in-Some.ensures.items c.in_ok-push-in-Ok.ensures.items c.in_ok-crew.ensures.serving
+pub start_all-crew-requires-clause-for_servers : goal.start_all-crew-requires-clause-for_servers
+start_all-crew-requires-clause-for_servers g t c κs within =
+    let all = ap (λ (w : List Seated). length w) c.in-Some.ensures.items in
+    let one = length-append c.pop.new.self.items (c.in-Some.pass ∷ []) in
+    omega (arith, all, one, c.requires.for_servers)
+
+pub push_reserved-requires : goal.push_reserved-requires
+push_reserved-requires g t c =
+    let all = ap (λ (w : List Seated). length w) c.in-Some.ensures.items in
+    let one = length-append c.pop.new.self.items (c.in-Some.pass ∷ []) in
+    let same = serving_length c.pop.new.self.items c.start_all-crew.result.servers.items c.start_all-crew.ensures.serving in
+    omega (arith, all, one, same, c.start_all-crew.result.servers.ok.0, c.start_all-crew.ensures.places, c.requires.for_servers)
+
+pub push_reserved-requires-in-Err : goal.push_reserved-requires-in-Err
+push_reserved-requires-in-Err g t c =
+    let all = ap (λ (w : List Seated). length w) c.in-Some.ensures.items in
+    let one = length-append c.pop.new.self.items (c.in-Some.pass ∷ []) in
+    let same = serving_length c.pop.new.self.items c.start_all-crew.result.servers.items c.start_all-crew.ensures.serving in
+    omega (arith, all, one, same, c.start_all-crew.result.servers.ok.0, c.start_all-crew.ensures.places, c.requires.for_servers)
+
+pub returns-in-Ok-clause-serving : goal.returns-in-Ok-clause-serving
+returns-in-Ok-clause-serving g t c =
+    serving_one c.args.passes.items c.pop.new.self.items c.start_all-crew.result.servers.items c.push_reserved.new.self.items
+    c.in-Some.pass (Started c.in-Ok.thread) c.in-Some.ensures.items c.push_reserved.ensures.items c.start_all-crew.ensures.serving
     (ap (λ p. p.pass.value) c.in-Ok.ensures.ok ∙ c.of.ensures)
 
-pub returns-in_ok-push-in-Err-clause-serving : goal.returns-in_ok-push-in-Err-clause-serving
-returns-in_ok-push-in-Err-clause-serving g t c =
-    serving_one c.args.passes.items c.pop.new.self.items c.in_ok-crew.crew.servers.items c.push-in-Err.new.self.items c.in-Some.pass
-    (Ran c.spawn_with.result) c.in-Some.ensures.items c.in_ok-push-in-Err.ensures.items c.in_ok-crew.ensures.serving
+pub returns-in-Err-clause-serving : goal.returns-in-Err-clause-serving
+returns-in-Err-clause-serving g t c =
+    serving_one c.args.passes.items c.pop.new.self.items c.start_all-crew.result.servers.items c.push_reserved-in-Err.new.self.items
+    c.in-Some.pass (Ran c.spawn_with.result) c.in-Some.ensures.items c.push_reserved-in-Err.ensures.items
+    c.start_all-crew.ensures.serving
     (subst (λ (p : Seated). HasStayed p c.spawn_with.result) (ap (λ f. f.3) c.in-Err.ensures.err) c.spawn_with.ensures)
