@@ -1,22 +1,24 @@
 -- How many of the words go on to a form: word by word.
-use Rattle.std.proofs.Common.{◌≡◌, ℕ, suc, ◌+◌, ◌<◌, ◌≤◌, Bool, true, false, cond, not, ◌&&◌, ◌||◌, List, [], ◌∷◌, ◌++◌, Option, length, take, drop, get_or, Some, None, refl, sym, ap, ◌∙◌, subst, add-one, arith, lit≤}
+use Rattle.std.proofs.Common.{◌≡◌, ℕ, suc, ◌+◌, Bool, true, false, ◌&&◌, List, [], ◌∷◌, ◌++◌, Option, take, Some, None, refl, sym, ap, ◌∙◌, subst, add-one, arith, lit≤}
 use Rattle.std.specs.Prelude.{codes}
 use Rattle.std.specs.List.{list_all}
 use Rattle.std.specs.Str.{bytes_eq}
 use Rattle.std.proofs.lemmas.Slice.Eq.{bytes_eq-Decides}
 use Rattle.hp_states.proofs.Basics.{and_false}
 use Rattle.hp_text.specs.Numbers.{number_below, integer}
-use Rattle.hp_text.specs.Choices.{dir_of, calls_of, kind_of, name_of}
+use Rattle.hp_text.specs.Choices.{dir_of, calls_of, kind_of, name_of, any_from}
 use Rattle.hp_text.specs.Flags.{form}
 use Rattle.hp_text.specs.FirstWords.{file_of}
 use Rattle.hp_event.specs.declared.event.File.{File}
 use Rattle.hp_event.specs.declared.event.File.TheVariants as file
+use Rattle.hp_hint.specs.declared.measure.Measure.{Measure}
+use Rattle.hp_hint.specs.declared.measure.Measure.TheVariants as measure
 use Rattle.hp_hint.specs.declared.field.Field.{Field}
 use Rattle.hp_hint.specs.declared.field.Field.TheVariants as field
 use Rattle.hp_hint.specs.declared.form.Ending.{Ending}
 use Rattle.hp_hint.specs.declared.form.Ending.TheVariants as ending
-use Rattle.hp_hint.specs.Forms.{CanGoOn, IsLost, IsGood, locked_or_none, fits, ends, are_numbers, are_fields}
-use Rattle.hp_hint.specs.LineForms.{Form, shown_form, show_form, scheduled_form, schedule_form}
+use Rattle.hp_hint.specs.Forms.{CanGoOn, IsGood, locked_or_none, fits, ends, are_several, are_fields}
+use Rattle.hp_hint.specs.LineForms.{Form, shown_form, show_form, schedule_form}
 
 -- ---- texts
 
@@ -54,37 +56,61 @@ alike g h ws n same good =
 -- ---- words that fit
 
 abbrev sample : Field → List ℕ
-sample field.Number = codes "1"
-sample field.Seed = codes "1"
-sample field.Integer = codes "1"
 sample field.Label = codes "a"
 sample field.Name = codes "a"
 sample field.Calls = codes "both"
 sample field.Kind = codes "multi"
 sample field.Dir = codes "up"
-sample field.Any = codes "*"
+sample _ = codes "1"
 
-sample_fits : (f : Field) → fits f (sample f) ≡ true
-unfolding number_below integer name_of calls_of kind_of dir_of
-sample_fits field.Number = refl
-sample_fits field.Seed = refl
-sample_fits field.Integer = refl
-sample_fits field.Label = refl
-sample_fits field.Name = refl
-sample_fits field.Calls = refl
-sample_fits field.Kind = refl
-sample_fits field.Dir = refl
-sample_fits field.Any = refl
+sample_fits : (m : Measure) (f : Field) → fits m f (sample f) ≡ true
+unfolding number_below integer name_of calls_of kind_of dir_of any_from
+sample_fits measure.Form field.Possible = refl
+sample_fits measure.Form field.Cpu = refl
+sample_fits measure.Form field.State = refl
+sample_fits measure.Form field.Sub = refl
+sample_fits measure.Form field.Instance = refl
+sample_fits measure.Form field.Value = refl
+sample_fits measure.Form field.Primary = refl
+sample_fits measure.Form field.Seed = refl
+sample_fits measure.Form field.Turns = refl
+sample_fits measure.Form field.Seat = refl
+sample_fits measure.Form field.RuleCpu = refl
+sample_fits measure.Form field.RuleInstance = refl
+sample_fits measure.Form field.RuleCall = refl
+sample_fits measure.Form field.Code = refl
+sample_fits (measure.Ranges p) field.Possible = refl
+sample_fits (measure.Ranges p) field.Cpu = refl
+sample_fits (measure.Ranges p) field.State = refl
+sample_fits (measure.Ranges p) field.Sub = refl
+sample_fits (measure.Ranges p) field.Instance = refl
+sample_fits (measure.Ranges p) field.Value = refl
+sample_fits (measure.Ranges p) field.Primary = refl
+sample_fits (measure.Ranges p) field.Seed = refl
+sample_fits (measure.Ranges p) field.Turns = refl
+sample_fits (measure.Ranges p) field.Seat = refl
+sample_fits (measure.Ranges p) field.RuleCpu = refl
+sample_fits (measure.Ranges p) field.RuleInstance = refl
+sample_fits (measure.Ranges p) field.RuleCall = refl
+sample_fits (measure.Ranges p) field.Code = refl
+sample_fits m field.Label = refl
+sample_fits m field.Name = refl
+sample_fits m field.Calls = refl
+sample_fits m field.Kind = refl
+sample_fits m field.Dir = refl
 
-pub ending_can : (e : Ending) → CanGoOn (ends e) []
+pub several_can : (m : Measure) (f : Field) → CanGoOn (are_several m f) []
+several_can m f = (sample f ∷ [], rw (sample_fits m f) refl)
+
+pub ending_can : (m : Measure) (e : Ending) → CanGoOn (ends m e) []
 unfolding form
-ending_can ending.Nothing = ([], refl)
-ending_can ending.Flags = ([], refl)
-ending_can ending.Numbers = (sample field.Number ∷ [], rw (sample_fits field.Number) refl)
+ending_can m ending.Nothing = ([], refl)
+ending_can m ending.Flags = ([], refl)
+ending_can m (ending.Several f) = several_can m f
 
-pub fields_can : (fs : List Field) (e : Ending) → CanGoOn (are_fields fs e) []
-fields_can [] e = ending_can e
-fields_can (f ∷ fs) e = let more = fields_can fs e in (sample f ∷ more.0, rw (sample_fits f) more.1)
+pub fields_can : (m : Measure) (fs : List Field) (e : Ending) → CanGoOn (are_fields m fs e) []
+fields_can m [] e = ending_can m e
+fields_can m (f ∷ fs) e = let more = fields_can m fs e in (sample f ∷ more.0, rw (sample_fits m f) more.1)
 
 -- ---- flags
 
@@ -106,106 +132,106 @@ apart = refl
 not_nocalls : (w : List ℕ) → bytes_eq w (codes "locked") ≡ true → bytes_eq w (codes "nocalls") ≡ false
 not_nocalls w e = subst (λ (x : List ℕ). bytes_eq x (codes "nocalls") ≡ false) (sym ((bytes_eq-Decides w (codes "locked")).0 e)) apart
 
-locked_goes : (w : List ℕ) → bytes_eq w (codes "nocalls") ≡ false → bytes_eq w (codes "locked") ≡ true → ends ending.Flags (w ∷ []) ≡ true
+locked_goes : (m : Measure) (w : List ℕ) → bytes_eq w (codes "nocalls") ≡ false → bytes_eq w (codes "locked") ≡ true → ends m ending.Flags (w ∷ []) ≡ true
 unfolding form
-locked_goes w n l = rw (n, l) refl
+locked_goes m w n l = rw (n, l) refl
 
-locked_lost : (w v : List ℕ) (rest : List (List ℕ)) → bytes_eq w (codes "nocalls") ≡ false → ends ending.Flags (w ∷ v ∷ rest) ≡ false
+locked_lost : (m : Measure) (w v : List ℕ) (rest : List (List ℕ)) → bytes_eq w (codes "nocalls") ≡ false → ends m ending.Flags (w ∷ v ∷ rest) ≡ false
 unfolding form
-locked_lost w v [] n = rw n refl
-locked_lost w v (u ∷ rest) n = refl
+locked_lost m w v [] n = rw n refl
+locked_lost m w v (u ∷ rest) n = refl
 
-pub flags_locked : (w : List ℕ) (ws : List (List ℕ)) → bytes_eq w (codes "locked") ≡ true → IsGood (ends ending.Flags) (w ∷ ws) 1
-flags_locked w ws l = let n = not_nocalls w l in one_alone (ends ending.Flags) w ws (locked_goes w n l) (λ v rest. locked_lost w v rest n)
+pub flags_locked : (m : Measure) (w : List ℕ) (ws : List (List ℕ)) → bytes_eq w (codes "locked") ≡ true → IsGood (ends m ending.Flags) (w ∷ ws) 1
+flags_locked m w ws l = let n = not_nocalls w l in one_alone (ends m ending.Flags) w ws (locked_goes m w n l) (λ v rest. locked_lost m w v rest n)
 
-flags_lost : (w : List ℕ) (rest : List (List ℕ)) → bytes_eq w (codes "nocalls") ≡ false → bytes_eq w (codes "locked") ≡ false
-    → ends ending.Flags (w ∷ rest) ≡ false
+flags_lost : (m : Measure) (w : List ℕ) (rest : List (List ℕ)) → bytes_eq w (codes "nocalls") ≡ false → bytes_eq w (codes "locked") ≡ false
+    → ends m ending.Flags (w ∷ rest) ≡ false
 unfolding form
-flags_lost w [] n l = rw (n, l) refl
-flags_lost w (v ∷ []) n l = rw n refl
-flags_lost w (v ∷ u ∷ rest) n l = refl
+flags_lost m w [] n l = rw (n, l) refl
+flags_lost m w (v ∷ []) n l = rw n refl
+flags_lost m w (v ∷ u ∷ rest) n l = refl
 
-pub flags_bad : (w : List ℕ) (ws : List (List ℕ)) → bytes_eq w (codes "nocalls") ≡ false → bytes_eq w (codes "locked") ≡ false → IsGood (ends ending.Flags) (w ∷ ws) 0
-flags_bad w ws n l = bad (ends ending.Flags) w ws (λ rest. flags_lost w rest n l) (ending_can ending.Flags)
+pub flags_bad : (m : Measure) (w : List ℕ) (ws : List (List ℕ)) → bytes_eq w (codes "nocalls") ≡ false → bytes_eq w (codes "locked") ≡ false → IsGood (ends m ending.Flags) (w ∷ ws) 0
+flags_bad m w ws n l = bad (ends m ending.Flags) w ws (λ rest. flags_lost m w rest n l) (ending_can m ending.Flags)
 
-by_second : (w v : List ℕ) (t : Bool) → bytes_eq w (codes "nocalls") ≡ true → bytes_eq v (codes "locked") ≡ t → ends ending.Flags (w ∷ v ∷ []) ≡ (t && true)
+by_second : (m : Measure) (w v : List ℕ) (t : Bool) → bytes_eq w (codes "nocalls") ≡ true → bytes_eq v (codes "locked") ≡ t → ends m ending.Flags (w ∷ v ∷ []) ≡ (t && true)
 unfolding form
-by_second w v true n l = rw (n, l) refl
-by_second w v false n l = rw (n, l) refl
+by_second m w v true n l = rw (n, l) refl
+by_second m w v false n l = rw (n, l) refl
 
-behind_nocalls : (w : List ℕ) (vs : List (List ℕ)) → bytes_eq w (codes "nocalls") ≡ true → ends ending.Flags (w ∷ vs) ≡ locked_or_none vs
+behind_nocalls : (m : Measure) (w : List ℕ) (vs : List (List ℕ)) → bytes_eq w (codes "nocalls") ≡ true → ends m ending.Flags (w ∷ vs) ≡ locked_or_none vs
 unfolding form
-behind_nocalls w [] n = rw n refl
-behind_nocalls w (v ∷ []) n = by_second w v (bytes_eq v (codes "locked")) n refl
-behind_nocalls w (v ∷ u ∷ vs) n = sym (and_false (bytes_eq v (codes "locked")))
+behind_nocalls m w [] n = rw n refl
+behind_nocalls m w (v ∷ []) n = by_second m w v (bytes_eq v (codes "locked")) n refl
+behind_nocalls m w (v ∷ u ∷ vs) n = sym (and_false (bytes_eq v (codes "locked")))
 
-pub flags_nocalls : (w : List ℕ) (ws : List (List ℕ)) (n : ℕ) → bytes_eq w (codes "nocalls") ≡ true → IsGood locked_or_none ws n → IsGood (ends ending.Flags) (w ∷ ws) (suc n)
-flags_nocalls w ws n e good = onto (ends ending.Flags) locked_or_none w ws n (λ vs. behind_nocalls w vs e) good
+pub flags_nocalls : (m : Measure) (w : List ℕ) (ws : List (List ℕ)) (n : ℕ) → bytes_eq w (codes "nocalls") ≡ true → IsGood locked_or_none ws n → IsGood (ends m ending.Flags) (w ∷ ws) (suc n)
+flags_nocalls m w ws n e good = onto (ends m ending.Flags) locked_or_none w ws n (λ vs. behind_nocalls m w vs e) good
 
--- ---- numbers
+-- ---- several words of a field
 
-pub numbers_can : CanGoOn (list_all (fits field.Number)) []
-numbers_can = ([], refl)
+pub more_can : (m : Measure) (f : Field) → CanGoOn (list_all (fits m f)) []
+more_can m f = ([], refl)
 
-pub numbers_none : IsGood (list_all (fits field.Number)) [] 0
-numbers_none = short (list_all (fits field.Number)) numbers_can
+pub more_none : (m : Measure) (f : Field) → IsGood (list_all (fits m f)) [] 0
+more_none m f = short (list_all (fits m f)) (more_can m f)
 
-pub numbers_bad : (w : List ℕ) (ws : List (List ℕ)) → fits field.Number w ≡ false → IsGood (list_all (fits field.Number)) (w ∷ ws) 0
-numbers_bad w ws e = bad (list_all (fits field.Number)) w ws (λ vs. rw e refl) numbers_can
+pub more_bad : (m : Measure) (f : Field) (w : List ℕ) (ws : List (List ℕ)) → fits m f w ≡ false → IsGood (list_all (fits m f)) (w ∷ ws) 0
+more_bad m f w ws e = bad (list_all (fits m f)) w ws (λ vs. rw e refl) (more_can m f)
 
-pub numbers_onto : (w : List ℕ) (ws : List (List ℕ)) (n : ℕ) → fits field.Number w ≡ true → IsGood (list_all (fits field.Number)) ws n
-    → IsGood (list_all (fits field.Number)) (w ∷ ws) (suc n)
-numbers_onto w ws n e good = onto (list_all (fits field.Number)) (list_all (fits field.Number)) w ws n (λ vs. rw e refl) good
+pub more_onto : (m : Measure) (f : Field) (w : List ℕ) (ws : List (List ℕ)) (n : ℕ) → fits m f w ≡ true → IsGood (list_all (fits m f)) ws n
+    → IsGood (list_all (fits m f)) (w ∷ ws) (suc n)
+more_onto m f w ws n e good = onto (list_all (fits m f)) (list_all (fits m f)) w ws n (λ vs. rw e refl) good
 
-pub some_onto : (w : List ℕ) (ws : List (List ℕ)) (n : ℕ) → fits field.Number w ≡ true → IsGood (list_all (fits field.Number)) ws n
-    → IsGood (ends ending.Numbers) (w ∷ ws) (suc n)
-some_onto w ws n e good = onto (ends ending.Numbers) (list_all (fits field.Number)) w ws n (λ vs. rw e refl) good
+pub several_onto : (m : Measure) (f : Field) (w : List ℕ) (ws : List (List ℕ)) (n : ℕ) → fits m f w ≡ true → IsGood (list_all (fits m f)) ws n
+    → IsGood (are_several m f) (w ∷ ws) (suc n)
+several_onto m f w ws n e good = onto (are_several m f) (list_all (fits m f)) w ws n (λ vs. rw e refl) good
 
-pub some_bad : (w : List ℕ) (ws : List (List ℕ)) → fits field.Number w ≡ false → IsGood (ends ending.Numbers) (w ∷ ws) 0
-some_bad w ws e = bad (ends ending.Numbers) w ws (λ vs. rw e refl) (ending_can ending.Numbers)
+pub several_bad : (m : Measure) (f : Field) (w : List ℕ) (ws : List (List ℕ)) → fits m f w ≡ false → IsGood (are_several m f) (w ∷ ws) 0
+several_bad m f w ws e = bad (are_several m f) w ws (λ vs. rw e refl) (several_can m f)
 
 -- ---- fields
 
-pub field_onto : (f : Field) (fs : List Field) (e : Ending) (w : List ℕ) (ws : List (List ℕ)) (n : ℕ) → fits f w ≡ true → IsGood (are_fields fs e) ws n
-    → IsGood (are_fields (f ∷ fs) e) (w ∷ ws) (suc n)
-field_onto f fs e w ws n t good = onto (are_fields (f ∷ fs) e) (are_fields fs e) w ws n (λ vs. rw t refl) good
+pub field_onto : (m : Measure) (f : Field) (fs : List Field) (e : Ending) (w : List ℕ) (ws : List (List ℕ)) (n : ℕ) → fits m f w ≡ true → IsGood (are_fields m fs e) ws n
+    → IsGood (are_fields m (f ∷ fs) e) (w ∷ ws) (suc n)
+field_onto m f fs e w ws n t good = onto (are_fields m (f ∷ fs) e) (are_fields m fs e) w ws n (λ vs. rw t refl) good
 
-pub field_bad : (f : Field) (fs : List Field) (e : Ending) (w : List ℕ) (ws : List (List ℕ)) → fits f w ≡ false → IsGood (are_fields (f ∷ fs) e) (w ∷ ws) 0
-field_bad f fs e w ws t = bad (are_fields (f ∷ fs) e) w ws (λ vs. rw t refl) (fields_can (f ∷ fs) e)
+pub field_bad : (m : Measure) (f : Field) (fs : List Field) (e : Ending) (w : List ℕ) (ws : List (List ℕ)) → fits m f w ≡ false → IsGood (are_fields m (f ∷ fs) e) (w ∷ ws) 0
+field_bad m f fs e w ws t = bad (are_fields m (f ∷ fs) e) w ws (λ vs. rw t refl) (fields_can m (f ∷ fs) e)
 
 -- ---- `show` and `schedule`
 
-pub show_can : CanGoOn show_form []
+pub show_can : (m : Measure) → CanGoOn (show_form m) []
 unfolding file_of
-show_can = (codes "states" ∷ [], refl)
+show_can m = (codes "states" ∷ [], refl)
 
-pub show_bad : (w : List ℕ) (ws : List (List ℕ)) → file_of w ≡ None → IsGood show_form (w ∷ ws) 0
-show_bad w ws e = bad show_form w ws (λ vs. ap (λ (f : Option File). shown_form f vs) e) show_can
+pub show_bad : (m : Measure) (w : List ℕ) (ws : List (List ℕ)) → file_of w ≡ None → IsGood (show_form m) (w ∷ ws) 0
+show_bad m w ws e = bad (show_form m) w ws (λ vs. ap (λ (f : Option File). shown_form m f vs) e) (show_can m)
 
-pub show_onto : (w : List ℕ) (ws : List (List ℕ)) (f : Option File) (n : ℕ) → file_of w ≡ f → IsGood (shown_form f) ws n → IsGood show_form (w ∷ ws) (suc n)
-show_onto w ws f n e good = onto show_form (shown_form f) w ws n (λ vs. ap (λ (f : Option File). shown_form f vs) e) good
+pub show_onto : (m : Measure) (w : List ℕ) (ws : List (List ℕ)) (f : Option File) (n : ℕ) → file_of w ≡ f → IsGood (shown_form m f) ws n → IsGood (show_form m) (w ∷ ws) (suc n)
+show_onto m w ws f n e good = onto (show_form m) (shown_form m f) w ws n (λ vs. ap (λ (f : Option File). shown_form m f vs) e) good
 
-pub states_good : (ws : List (List ℕ)) → IsGood (shown_form (Some file.States)) ws 0
-states_good [] = short (shown_form (Some file.States)) ([], refl)
-states_good (w ∷ ws) = bad (shown_form (Some file.States)) w ws (λ vs. refl) ([], refl)
+pub states_good : (m : Measure) (ws : List (List ℕ)) → IsGood (shown_form m (Some file.States)) ws 0
+states_good m [] = short (shown_form m (Some file.States)) ([], refl)
+states_good m (w ∷ ws) = bad (shown_form m (Some file.States)) w ws (λ vs. refl) ([], refl)
 
-pub schedule_can : CanGoOn schedule_form []
-schedule_can = (codes "rounds" ∷ [], refl)
+pub schedule_can : (m : Measure) → CanGoOn (schedule_form m) []
+schedule_can m = (codes "rounds" ∷ [], refl)
 
-pub rounds_good : (w : List ℕ) (ws : List (List ℕ)) → bytes_eq w (codes "rounds") ≡ true → IsGood schedule_form (w ∷ ws) 1
-rounds_good w ws e = one_alone schedule_form w ws (rw e refl) (λ v rest. rw e refl)
+pub rounds_good : (m : Measure) (w : List ℕ) (ws : List (List ℕ)) → bytes_eq w (codes "rounds") ≡ true → IsGood (schedule_form m) (w ∷ ws) 1
+rounds_good m w ws e = one_alone (schedule_form m) w ws (rw e refl) (λ v rest. rw e refl)
 
-pub turns_good : (w : List ℕ) (ws : List (List ℕ)) (n : ℕ) → bytes_eq w (codes "rounds") ≡ false → bytes_eq w (codes "turns") ≡ true
-    → IsGood (ends ending.Numbers) ws n → IsGood schedule_form (w ∷ ws) (suc n)
-turns_good w ws n r t good = onto schedule_form (ends ending.Numbers) w ws n (λ vs. rw (r, t) refl) good
+pub turns_good : (m : Measure) (w : List ℕ) (ws : List (List ℕ)) (n : ℕ) → bytes_eq w (codes "rounds") ≡ false → bytes_eq w (codes "turns") ≡ true
+    → IsGood (are_several m field.Seat) ws n → IsGood (schedule_form m) (w ∷ ws) (suc n)
+turns_good m w ws n r t good = onto (schedule_form m) (are_several m field.Seat) w ws n (λ vs. rw (r, t) refl) good
 
-pub mix_good : (w : List ℕ) (ws : List (List ℕ)) (n : ℕ) → bytes_eq w (codes "rounds") ≡ false → bytes_eq w (codes "turns") ≡ false → bytes_eq w (codes "mix") ≡ true
-    → IsGood (are_fields (field.Seed ∷ field.Number ∷ []) ending.Nothing) ws n → IsGood schedule_form (w ∷ ws) (suc n)
-mix_good w ws n r t m good = onto schedule_form (are_fields (field.Seed ∷ field.Number ∷ []) ending.Nothing) w ws n (λ vs. rw (r, t, m) refl) good
+pub mix_good : (m : Measure) (w : List ℕ) (ws : List (List ℕ)) (n : ℕ) → bytes_eq w (codes "rounds") ≡ false → bytes_eq w (codes "turns") ≡ false → bytes_eq w (codes "mix") ≡ true
+    → IsGood (are_fields m (field.Seed ∷ field.Turns ∷ []) ending.Nothing) ws n → IsGood (schedule_form m) (w ∷ ws) (suc n)
+mix_good m w ws n r t x good = onto (schedule_form m) (are_fields m (field.Seed ∷ field.Turns ∷ []) ending.Nothing) w ws n (λ vs. rw (r, t, x) refl) good
 
-pub schedule_bad : (w : List ℕ) (ws : List (List ℕ)) → bytes_eq w (codes "rounds") ≡ false → bytes_eq w (codes "turns") ≡ false → bytes_eq w (codes "mix") ≡ false
-    → IsGood schedule_form (w ∷ ws) 0
-schedule_bad w ws r t m = bad schedule_form w ws (λ vs. rw (r, t, m) refl) schedule_can
+pub schedule_bad : (m : Measure) (w : List ℕ) (ws : List (List ℕ)) → bytes_eq w (codes "rounds") ≡ false → bytes_eq w (codes "turns") ≡ false → bytes_eq w (codes "mix") ≡ false
+    → IsGood (schedule_form m) (w ∷ ws) 0
+schedule_bad m w ws r t x = bad (schedule_form m) w ws (λ vs. rw (r, t, x) refl) (schedule_can m)
 
 -- one word more, as the code counts it
 pub counted : (g : Form) (all : List (List ℕ)) (w : List ℕ) (ws : List (List ℕ)) (n : ℕ) → all ≡ w ∷ ws → IsGood g (w ∷ ws) (suc n) → IsGood g all (1 + n)

@@ -1,5 +1,5 @@
 -- The words of a line before a space, and behind it.
-use Rattle.std.proofs.Common.{◌≡◌, ℕ, suc, ◌+◌, ◌-◌, ◌<◌, ◌≤◌, Bool, true, false, cond, not, eqb, ltb, min, List, [], ◌∷◌, ◌++◌, length, take, drop, get_or, Some, refl, sym, ap, ◌∙◌, subst, add-one, length-append, length-drop, length-take, take-append-drop, drop-drop, get_or-drop, arith}
+use Rattle.std.proofs.Common.{◌≡◌, ℕ, ◌+◌, ◌-◌, ◌<◌, ◌≤◌, Bool, true, false, not, eqb, ltb, min, List, [], ◌∷◌, ◌++◌, length, take, drop, get_or, Some, refl, sym, ap, ◌∙◌, subst, length-append, length-drop, length-take, take-append-drop, drop-drop, get_or-drop, arith}
 use Rattle.std.proofs.lemmas.Bool.{ltb-true, ltb-false}
 use Rattle.std.proofs.lemmas.List.{append-nil, drop_all, take_all}
 use Rattle.std.proofs.lemmas.List.Elements.{filter-append}
@@ -9,8 +9,7 @@ use Rattle.hp_model.specs.Lists.{is_empty}
 use Rattle.hp_script.specs.Pieces.{onto_first, pieces, next}
 use Rattle.hp_script.specs.Words.{words}
 use Rattle.hp_script.proofs.PieceLoops.{onto_all, onto_some, onto_none, onto_one_more, next_is}
-use Rattle.hp_hint.specs.declared.place.Mark.{Mark}
-use Rattle.hp_hint.specs.Places.{IsWordAt, IsEnd, IsAt}
+use Rattle.hp_hint.specs.Places.{IsAt}
 
 -- the pieces that are words
 abbrev kept : List (List ℕ) → List (List ℕ)

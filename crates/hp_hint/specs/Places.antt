@@ -1,6 +1,6 @@
 -- Where a word stands in its line. This project's own.
 use Rattle.std.specs.Prelude.{◌≡◌, ℕ, ◌+◌, ◌<◌, ◌≤◌, true, false, List, ◌∷◌, ◌++◌, length, take, drop}
-use Rattle.hp_script.specs.Words.{words, is_bad_byte, has_bad_byte}
+use Rattle.hp_script.specs.Words.{words, has_bad_byte}
 use Rattle.hp_hint.specs.declared.place.Mark.{Mark}
 
 -- So many words stand before the mark; then come the bytes that are marked, which are the next word; and then the

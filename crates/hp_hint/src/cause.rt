@@ -1,10 +1,10 @@
 //! What is wrong with a line at its mark, in a few words.
 
 use crate::context::Context;
-use crate::grammar::{form_of, limit_of, meaning_of, order_of};
+use crate::grammar::{Meaning, form_of, limit_of, meaning_of, order_of};
 use crate::verb::Verb;
 use hp_script::ScriptKind;
-use hp_states::{MAX_OPERATIONS, NoMemory};
+use hp_states::{MAX_OPERATIONS, MAX_SCRIPT_BYTES, NoMemory};
 use hp_text::OpWord;
 use std::fmt::Write;
 
@@ -33,7 +33,7 @@ pub fn append_cause_at_end(
     context: &Context,
 ) -> Result<(), NoMemory> {
     match kind {
-        ScriptKind::TooLong => text.push_str("a script has at most 1048576 bytes")?,
+        ScriptKind::TooLong => write!(text, "a script has at most {MAX_SCRIPT_BYTES} bytes")?,
         ScriptKind::NoCpus => {
             text.push_str(
                 "no line says anything; a script begins with cpus N, where N is 1 to 256",
@@ -134,7 +134,10 @@ fn append_range(
         return append_absent_range(text, context);
     }
     text.push_str(": ")?;
-    text.push_str(meaning_of(verb, at.second, at.place).unwrap_or("out of its range"))?;
+    match meaning_of(verb, at.second, at.place) {
+        Some(meaning) => meaning.append(text)?,
+        None => text.push_str("out of its range")?,
+    }
     Ok(())
 }
 
@@ -164,7 +167,7 @@ fn append_misfit(
     text: &mut String,
     word: &[u8],
     is_signed: bool,
-    meaning: Option<&'static str>,
+    meaning: Option<Meaning>,
 ) -> Result<(), NoMemory> {
     if word.is_empty() {
         text.push_str("a word is wanting")?;
@@ -189,7 +192,7 @@ fn append_form(text: &mut String, verb: Verb, at: &Marked<'_>) -> Result<(), NoM
     text.push_str(form_of(verb, at.second))?;
     if let Some(meaning) = meaning {
         text.push_str("; ")?;
-        text.push_str(meaning)?;
+        meaning.append(text)?;
     }
     Ok(())
 }

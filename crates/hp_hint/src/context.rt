@@ -1,9 +1,14 @@
 //! What the lines before a refused one say that its hint speaks of.
 
+ghost use Rattle.std.specs.Prelude.{◌≡◌};
+ghost use Rattle.hp_script.specs.Before.{after_line};
+ghost use Rattle.hp_hint.specs.Faults.{possible_before};
+ghost use Rattle.hp_hint.specs.Possible.{possible_after};
+
 use crate::piece::next_piece;
 use crate::verb::{Verb, verb_of};
 use crate::words::LineWords;
-use hp_text::{OpWord, Words, number};
+use hp_text::{OpWord, Words, number_alone};
 
 /// What stood before a line.
 #[derive(Clone, Copy, Debug)]
@@ -22,7 +27,12 @@ pub struct Context {
 
 impl Context {
     /// What stands before the line of this number, counted from 1. Takes no memory.
-    pub fn before(bytes: &[u8], line: u32) -> Context {
+    ///
+    /// How many processors are possible is what hp_script reads of these lines, be they refused or not; what is counted rests on
+    /// tests.
+    pub fn before(bytes: &[u8], line: u32) -> Context
+        ensures { result.possible ≡ possible_before bytes.now line }
+    {
         let mut context = Context {
             possible: 0,
             subs: 0,
@@ -42,15 +52,17 @@ impl Context {
     }
 
     /// One line more.
-    fn take(&mut self, at: u32, line: &[u8]) {
+    fn take(&mut self, at: u32, line: &[u8])
+        ensures { self.new.possible ≡ possible_after self.old.possible line.now }
+    {
         let mut words = LineWords::of(line);
         let Some(first) = words.next_word() else {
             return;
         };
         match verb_of(first) {
             Some(Verb::Cpus) => {
-                if let Some(word) = words.next_word() {
-                    self.possible = number(word).unwrap_or(0);
+                if let Ok(possible) = number_alone(&mut words) {
+                    self.possible = possible;
                 }
             }
             Some(Verb::Sub) => self.subs = self.subs.saturating_add(1),
@@ -64,7 +76,9 @@ impl Context {
     }
 
     /// One operation more.
-    fn take_operation(&mut self, at: u32, first: OpWord) {
+    fn take_operation(&mut self, at: u32, first: OpWord)
+        ensures { self.new.possible ≡ self.old.possible }
+    {
         self.ops = self.ops.saturating_add(1);
         match first {
             OpWord::Setup => self.setups = self.setups.saturating_add(1),

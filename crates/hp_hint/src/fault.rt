@@ -1,13 +1,16 @@
 //! Where a refused script is at fault.
 
-ghost use Rattle.std.specs.Prelude.{◌≡◌, ◌<◌, ◌≤◌, ◌^◌, length, IfSome, IfNone, IfOk, option_map};
+ghost use Rattle.std.specs.Prelude.{◌≡◌, ◌<◌, ◌≤◌, ◌^◌, true, length, IfSome, IfNone, IfOk, option_map};
 ghost use Rattle.hp_script.specs.Words.{words};
+ghost use Rattle.hp_script.specs.Statements.{statement_in};
+ghost use Rattle.hp_script.specs.Refusals.{is_out_of_range};
 ghost use Rattle.hp_script.specs.Judged.{IsUnrefused};
 ghost use Rattle.hp_hint.specs.Forms.{IsGood};
 ghost use Rattle.hp_hint.specs.Faults.{is_line, line_of as line_of_bytes, IsMarked, IsFault};
 
 use crate::context::Context;
 use crate::form::good_words;
+use crate::measure::Measure;
 use crate::piece::split_piece;
 use crate::place::{Mark, first_bad_byte, place_of_word};
 use crate::ranges::number_at_fault;
@@ -39,15 +42,16 @@ fn good_words_of(line: &[u8]) -> usize
         return 0;
     };
     match verb_of(first) {
-        Some(verb) => 1 + good_words(verb, &mut words),
+        Some(verb) => 1 + good_words(Measure::Form, verb, &mut words),
         None => 0,
     }
 }
 
-/// What is marked of a line that is refused so.
+/// What is marked of a line that is refused so where so many processors are possible.
 fn mark_of(kind: ScriptKind, possible: u32, line: &[u8]) -> Mark
-    requires { length line.now ≤ MAX_SCRIPT_BYTES }
-    ensures { IsMarked kind line.now result }
+    requires few { length line.now ≤ MAX_SCRIPT_BYTES }
+    requires bad { kind ≡ ScriptKind.BadNumber → is_out_of_range possible (statement_in (words line.now)) ≡ true }
+    ensures { IsMarked kind possible line.now result }
 {
     match kind {
         ScriptKind::BadByte => first_bad_byte(line),
@@ -95,8 +99,9 @@ pub fn fault_of(alloc: Global, bytes: &[u8], hooks: u32) -> Result<Option<Fault>
             mark: None,
         }));
     }
+    let context = Context::before(bytes, line);
     let mark = match line_of(bytes, line) {
-        Some(text) => Some(mark_of(kind, Context::before(bytes, line).possible, text)),
+        Some(text) => Some(mark_of(kind, context.possible, text)),
         None => None,
     };
     Ok(Some(Fault { line, kind, mark }))

@@ -1,16 +1,20 @@
-//! How far the words of a line are those of its form.
+//! How far the words of a line are those of its form, or those of one whose numbers are in their ranges too: which of both,
+//! the measure says.
 //!
 //! Each function answers how many of the words go on to the form: with the next one, where there is one, nothing that stands
 //! behind makes them a line of it. The words are as few as those of a line.
 
-ghost use Rattle.std.specs.Prelude.{◌≡◌, [], ◌∷◌};
+ghost use Rattle.std.specs.Prelude.{◌≡◌, ◌<◌, ◌≤◌, true, Some, [], ◌∷◌};
 ghost use Rattle.std.specs.List.{list_all};
-ghost use Rattle.hp_hint.specs.Forms.{IsGood, AreFew, ends, locked_or_none, are_fields, fits};
-ghost use Rattle.hp_hint.specs.LineForms.{show_form, schedule_form, op_form, line_form};
+ghost use Rattle.hp_hint.specs.Forms.{IsGood, AreFew, ends, locked_or_none, are_fields, are_several, fits, risen, can_rise};
+ghost use Rattle.hp_hint.specs.LineForms.{shown_form, show_form, schedule_form, op_form, line_form, has_lines};
 
 use crate::field::Field;
+use crate::measure::Measure;
+use crate::rising::good_above;
 use crate::verb::{Verb, file_of};
 use hp_event::File;
+use hp_states::MAX_CPU_SET;
 use hp_text::{OpWord, Words};
 
 /// What may stand behind the fields of a line.
@@ -20,8 +24,8 @@ pub enum Ending {
     Nothing,
     /// No flag, `nocalls`, `locked`, or both in this order.
     Flags,
-    /// One number or more.
-    Numbers,
+    /// One word or more, each of this field.
+    Several(Field),
 }
 
 /// The flag `locked`, or nothing.
@@ -35,9 +39,9 @@ fn good_locked<'a, W: Words<'a>>(words: &mut W) -> usize
     if word == b"locked".as_slice() { 1 } else { 0 }
 }
 
-fn good_flags<'a, W: Words<'a>>(words: &mut W) -> usize
+fn good_flags<'a, W: Words<'a>>(measure: Measure, words: &mut W) -> usize
     requires { AreFew (W.left words.old) }
-    ensures { IsGood (ends Ending.Flags) (W.left words.old) result }
+    ensures { IsGood (ends measure Ending.Flags) (W.left words.old) result }
 {
     let Some(first) = words.next_word() else {
         return 0;
@@ -51,14 +55,14 @@ fn good_flags<'a, W: Words<'a>>(words: &mut W) -> usize
     0
 }
 
-/// Any number of numbers.
-fn good_more<'a, W: Words<'a>>(words: &mut W) -> usize
+/// Any number of words, each of a field.
+fn good_more<'a, W: Words<'a>>(measure: Measure, field: Field, words: &mut W) -> usize
     requires { AreFew (W.left words.old) }
-    ensures { IsGood (list_all (fits Field.Number)) (W.left words.old) result }
+    ensures { IsGood (list_all (fits measure field)) (W.left words.old) result }
 {
     let mut good: usize = 0;
     while let Some(word) = words.next_word() {
-        if !Field::Number.fits(word) {
+        if !field.fits(measure, word) {
             return good;
         }
         good += 1;
@@ -66,67 +70,98 @@ fn good_more<'a, W: Words<'a>>(words: &mut W) -> usize
     good
 }
 
-fn good_numbers<'a, W: Words<'a>>(words: &mut W) -> usize
+/// One word or more, each of a field.
+fn good_several<'a, W: Words<'a>>(measure: Measure, field: Field, words: &mut W) -> usize
     requires { AreFew (W.left words.old) }
-    ensures { IsGood (ends Ending.Numbers) (W.left words.old) result }
+    ensures { IsGood (are_several measure field) (W.left words.old) result }
 {
     let Some(first) = words.next_word() else {
         return 0;
     };
-    if !Field::Number.fits(first) {
+    if !field.fits(measure, first) {
         return 0;
     }
-    1 + good_more(words)
+    1 + good_more(measure, field, words)
 }
 
-fn good_ending<'a, W: Words<'a>>(ending: Ending, words: &mut W) -> usize
+/// Numbers of which each is above the one before it, from `low` to below a limit.
+fn good_rising<'a, W: Words<'a>>(measure: Measure, low: u32, limit: u32, words: &mut W) -> usize
+    requires few { AreFew (W.left words.old) }
+    requires low { low ≤ 1 }
+    requires some { can_rise measure limit ≡ true }
+    ensures { IsGood (risen measure low limit) (W.left words.old) result }
+{
+    match measure {
+        Measure::Form => good_several(measure, Field::Cpu, words),
+        Measure::Ranges(_) => good_above(low, limit, words),
+    }
+}
+
+fn good_ending<'a, W: Words<'a>>(measure: Measure, ending: Ending, words: &mut W) -> usize
     requires { AreFew (W.left words.old) }
-    ensures { IsGood (ends ending) (W.left words.old) result }
+    ensures { IsGood (ends measure ending) (W.left words.old) result }
 {
     match ending {
         Ending::Nothing => 0,
-        Ending::Flags => good_flags(words),
-        Ending::Numbers => good_numbers(words),
+        Ending::Flags => good_flags(measure, words),
+        Ending::Several(field) => good_several(measure, field, words),
     }
 }
 
 /// A word for each field, and then such an ending.
-fn good_fields<'a, W: Words<'a>>(fields: &[Field], ending: Ending, words: &mut W) -> usize
+fn good_fields<'a, W: Words<'a>>(
+    measure: Measure,
+    fields: &[Field],
+    ending: Ending,
+    words: &mut W,
+) -> usize
     requires { AreFew (W.left words.old) }
-    ensures { IsGood (are_fields fields.now ending) (W.left words.old) result }
+    ensures { IsGood (are_fields measure fields.now ending) (W.left words.old) result }
 {
     let mut good: usize = 0;
     for field in fields {
         let Some(word) = words.next_word() else {
             return good;
         };
-        if !field.fits(word) {
+        if !field.fits(measure, word) {
             return good;
         }
         good += 1;
     }
-    good + good_ending(ending, words)
+    good + good_ending(measure, ending, words)
+}
+
+/// The words behind the name of a file that is shown.
+fn good_shown<'a, W: Words<'a>>(measure: Measure, file: File, words: &mut W) -> usize
+    requires { AreFew (W.left words.old) }
+    ensures { IsGood (shown_form measure (Some file)) (W.left words.old) result }
+{
+    match file {
+        File::States => 0,
+        File::State | File::Target | File::Fail => {
+            good_fields(measure, &[Field::Cpu], Ending::Nothing, words)
+        }
+    }
 }
 
 /// The words behind `show`.
-fn good_show<'a, W: Words<'a>>(words: &mut W) -> usize
+fn good_show<'a, W: Words<'a>>(measure: Measure, words: &mut W) -> usize
     requires { AreFew (W.left words.old) }
-    ensures { IsGood show_form (W.left words.old) result }
+    ensures { IsGood (show_form measure) (W.left words.old) result }
 {
     let Some(name) = words.next_word() else {
         return 0;
     };
     match file_of(name) {
+        Some(file) => 1 + good_shown(measure, file, words),
         None => 0,
-        Some(File::States) => 1,
-        Some(_) => 1 + good_fields(&[Field::Number], Ending::Nothing, words),
     }
 }
 
 /// The words behind `schedule`.
-fn good_schedule<'a, W: Words<'a>>(words: &mut W) -> usize
+fn good_schedule<'a, W: Words<'a>>(measure: Measure, words: &mut W) -> usize
     requires { AreFew (W.left words.old) }
-    ensures { IsGood schedule_form (W.left words.old) result }
+    ensures { IsGood (schedule_form measure) (W.left words.old) result }
 {
     let Some(name) = words.next_word() else {
         return 0;
@@ -135,33 +170,46 @@ fn good_schedule<'a, W: Words<'a>>(words: &mut W) -> usize
         return 1;
     }
     if name == b"turns".as_slice() {
-        return 1 + good_numbers(words);
+        return 1 + good_several(measure, Field::Seat, words);
     }
     if name == b"mix".as_slice() {
-        return 1 + good_fields(&[Field::Seed, Field::Number], Ending::Nothing, words);
+        return 1
+            + good_fields(
+                measure,
+                &[Field::Seed, Field::Turns],
+                Ending::Nothing,
+                words,
+            );
     }
     0
 }
 
 /// The words behind the first one of an operation.
-fn good_operation<'a, W: Words<'a>>(first: OpWord, words: &mut W) -> usize
+fn good_operation<'a, W: Words<'a>>(measure: Measure, first: OpWord, words: &mut W) -> usize
     requires { AreFew (W.left words.old) }
-    ensures { IsGood (op_form first) (W.left words.old) result }
+    ensures { IsGood (op_form measure first) (W.left words.old) result }
 {
     match first {
         OpWord::Up | OpWord::Down | OpWord::Boot => {
-            good_fields(&[Field::Number], Ending::Nothing, words)
+            good_fields(measure, &[Field::Cpu], Ending::Nothing, words)
         }
-        OpWord::Target | OpWord::Fail => {
-            good_fields(&[Field::Number, Field::Integer], Ending::Nothing, words)
-        }
-        OpWord::Show => good_show(words),
-        OpWord::Setup | OpWord::Add | OpWord::Del => {
-            good_fields(&[Field::Number, Field::Number], Ending::Flags, words)
-        }
-        OpWord::Remove => good_fields(&[Field::Number], Ending::Flags, words),
-        OpWord::Freeze => good_fields(&[Field::Integer], Ending::Nothing, words),
-        OpWord::UpMany => good_numbers(words),
+        OpWord::Target | OpWord::Fail => good_fields(
+            measure,
+            &[Field::Cpu, Field::Value],
+            Ending::Nothing,
+            words,
+        ),
+        OpWord::Show => good_show(measure, words),
+        OpWord::Setup => good_fields(measure, &[Field::State, Field::Sub], Ending::Flags, words),
+        OpWord::Add | OpWord::Del => good_fields(
+            measure,
+            &[Field::State, Field::Instance],
+            Ending::Flags,
+            words,
+        ),
+        OpWord::Remove => good_fields(measure, &[Field::State], Ending::Flags, words),
+        OpWord::Freeze => good_fields(measure, &[Field::Primary], Ending::Nothing, words),
+        OpWord::UpMany => good_rising(measure, 0, MAX_CPU_SET, words),
         OpWord::Lock
         | OpWord::Unlock
         | OpWord::Disable
@@ -172,31 +220,36 @@ fn good_operation<'a, W: Words<'a>>(first: OpWord, words: &mut W) -> usize
 }
 
 /// The words behind the first one of a line.
-pub fn good_words<'a, W: Words<'a>>(verb: Verb, words: &mut W) -> usize
-    requires { AreFew (W.left words.old) }
-    ensures { IsGood (line_form verb) (W.left words.old) result }
+///
+/// Of `absent`, where ranges are asked, two processors or more are possible.
+pub fn good_words<'a, W: Words<'a>>(measure: Measure, verb: Verb, words: &mut W) -> usize
+    requires few { AreFew (W.left words.old) }
+    requires some { has_lines measure verb ≡ true }
+    ensures { IsGood (line_form measure verb) (W.left words.old) result }
 {
     match verb {
-        Verb::Cpus => good_fields(&[Field::Number], Ending::Nothing, words),
-        Verb::Absent => good_numbers(words),
+        Verb::Cpus => good_fields(measure, &[Field::Possible], Ending::Nothing, words),
+        Verb::Absent => good_rising(measure, 1, measure.possible(), words),
         Verb::Sub => good_fields(
+            measure,
             &[Field::Name, Field::Calls, Field::Kind],
             Ending::Nothing,
             words,
         ),
         Verb::Rule => good_fields(
+            measure,
             &[
                 Field::Dir,
-                Field::Any,
-                Field::Any,
-                Field::Any,
-                Field::Number,
+                Field::RuleCpu,
+                Field::RuleInstance,
+                Field::RuleCall,
+                Field::Code,
             ],
             Ending::Nothing,
             words,
         ),
-        Verb::Schedule => good_schedule(words),
-        Verb::Actor => good_fields(&[Field::Label], Ending::Nothing, words),
-        Verb::Operation(first) => good_operation(first, words),
+        Verb::Schedule => good_schedule(measure, words),
+        Verb::Actor => good_fields(measure, &[Field::Label], Ending::Nothing, words),
+        Verb::Operation(first) => good_operation(measure, first, words),
     }
 }

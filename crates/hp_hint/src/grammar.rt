@@ -2,7 +2,9 @@
 
 use crate::verb::{Verb, file_of};
 use hp_event::File;
+use hp_states::{MAX_EVENTS, NoMemory};
 use hp_text::OpWord;
+use std::fmt::Write;
 
 const NAME: &str = "NAME is 1 to 32 letters, digits and any of : _ / . -";
 
@@ -17,6 +19,26 @@ const FAIL: &str =
     "V is the number of the state that is to fail, 0 to 200, or -1 for none; any from -2147483648 to 2147483647 is read";
 
 const FLAGS: &str = "FLAGS is nothing, nocalls, locked, or nocalls locked in this order";
+
+/// What a word of a line is.
+#[derive(Clone, Copy)]
+pub enum Meaning {
+    /// As these words say.
+    Words(&'static str),
+    /// Of which call a rule speaks: there may be as many as events.
+    Call,
+}
+
+impl Meaning {
+    /// Says it behind what the text has. Takes memory for it; where there is none: `NoMemory`.
+    pub fn append(self, text: &mut String) -> Result<(), NoMemory> {
+        match self {
+            Meaning::Words(words) => text.push_str(words)?,
+            Meaning::Call => write!(text, "NTH is a number from 1 to {MAX_EVENTS}, or * for any")?,
+        }
+        Ok(())
+    }
+}
 
 /// The form of a line with this first word and, of `show` and `schedule`, this second one. Takes no memory.
 pub fn form_of(verb: Verb, second: &[u8]) -> &'static str {
@@ -79,15 +101,15 @@ fn show_form(second: &[u8]) -> &'static str {
 
 /// What the word at this place of such a line is, counted from 1 behind the first word; none where no word stands there. Takes
 /// no memory.
-pub fn meaning_of(verb: Verb, second: &[u8], place: usize) -> Option<&'static str> {
+pub fn meaning_of(verb: Verb, second: &[u8], place: usize) -> Option<Meaning> {
     match verb {
         Verb::Cpus => at(
             place,
             &["N is how many processors there may be, a number from 1 to 256"],
         ),
-        Verb::Absent => Some(
+        Verb::Absent => Some(Meaning::Words(
             "each C is a number above the one before it, from 1 to the last possible processor",
-        ),
+        )),
         Verb::Sub => at(
             place,
             &[
@@ -96,16 +118,7 @@ pub fn meaning_of(verb: Verb, second: &[u8], place: usize) -> Option<&'static st
                 "KIND is single or multi",
             ],
         ),
-        Verb::Rule => at(
-            place,
-            &[
-                "DIR is up or down",
-                "CPU is a number from 0 to 255, or * for any",
-                "INST is a number from 0 to 65535, or * for any",
-                "NTH is a number from 1 to 1048576, or * for any",
-                "CODE is a number from 1 to 4095",
-            ],
-        ),
+        Verb::Rule => rule_meaning(place),
         Verb::Schedule => schedule_meaning(second, place),
         Verb::Actor => at(place, &[NAME]),
         Verb::Operation(first) => operation_meaning(first, second, place),
@@ -113,19 +126,30 @@ pub fn meaning_of(verb: Verb, second: &[u8], place: usize) -> Option<&'static st
 }
 
 /// The text at a place, counted from 1.
-fn at(place: usize, texts: &[&'static str]) -> Option<&'static str> {
+fn at(place: usize, texts: &[&'static str]) -> Option<Meaning> {
     if place == 0 || place > texts.len() {
         return None;
     }
-    Some(texts[place - 1])
+    Some(Meaning::Words(texts[place - 1]))
 }
 
-fn schedule_meaning(second: &[u8], place: usize) -> Option<&'static str> {
+fn rule_meaning(place: usize) -> Option<Meaning> {
+    match place {
+        1 => Some(Meaning::Words("DIR is up or down")),
+        2 => Some(Meaning::Words("CPU is a number from 0 to 255, or * for any")),
+        3 => Some(Meaning::Words("INST is a number from 0 to 65535, or * for any")),
+        4 => Some(Meaning::Call),
+        5 => Some(Meaning::Words("CODE is a number from 1 to 4095")),
+        _ => None,
+    }
+}
+
+fn schedule_meaning(second: &[u8], place: usize) -> Option<Meaning> {
     if place == 1 {
-        return Some("this word is rounds, turns or mix");
+        return Some(Meaning::Words("this word is rounds, turns or mix"));
     }
     if second == b"turns".as_slice() {
-        return Some("each S is a seat, a number from 0 to 319");
+        return Some(Meaning::Words("each S is a seat, a number from 0 to 319"));
     }
     if second == b"mix".as_slice() {
         return at(
@@ -139,7 +163,7 @@ fn schedule_meaning(second: &[u8], place: usize) -> Option<&'static str> {
     None
 }
 
-fn operation_meaning(first: OpWord, second: &[u8], place: usize) -> Option<&'static str> {
+fn operation_meaning(first: OpWord, second: &[u8], place: usize) -> Option<Meaning> {
     match first {
         OpWord::Up | OpWord::Down => at(place, &[CPU]),
         OpWord::Target => at(place, &[CPU, TARGET]),
@@ -172,7 +196,9 @@ fn operation_meaning(first: OpWord, second: &[u8], place: usize) -> Option<&'sta
             place,
             &["P is the processor that stays, or -1 for the lowest one, a number from -1 to 4095"],
         ),
-        OpWord::UpMany => { Some("each C is a number above the one before it, from 0 to 255") }
+        OpWord::UpMany => Some(Meaning::Words(
+            "each C is a number above the one before it, from 0 to 255",
+        )),
         OpWord::Lock
         | OpWord::Unlock
         | OpWord::Disable
@@ -182,9 +208,9 @@ fn operation_meaning(first: OpWord, second: &[u8], place: usize) -> Option<&'sta
     }
 }
 
-fn show_meaning(second: &[u8], place: usize) -> Option<&'static str> {
+fn show_meaning(second: &[u8], place: usize) -> Option<Meaning> {
     if place == 1 {
-        return Some("this word is state, target, fail or states");
+        return Some(Meaning::Words("this word is state, target, fail or states"));
     }
     match file_of(second) {
         Some(File::State | File::Target | File::Fail) => at(place.saturating_sub(1), &[CPU]),

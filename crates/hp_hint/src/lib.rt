@@ -2,9 +2,9 @@
 //!
 //! [`fault_of`] finds where a refused script is at fault: the refusal is the one that `parse` of hp_script answers, and
 //! the mark stands at the word, or at the byte, that the line is refused for. Which that is `specs/Faults.antt` says; a
-//! line that isn't of its form is at fault from the first word with which nothing that stands behind makes it one
-//! (`specs/Forms.antt`), and where a word stands `specs/Places.antt` says. Contracts promise that much, and no more: the
-//! words beside a mark rest on tests.
+//! line that isn't of its form is at fault from the first word with which nothing that stands behind makes it one, and one
+//! with a number out of its range at the first such number (`specs/Forms.antt`); where a word stands `specs/Places.antt` says.
+//! Contracts promise that much, and no more: the words beside a mark rest on tests.
 #![tactic(auto)]
 
 mod asked;
@@ -18,9 +18,11 @@ mod frame;
 mod grammar;
 mod hint;
 mod keep;
+mod measure;
 mod piece;
 mod place;
 mod ranges;
+mod rising;
 mod verb;
 mod window;
 mod words;

@@ -1,4 +1,4 @@
-use Rattle.std.proofs.Common.{◌≡◌, ◌∙◌, ◌∷◌, ◌+◌, suc, [], Some, None, length, refl, sym, ap, subst, arith}
+use Rattle.std.proofs.Common.{◌≡◌, ◌∙◌, ◌∷◌, [], length, refl, sym, ap, subst, arith}
 use Rattle.std.specs.Option.{option_map}
 use Rattle.hp_text.proofs.SetLoop.{taken, none_taken}
 use Rattle.hp_script.specs.Words.{words}
@@ -6,7 +6,7 @@ use Rattle.hp_hint.specs.Verbs.{read_as}
 use Rattle.hp_hint.specs.Forms.{IsGood, AreFew}
 use Rattle.hp_hint.specs.Faults.{is_line}
 use Rattle.hp_hint.proofs.Good.{counted}
-use Rattle.hp_hint.proofs.LineWords.{few_words, line_short, line_unknown, line_known}
+use Rattle.hp_hint.proofs.LineWords.{few_words, form_has_lines, line_short, line_unknown, line_known}
 use Rattle.hp_hint.proofs.fault.good_words_of.Goals as goal
 
 pub returns-in_default : goal.returns-in_default
@@ -21,7 +21,7 @@ good_words-requires c =
     let more = ap length is in
     let short = c.requires in
     let all : AreFew c.next_word.new.self = omega (arith, few, more, short) in
-    λ k. ((refl, tt), all)
+    λ k. ((refl, tt), (all, form_has_lines c.in-Some-verb_of.verb))
 
 pub overflow_add-result : goal.overflow_add-result
 overflow_add-result c =

@@ -1,6 +1,6 @@
-use Rattle.std.proofs.Common.{◌≡◌, ◌∙◌, ◌∷◌, ◌+◌, ◌-◌, ◌≤◌, suc, ℕ, List, length, Some, Option, refl, sym, ap, arith}
+use Rattle.std.proofs.Common.{◌≡◌, ◌∙◌, ◌∷◌, ◌-◌, suc, ℕ, List, Some, sym, ap, arith}
 use Rattle.std.specs.Prelude.{slice_get}
-use Rattle.hp_script.specs.Pieces.{lines, pieces}
+use Rattle.hp_script.specs.Pieces.{lines}
 use Rattle.hp_script.proofs.PieceLoops.{next_is}
 use Rattle.hp_hint.proofs.fault.line_of.Goals as goal
 

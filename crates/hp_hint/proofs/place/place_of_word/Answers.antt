@@ -1,7 +1,5 @@
-use Rattle.std.proofs.Common.{◌≡◌, ◌∙◌, ◌+◌, ◌-◌, ◌<◌, length, take, drop, Some, sym, subst, length-drop, arith}
-use Rattle.hp_script.specs.Pieces.{pieces, next}
-use Rattle.hp_script.proofs.PieceLoops.{next_is}
-use Rattle.hp_hint.proofs.Places.{SoFar, IsPiece, one_of, is_piece, is_piece_of, found, goes_on}
+use Rattle.std.proofs.Common.{◌≡◌, ◌+◌, ◌-◌, ◌<◌, length, take, drop, subst, length-drop, arith}
+use Rattle.hp_hint.proofs.Places.{SoFar, one_of, is_piece, is_piece_of, found, goes_on}
 use Rattle.hp_hint.proofs.place.place_of_word.Goals as goal
 use Rattle.hp_hint.proofs.place.place_of_word.Goals.{then-length-gt0+else-left-eq0, else-length-gt0}
 use Rattle.hp_states.proofs.Basics.{less_apart}
