@@ -168,7 +168,7 @@ impl<'m, H: Hook + Send> Client<'m, H> {
 }
 
 /// One operation, to its answer.
-fn run_to_end<H: Hook + Send, R: Wait + Abort, G: Gate>(
+pub(crate) fn run_to_end<H: Hook + Send, R: Wait + Abort, G: Gate>(
     rt: &R,
     machine: &Hotplug<H>,
     gate: &G,

@@ -1,4 +1,5 @@
-//! The tests of the live machine: of what no clause says, with ample memory.
+//! The tests of the live machine: of what no clause says, with ample memory, and of one client's run with one request for memory
+//! refused.
 //!
 //! That clients are answered, alone and on several threads, and what; that a hook is called outside the lock; that a
 //! batch waits for hooks that are lent; that whoever sleeps is woken by the event that lets it go on; and that what twelve
@@ -8,6 +9,8 @@
 //! once without.
 #![tactic(auto)]
 
+#[cfg(test)]
+mod again;
 #[cfg(test)]
 mod asking;
 #[cfg(test)]
@@ -34,3 +37,5 @@ mod sleepers;
 mod two;
 #[cfg(test)]
 mod wakes;
+#[cfg(test)]
+mod wanting;

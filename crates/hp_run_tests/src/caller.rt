@@ -108,6 +108,27 @@ fn objects_of(alloc: Global, call: &Call<'_>) -> Result<Objects, AllocError>
     })
 }
 
+/// Calls `hpd_main`; the error says that memory was wanting for what is handed in.
+pub fn try_run<R: Threads + Wait + Sync, H: Hook + Send, G: Gate + Sync>(
+    rt: &R,
+    alloc: Global,
+    call: &Call<'_>,
+    rack: Rack<H>,
+    gate: &G,
+) -> Result<Ran, AllocError> {
+    let Objects {
+        words,
+        mut source,
+        mut sink,
+    } = objects_of(alloc, call)?;
+    let status = hpd_main(rt, alloc, &words, &mut source, &mut sink, rack, gate);
+    Ok(Ran {
+        status,
+        faults: (source.faults, sink.faults),
+        written: sink.bytes,
+    })
+}
+
 /// Calls `hpd_main`.
 pub fn run<R: Abort + Threads + Wait + Sync, H: Hook + Send, G: Gate + Sync>(
     rt: &R,
@@ -116,20 +137,8 @@ pub fn run<R: Abort + Threads + Wait + Sync, H: Hook + Send, G: Gate + Sync>(
     rack: Rack<H>,
     gate: &G,
 ) -> Ran {
-    match objects_of(alloc, call) {
-        Ok(objects) => {
-            let Objects {
-                words,
-                mut source,
-                mut sink,
-            } = objects;
-            let status = hpd_main(rt, alloc, &words, &mut source, &mut sink, rack, gate);
-            Ran {
-                status,
-                faults: (source.faults, sink.faults),
-                written: sink.bytes,
-            }
-        }
+    match try_run(rt, alloc, call, rack, gate) {
+        Ok(ran) => ran,
         Err(_) => panic!(rt; "memory for a call"),
     }
 }
