@@ -17,20 +17,15 @@ use std::thread::Threads;
 /// The status of a program that memory was wanting for.
 const NO_MEMORY: u8 = 5;
 
-/// A run of the script of two startups by these words; the error says that memory was wanting for what is handed in.
+/// A call, with two hooks; the error says that memory was wanting for what is handed in.
 fn runs<R: Threads + Wait + Sync>(
     rt: &R,
     alloc: Global,
-    words: &[&str],
+    call: &Call<'_>,
 ) -> Result<Ran, AllocError> {
     let calls = Arc::new(alloc, AtomicU64::new(0))?;
     let rack = rack_of(alloc, 2, &calls)?;
-    let call = Call {
-        words,
-        input: [TWO_STARTUPS.script, ""],
-        fails: (None, None),
-    };
-    try_run(rt, alloc, &call, rack, &FreeGate)
+    try_run(rt, alloc, call, rack, &FreeGate)
 }
 
 /// What is written of it, with lines behind it.
@@ -60,10 +55,10 @@ fn assert_whole(rt: &impl Abort, name: &str, ran: &Result<Ran, AllocError>, want
 fn asserts_ends<R: Abort + Threads + Wait + Sync>(
     rt: &R,
     alloc: Global,
-    words: &[&str],
+    call: &Call<'_>,
     wanted: &str,
 ) -> bool {
-    let first = runs(rt, alloc, words);
+    let first = runs(rt, alloc, call);
     let wants = match &first {
         Ok(ran) => ran.status == NO_MEMORY,
         Err(_) => true,
@@ -78,7 +73,7 @@ fn asserts_ends<R: Abort + Threads + Wait + Sync>(
             "other bytes are written before memory is wanting"
         );
     }
-    assert_whole(rt, "the run behind", &runs(rt, alloc, words), wanted);
+    assert_whole(rt, "the run behind", &runs(rt, alloc, call), wanted);
     true
 }
 
@@ -86,7 +81,12 @@ fn asserts_ends<R: Abort + Threads + Wait + Sync>(
 fn a_run_ends_where_memory_is_wanting(rt: HostRuntime) -> Result<(), Fail> {
     let alloc = rt.alloc();
     let (wanted, before) = wanted_of(&rt, alloc, "");
-    let wants = asserts_ends(&rt, alloc, &["run"], wanted.as_str());
+    let call = Call {
+        words: &["run"],
+        input: [TWO_STARTUPS.script, ""],
+        fails: (None, None),
+    };
+    let wants = asserts_ends(&rt, alloc, &call, wanted.as_str());
     println!(rt; "memory was wanting: {}", u32::from(before || wants))?;
     Ok(())
 }
@@ -101,7 +101,12 @@ const QUEUES: &str = "ran 0 1 2 8 3 10 4 12\n\
 fn queues_end_where_memory_is_wanting(rt: HostRuntime) -> Result<(), Fail> {
     let alloc = rt.alloc();
     let (wanted, before) = wanted_of(&rt, alloc, QUEUES);
-    let wants = asserts_ends(&rt, alloc, &["work", "120"], wanted.as_str());
+    let call = Call {
+        words: &["work", "120"],
+        input: [TWO_STARTUPS.script, ""],
+        fails: (None, None),
+    };
+    let wants = asserts_ends(&rt, alloc, &call, wanted.as_str());
     println!(rt; "memory was wanting: {}", u32::from(before || wants))?;
     Ok(())
 }
