@@ -15,9 +15,8 @@ fn with_mark(place: &Place, entered: Entered) -> Place
     ensures { result ≡ spec.with_mark place.now entered }
 {
     Place {
-        walk: place.walk,
         mark: Some(entered),
-        call: place.call,
+        ..*place
     }
 }
 
@@ -26,9 +25,8 @@ fn with_call(place: &Place, entered: Entered) -> Place
     ensures { result ≡ spec.with_call place.now entered }
 {
     Place {
-        walk: place.walk,
-        mark: place.mark,
         call: Some(entered),
+        ..*place
     }
 }
 
@@ -91,9 +89,8 @@ fn without_call(place: &Place) -> Place
     ensures { result ≡ spec.without_call place.now }
 {
     Place {
-        walk: place.walk,
-        mark: place.mark,
         call: None,
+        ..*place
     }
 }
 
@@ -102,9 +99,9 @@ fn with_nothing(place: &Place) -> Place
     ensures { result ≡ spec.with_nothing place.now }
 {
     Place {
-        walk: place.walk,
         mark: None,
         call: None,
+        ..*place
     }
 }
 

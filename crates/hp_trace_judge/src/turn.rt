@@ -72,11 +72,7 @@ fn ending(named: Named, place: &Place, walk: Option<Walk>, closed: Asks) -> Turn
 {
     Turn {
         named,
-        place: Place {
-            walk,
-            mark: place.mark,
-            call: place.call,
-        },
+        place: Place { walk, ..*place },
         closed,
         forget: None,
         asked: no_asks(),
@@ -92,18 +88,12 @@ fn settled(borders: Borders, walk: &Walk, back_to: u32) -> Walk
         Phase::Forward { at, .. } => {
             if walk.failing && at == borders.boot && back_to < at {
                 Walk {
-                    cpu: walk.cpu,
-                    up: walk.up,
-                    to: walk.to,
-                    kicked: walk.kicked,
-                    edge: walk.edge,
-                    first: walk.first,
                     phase: Phase::Failed {
                         at,
                         parts: 0,
                         undone: 0,
                     },
-                    failing: walk.failing,
+                    ..*walk
                 }
             } else {
                 *walk
@@ -140,8 +130,7 @@ fn walk_call(
             named,
             place: Place {
                 walk: Some(asked.walk),
-                mark: place.mark,
-                call: place.call,
+                ..*place
             },
             closed,
             forget: None,
@@ -203,8 +192,7 @@ fn register(borders: Borders, place: &Place, named: Named, how: Option<How>) -> 
             },
             place: Place {
                 walk: None,
-                mark: place.mark,
-                call: place.call,
+                ..*place
             },
             closed: asks,
             forget: Some(named.step),
@@ -377,14 +365,8 @@ fn failing(walk: &Walk) -> Walk
     ensures { result ≡ spec.failing walk.now }
 {
     Walk {
-        cpu: walk.cpu,
-        up: walk.up,
-        to: walk.to,
-        kicked: walk.kicked,
-        edge: walk.edge,
-        first: walk.first,
-        phase: walk.phase,
         failing: true,
+        ..*walk
     }
 }
 
