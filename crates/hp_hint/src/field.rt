@@ -133,10 +133,7 @@ fn is_seed(measure: Measure, word: &[u8]) -> bool
 {
     match measure {
         Measure::Form => !matches!(long_number(word), Err(Unread::NotOfForm)),
-        Measure::Ranges(_) => match long_number(word) {
-            Ok(n) => n <= u64::MAX,
-            Err(_) => false,
-        },
+        Measure::Ranges(_) => long_number(word).is_ok(),
     }
 }
 
