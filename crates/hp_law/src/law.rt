@@ -136,6 +136,16 @@ impl Law {
         self.machine.journal().len()
     }
 
+    /// The machine that took the events, to be asked what comes next of a seat, or what it waits for.
+    ///
+    /// Its journal has this head and the events that were taken. Takes no memory. This project's own.
+    pub fn machine(&self) -> &Machine<ScriptHook>
+        ensures head { result.now.head ≡ self.now.head }
+        ensures events { result.now.events ≡ self.now.events }
+    {
+        &self.machine
+    }
+
     /// The journal of the events that it took, with nothing promised. Takes no memory.
     pub fn into_journal(self) -> Journal
         ensures { result ≡ record { head = self.head; events = self.events; promised = 0 } }
@@ -225,8 +235,11 @@ impl Law {
         }
     }
 
-    /// What the hook of an entry's state answers to it, and 0 where none stands there.
-    fn answer_to(&self, entry: &Entry) -> u32
+    /// What the hook of an entry's state answers to it by the rules of its subsystem, and 0 where none stands there.
+    ///
+    /// Any entry may be asked for; the hook isn't called. Takes no memory, and time for the rules. That hooks answer
+    /// by rules is this project's own.
+    pub fn answer_to(&self, entry: &Entry) -> u32
         ensures { result
             ≡ answer_at self.now.head self.now.events entry.now.cpu entry.now.key.state entry.now.key.inst entry.now.dir }
     {
