@@ -22,16 +22,16 @@ within_smaller x y n hx hy = go (ltb x y)
     go true = hx
     go false = hy
 
-smaller_left : (x y : ℕ) → smaller x y ≤ x
+pub smaller_left : (x y : ℕ) → smaller x y ≤ x
 smaller_left x y = go (ltb x y) refl
   where
     go : (b : Bool) → ltb x y ≡ b → cond b x y ≤ x
     go true e = omega arith
     go false e = let h = leb-false (suc x) y e in omega (arith, h)
 
-record Both (A B : Type 0) : Type 0 where
-  one : A
-  other : B
+pub record Both (A B : Type 0) : Type 0 where
+  pub one : A
+  pub other : B
 
 of_larger : (x y n : ℕ) → larger x y ≤ n → Both (x ≤ n) (y ≤ n)
 of_larger x y n = go (ltb x y) refl
@@ -55,7 +55,7 @@ pub record Fits (k : Known) (e : Entry) : Type 0 where
   pub least_down : k.least_down ≤ e.down
   pub most_down : e.down ≤ k.most_down
 
-fits_more : (k : Known) (a : Ask) (e : Entry) → Fits k e → IsWithin a (cond a.up e.up e.down) → Fits (with_ask k a) e
+pub fits_more : (k : Known) (a : Ask) (e : Entry) → Fits k e → IsWithin a (cond a.up e.up e.down) → Fits (with_ask k a) e
 fits_more k a e f = go a.up
   where
     go : (b : Bool) → IsWithin a (cond b e.up e.down) →
@@ -87,7 +87,7 @@ fits_more k a e f = go a.up
       most_down = within_smaller k.most_down a.most e.down f.most_down w.most;
     }
 
-fits_less : (k : Known) (a : Ask) (e : Entry) → Fits (with_ask k a) e → Both (Fits k e) (IsWithin a (cond a.up e.up e.down))
+pub fits_less : (k : Known) (a : Ask) (e : Entry) → Fits (with_ask k a) e → Both (Fits k e) (IsWithin a (cond a.up e.up e.down))
 fits_less k a e = go a.up
   where
     go : (b : Bool) →
@@ -149,10 +149,10 @@ or_right : (x y : Bool) → y ≡ true → (x || y) ≡ true
 or_right true y h = refl
 or_right false y h = h
 
-record Found (k : Known) : Type 0 where
-  entry : Entry
-  same : (entry.up ≡ entry.down) ⊎ ((entry.up ≡ 0) ⊎ (entry.down ≡ 0))
-  fits : Fits k entry
+pub record Found (k : Known) : Type 0 where
+  pub entry : Entry
+  pub same : (entry.up ≡ entry.down) ⊎ ((entry.up ≡ 0) ⊎ (entry.down ≡ 0))
+  pub fits : Fits k entry
 
 found_none_up : (k : Known) → k.least_up ≤ k.most_up → k.least_down ≤ k.most_down → k.least_up ≡ 0 → Found k
 found_none_up k u d z = record {
@@ -183,7 +183,7 @@ found_even k u d x y =
       };
     }
 
-found : (k : Known) → is_open k ≡ true → Found k
+pub found : (k : Known) → is_open k ≡ true → Found k
 found k open_is =
     let parts = and_parts (is_ordered k) (eqb k.least_up 0 || is_up_alone k) open_is in
     let sides = and_parts (leb k.least_up k.most_up) (leb k.least_down k.most_down) parts.0 in
@@ -205,7 +205,7 @@ eq_test : (n : ℕ) → n ≤ 0 → eqb n 0 ≡ true
 eq_test zero h = refl
 eq_test (suc n) h = absurd (omega (arith, h))
 
-is_open_by : (k : Known) (e : Entry) → Fits k e → (e.up ≡ e.down) ⊎ ((e.up ≡ 0) ⊎ (e.down ≡ 0)) → is_open k ≡ true
+pub is_open_by : (k : Known) (e : Entry) → Fits k e → (e.up ≡ e.down) ⊎ ((e.up ≡ 0) ⊎ (e.down ≡ 0)) → is_open k ≡ true
 is_open_by k e f s =
     and_from
     (is_ordered k)

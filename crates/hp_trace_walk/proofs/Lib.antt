@@ -1,2 +1,6 @@
 mod EntryLaws
 mod AskLaws
+mod PlaceLaws
+mod TableHolds
+mod TableBack
+mod TableFound

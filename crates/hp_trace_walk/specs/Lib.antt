@@ -5,3 +5,4 @@ pub mod Ends
 pub mod Begins
 pub mod Tables
 pub mod Entries
+pub mod Answered
