@@ -1,9 +1,8 @@
 //! What a run is to do.
 
-ghost use Rattle.std.specs.Prelude.{◌≡◌, ◌<◌, ◌≤◌, ◌+◌, ◌*◌, IfOk, IfErr};
+ghost use Rattle.std.specs.Prelude.{◌≡◌, ◌<◌, ◌≤◌, ◌+◌, ◌*◌, IfOk, IfErr, OnOk};
 ghost use Rattle.hp_states.specs.declared.limits.TheConstants.{MAX_EVENTS};
-ghost use Rattle.hp_caches.specs.Plans.{IsOutside, events_of};
-ghost use Rattle.hp_caches.specs.declared.plan.TheConstants.{MAX_ITEMS as MAX_ITEMS_OF, MAX_ROUNDS as MAX_ROUNDS_OF, MAX_WORKERS as MAX_WORKERS_OF};
+ghost use Rattle.hp_caches.specs.Plans.{IsOutside, IsPlan, events_of};
 
 /// How many processors there are, each with a cache.
 pub const CPUS: u32 = 4;
@@ -15,7 +14,7 @@ pub const MAX_ITEMS: u32 = 10_000;
 
 pub const MAX_ROUNDS: u32 = 1_000;
 
-/// What of a plan is out of its range.
+/// What of a plan is out of its range: the first in this order.
 #[derive(Clone, Copy, Debug, PartialEq, Eq)]
 pub enum PlanError {
     /// There are 1 to `MAX_WORKERS` workers.
@@ -32,13 +31,20 @@ pub struct Plan {
     workers: u32,
     items: u32,
     rounds: u32,
-    ghost in_range: { (workers ≤ MAX_WORKERS_OF) × (items ≤ MAX_ITEMS_OF) × (rounds ≤ MAX_ROUNDS_OF) },
+    ghost in_range: { IsPlan workers items rounds },
 }
 
 impl Plan {
-    /// The plan of so many workers, items of each, and rounds; refused exactly where one is out of its range.
+    /// The plan of so many workers, items of each, and rounds.
+    ///
+    /// - `Workers` exactly where there is none, or more than `MAX_WORKERS`.
+    /// - `Items` exactly where the workers are in their range, and each puts more than `MAX_ITEMS`.
+    /// - `Rounds` exactly where both are in their ranges, and there are more than `MAX_ROUNDS`.
+    ///
+    /// Takes no memory.
     pub fn new(workers: u32, items: u32, rounds: u32) -> Result<Plan, PlanError>
         ensures plan { IfOk result (λ plan. (plan.workers ≡ workers) × (plan.items ≡ items) × (plan.rounds ≡ rounds)) }
+        ensures in_range { OnOk result (IsPlan workers items rounds) }
         ensures refused { IfErr result (IsOutside workers items rounds) }
     {
         if workers == 0 || workers > MAX_WORKERS {
