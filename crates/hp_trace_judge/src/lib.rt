@@ -6,14 +6,16 @@
 //! answers all that was asked, is named with why. A registration lets the table be another at its state.
 //!
 //! The words of the contracts, in the order to read them: `specs/Borders.antt`, where a processor is booted and taken
-//! down; `Turns` and `Events`, what an event does; `Walks`, event after event.
+//! down; `Turns` and `Events`, what an event does; `Walks`, event after event; `Lawful`, when walks are lawful.
 #![tactic(auto)]
 
 mod borders;
 mod event;
+mod law;
 mod place;
 mod turn;
 mod walks;
 
+pub use law::walks_are_exact;
 pub use place::{Misfit, Named, Way};
 pub use walks::{Walks, walks_before};
